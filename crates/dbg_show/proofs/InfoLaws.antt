@@ -1,25 +1,30 @@
--- The first section of the name .debug_info is the first unit section that is one, and which sections are.
-use Rattle.std.proofs.Common.{Bool, true, false, ◌≡◌, ℕ, zero, suc, ◌+◌, ◌-◌, ◌==◌, ◌<◌, ◌≤◌, List, [], ◌∷◌, ◌++◌, drop, Option, Some, None, refl, sym, ap, ◌∙◌, if◌then◌else◌, arith}
-use Rattle.std.specs.Prelude.{◌&&◌}
+-- The sections of the name .debug_info are the unit sections that are one: the first of them, and which numbers they have.
+use Rattle.std.proofs.Common.{Bool, true, false, ◌≡◌, ◌≢◌, ℕ, zero, suc, ◌==◌, ◌<◌, ◌≤◌, List, [], ◌∷◌, ◌++◌, length, get_or, drop, slice_get, Option, Some, None, Result, Ok, Err, MatchResult, is_ok, ◌&&◌, refl, sym, ap, ◌∙◌, subst, if◌then◌else◌, arith}
+use Rattle.std.specs.List.Sorted.{IsBinarySearchResult}
+use Rattle.std.specs.Ordering.{nat_cmp}
 use Rattle.std.proofs.lemmas.Bool.{eq-eqb, ne_eqb}
-use Rattle.std.proofs.lemmas.List.{drop-drop}
+use Rattle.std.proofs.lemmas.List.Sorted.{searched}
 use Rattle.dw_base.specs.DebugData.{info_numbers}
 use Rattle.dw_base.specs.DebugSections.{name_of, debug_section}
-use Rattle.dw_base.specs.FileViews.{View, ViewSection, first_filled, is_filled, section_after, section_named}
+use Rattle.dw_base.specs.FileViews.{View, ViewSection, all_filled, is_filled, sections_named}
 use Rattle.dw_base.specs.TextIndexes.{holds_number}
 use Rattle.dw_base.specs.Texts.{same_text}
-use Rattle.dw_base.specs.UnitHeaders.{UnitSection}
 use Rattle.dw_base.specs.ValueMeanings.{first_of}
 use Rattle.dw_base.specs.ViewData.{debug_data, unit_kind, unit_section, unit_sections, unit_sections_from}
 use Rattle.dw_base.specs.declared.debug_sections.DebugSection.{DebugSection}
 use Rattle.dw_base.specs.declared.debug_sections.DebugSection.TheVariants.{Info, Types}
 use Rattle.dw_base.proofs.DebugSectionLaws.{debug_section-name, debug_section-named}
+use Rattle.dw_base.proofs.FileViewLaws.{first-named}
 use Rattle.dw_base.proofs.TextLaws.{same_text-true, same_text-from}
 use Rattle.dbg_show.specs.ShownUnits.{info_section, or_zero}
 
-info-from : (i : ℕ) (ss : List ViewSection) → first_of (info_numbers (unit_sections_from i ss)) ≡ or_zero (first_filled (name_of Info) i ss)
-info-from i [] = refl
-info-from i (s ∷ ss) = by_bytes s.has_bytes (info-from (suc i) ss)
+-- the sections of the name, of sections numbered from i on
+abbrev infos_from : ℕ → List ViewSection → List ℕ
+infos_from i ss = all_filled (name_of Info) i ss
+
+numbers-from : (i : ℕ) (ss : List ViewSection) → info_numbers (unit_sections_from i ss) ≡ infos_from i ss
+numbers-from i [] = refl
+numbers-from i (s ∷ ss) = by_bytes s.has_bytes (numbers-from (suc i) ss)
   where
     other : (o : Option DebugSection) → same_text s.name (name_of Info) ≡ true → debug_section s.name ≡ o → o ≡ Some Info
     other o f e =
@@ -27,9 +32,9 @@ info-from i (s ∷ ss) = by_bytes s.has_bytes (info-from (suc i) ss)
         cc
 
     by_kind : (o : Option DebugSection) → debug_section s.name ≡ o → (b : Bool) → same_text s.name (name_of Info) ≡ b
-        → first_of (info_numbers (unit_sections_from (suc i) ss)) ≡ or_zero (first_filled (name_of Info) (suc i) ss)
-        → first_of (info_numbers (unit_section i s (unit_kind o) ++ unit_sections_from (suc i) ss)) ≡ or_zero (if b then Some i else first_filled (name_of Info) (suc i) ss)
-    by_kind (Some Info) e true f rest = refl
+        → info_numbers (unit_sections_from (suc i) ss) ≡ infos_from (suc i) ss
+        → info_numbers (unit_section i s (unit_kind o) ++ unit_sections_from (suc i) ss) ≡ (if b then i ∷ infos_from (suc i) ss else infos_from (suc i) ss)
+    by_kind (Some Info) e true f rest = ap (λ (numbers : List ℕ). i ∷ numbers) rest
     by_kind (Some Info) e false f rest =
         let is : same_text s.name (name_of Info) ≡ true = same_text-from s.name (name_of Info) (debug_section-named s.name Info e) in
         absurd cc
@@ -40,120 +45,75 @@ info-from i (s ∷ ss) = by_bytes s.has_bytes (info-from (suc i) ss)
     by_kind (Some k) e false f rest = rest
     by_kind (Some k) e true f rest = (let is : Some k ≡ Some Info = other (Some k) f e in absurd cc)
 
-    by_bytes : (b : Bool) → first_of (info_numbers (unit_sections_from (suc i) ss)) ≡ or_zero (first_filled (name_of Info) (suc i) ss)
-        → first_of (info_numbers ((if b then unit_section i s (unit_kind (debug_section s.name)) else []) ++ unit_sections_from (suc i) ss))
-        ≡ or_zero (if b && same_text s.name (name_of Info) then Some i else first_filled (name_of Info) (suc i) ss)
+    by_bytes : (b : Bool) → info_numbers (unit_sections_from (suc i) ss) ≡ infos_from (suc i) ss
+        → info_numbers ((if b then unit_section i s (unit_kind (debug_section s.name)) else []) ++ unit_sections_from (suc i) ss)
+        ≡ (if b && same_text s.name (name_of Info) then i ∷ infos_from (suc i) ss else infos_from (suc i) ss)
     by_bytes true rest = by_kind (debug_section s.name) refl (same_text s.name (name_of Info)) refl rest
     by_bytes false rest = rest
 
+numbers-named : (v : View) → info_numbers ((debug_data v).found Info) ≡ sections_named v (name_of Info)
+unfolding debug_data unit_sections sections_named
+numbers-named v = numbers-from 1 (drop 1 v.sections)
+
+first-zero : (numbers : List ℕ) → first_of numbers ≡ or_zero (slice_get numbers 0)
+first-zero [] = refl
+first-zero (n ∷ ns) = refl
+
 pub info-is : (v : View) → first_of (info_numbers ((debug_data v).found Info)) ≡ info_section v
-unfolding debug_data unit_sections section_named section_after
-info-is v = info-from 1 (drop 1 v.sections)
+info-is v = ap first_of (numbers-named v) ∙ first-zero (sections_named v (name_of Info)) ∙ ap or_zero (first-named v (name_of Info))
 
--- which sections are .debug_info: of each number the one that stands there
-abbrev held : Option ℕ → ℕ → Bool
-held None n = false
-held (Some m) n = m == n
-
-abbrev front_filled : List ViewSection → Bool
-front_filled [] = false
-front_filled (s ∷ ss) = is_filled (name_of Info) s
-
-later-filled : (i n : ℕ) (ss : List ViewSection) → n < i → held (first_filled (name_of Info) i ss) n ≡ false
-later-filled i n [] lt = refl
-later-filled i n (s ∷ ss) lt = by_test (is_filled (name_of Info) s) (later-filled (suc i) n ss (omega (arith, lt)))
+-- these numbers rise
+infos-behind : (i : ℕ) (ss : List ViewSection) (k : ℕ) → k < length (infos_from i ss) → i ≤ get_or (infos_from i ss) k 0
+infos-behind i [] k lt = absurd (omega (arith, lt))
+infos-behind i (s ∷ ss) k lt = by_test (is_filled (name_of Info) s) k (infos-behind (suc i) ss) lt
   where
-    by_test : (b : Bool) → held (first_filled (name_of Info) (suc i) ss) n ≡ false → held (if b then Some i else first_filled (name_of Info) (suc i) ss) n ≡ false
-    by_test true rest = ne_eqb i n (λ (e : i ≡ n). omega (arith, e, lt))
+    by_test : (b : Bool) (j : ℕ) → ((m : ℕ) → m < length (infos_from (suc i) ss) → suc i ≤ get_or (infos_from (suc i) ss) m 0)
+        → j < length (if b then i ∷ infos_from (suc i) ss else infos_from (suc i) ss) → i ≤ get_or (if b then i ∷ infos_from (suc i) ss else infos_from (suc i) ss) j 0
+    by_test true zero rest inside = omega arith
+    by_test true (suc j) rest inside = (let behind = rest j (omega (arith, inside)) in omega (arith, behind))
+    by_test false j rest inside = (let behind = rest j inside in omega (arith, behind))
+
+infos-rise : (i : ℕ) (ss : List ViewSection) (k n : ℕ) → k ≤ n → n < length (infos_from i ss) → get_or (infos_from i ss) k 0 ≤ get_or (infos_from i ss) n 0
+infos-rise i [] k n le lt = absurd (omega (arith, lt))
+infos-rise i (s ∷ ss) k n le lt = by_test (is_filled (name_of Info) s) k n (infos-rise (suc i) ss) le lt
+  where
+    by_test : (b : Bool) (j m : ℕ) → ((x y : ℕ) → x ≤ y → y < length (infos_from (suc i) ss) → get_or (infos_from (suc i) ss) x 0 ≤ get_or (infos_from (suc i) ss) y 0)
+        → j ≤ m → m < length (if b then i ∷ infos_from (suc i) ss else infos_from (suc i) ss)
+        → get_or (if b then i ∷ infos_from (suc i) ss else infos_from (suc i) ss) j 0 ≤ get_or (if b then i ∷ infos_from (suc i) ss else infos_from (suc i) ss) m 0
+    by_test true zero zero rest under inside = omega arith
+    by_test true zero (suc m) rest under inside = (let behind = infos-behind (suc i) ss m (omega (arith, inside)) in omega (arith, behind))
+    by_test true (suc j) zero rest under inside = absurd (omega (arith, under))
+    by_test true (suc j) (suc m) rest under inside = rest j m (omega (arith, under)) (omega (arith, inside))
+    by_test false j m rest under inside = rest j m under inside
+
+named-rise : (v : View) (k n : ℕ) → k ≤ n → n < length (sections_named v (name_of Info)) → get_or (sections_named v (name_of Info)) k 0 ≤ get_or (sections_named v (name_of Info)) n 0
+unfolding sections_named
+named-rise v k n le lt = infos-rise 1 (drop 1 v.sections) k n le lt
+
+-- so a search among them says whether a number is one of them
+held-at : (numbers : List ℕ) (n i : ℕ) → i < length numbers → get_or numbers i 0 ≡ n → true ≡ holds_number numbers n
+held-at [] n i lt is = absurd (omega (arith, lt))
+held-at (x ∷ xs) n zero lt is = rw (eq-eqb x n is) refl
+held-at (x ∷ xs) n (suc i) lt is = by_test (x == n) (held-at xs n i (omega (arith, lt)) is)
+  where
+    by_test : (b : Bool) → true ≡ holds_number xs n → true ≡ (if b then true else holds_number xs n)
+    by_test true rest = refl
     by_test false rest = rest
 
-first-held : (n : ℕ) (ss : List ViewSection) → held (first_filled (name_of Info) n ss) n ≡ front_filled ss
-first-held n [] = refl
-first-held n (s ∷ ss) = by_test (is_filled (name_of Info) s)
+held-nowhere : (numbers : List ℕ) (n : ℕ) → ((k : ℕ) → k < length numbers → get_or numbers k 0 ≢ n) → false ≡ holds_number numbers n
+held-nowhere [] n none = refl
+held-nowhere (x ∷ xs) n none = rw (ne_eqb x n (none 0 (omega arith))) (held-nowhere xs n (λ k lt. none (suc k) (omega (arith, lt))))
+
+found-held : (numbers : List ℕ) (n : ℕ) (r : Result ℕ ℕ)
+    → MatchResult r (λ i. (i < length numbers) × (get_or numbers i 0 ≡ n)) (λ i. (i ≤ length numbers) × ((k : ℕ) → k < i → get_or numbers k 0 < n) × ((k : ℕ) → i ≤ k → k < length numbers → n < get_or numbers k 0))
+    → is_ok r ≡ holds_number numbers n
+found-held numbers n (Ok i) at = held-at numbers n i at.0 at.1
+found-held numbers n (Err i) gap = held-nowhere numbers n (λ k lt same. grind (arith, gap.1 k, gap.2 k, lt, same))
+
+pub info-held : (v : View) (list : List ℕ) (n : ℕ) (r : Result ℕ ℕ) → list ≡ sections_named v (name_of Info) → IsBinarySearchResult (λ x. nat_cmp x n) list r
+    → is_ok r ≡ holds_number (info_numbers ((debug_data v).found Info)) n
+info-held v list n r list_is search =
+    found-held list n r (searched list n r search rise) ∙ ap (λ (numbers : List ℕ). holds_number numbers n) (list_is ∙ sym (numbers-named v))
   where
-    by_test : (b : Bool) → held (if b then Some n else first_filled (name_of Info) (suc n) ss) n ≡ b
-    by_test true = eq-eqb n n refl
-    by_test false = later-filled (suc n) n ss (omega arith)
-
--- a section with bytes is one of them by its name
-kind-info : (s : ViewSection) (i n : ℕ) (rest : List UnitSection) (b : Bool) → holds_number (info_numbers rest) n ≡ b
-    → holds_number (info_numbers ((if s.has_bytes then unit_section i s (unit_kind (debug_section s.name)) else []) ++ rest)) n
-    ≡ (if is_filled (name_of Info) s && i == n then true else b)
-kind-info s i n rest b later = by_bytes s.has_bytes
-  where
-    other : (o : Option DebugSection) → same_text s.name (name_of Info) ≡ true → debug_section s.name ≡ o → o ≡ Some Info
-    other o f e =
-        let is : debug_section s.name ≡ Some Info = ap debug_section (same_text-true s.name (name_of Info) f) ∙ debug_section-name Info in
-        cc
-
-    by_kind : (o : Option DebugSection) → debug_section s.name ≡ o → (t : Bool) → same_text s.name (name_of Info) ≡ t
-        → holds_number (info_numbers (unit_section i s (unit_kind o) ++ rest)) n ≡ (if t && i == n then true else b)
-    by_kind (Some Info) e true f = ap (λ (x : Bool). if i == n then true else x) later
-    by_kind (Some Info) e false f =
-        let is : same_text s.name (name_of Info) ≡ true = same_text-from s.name (name_of Info) (debug_section-named s.name Info e) in
-        absurd cc
-    by_kind (Some Types) e false f = later
-    by_kind (Some Types) e true f = (let is : Some Types ≡ Some Info = other (Some Types) f e in absurd cc)
-    by_kind None e false f = later
-    by_kind None e true f = (let is : None ≡ Some Info = other None f e in absurd cc)
-    by_kind (Some k) e false f = later
-    by_kind (Some k) e true f = (let is : Some k ≡ Some Info = other (Some k) f e in absurd cc)
-
-    by_bytes : (t : Bool) → holds_number (info_numbers ((if t then unit_section i s (unit_kind (debug_section s.name)) else []) ++ rest)) n
-        ≡ (if (t && same_text s.name (name_of Info)) && i == n then true else b)
-    by_bytes true = by_kind (debug_section s.name) refl (same_text s.name (name_of Info)) refl
-    by_bytes false = later
-
-and-other : (a b : Bool) → b ≡ false → (a && b) ≡ false
-and-other true b e = e
-and-other false b e = refl
-
-numbers-below : (i n : ℕ) (ss : List ViewSection) → n < i → holds_number (info_numbers (unit_sections_from i ss)) n ≡ false
-numbers-below i n [] lt = refl
-numbers-below i n (s ∷ ss) lt =
-    kind-info s i n (unit_sections_from (suc i) ss) false (numbers-below (suc i) n ss (omega (arith, lt)))
-    ∙ ap (λ (t : Bool). if t then true else false) (and-other (is_filled (name_of Info) s) (i == n) (ne_eqb i n (λ (e : i ≡ n). omega (arith, e, lt))))
-
-numbers-held : (i m : ℕ) (ss : List ViewSection) → holds_number (info_numbers (unit_sections_from i ss)) (i + m) ≡ front_filled (drop m ss)
-numbers-held i zero [] = refl
-numbers-held i (suc m) [] = refl
-numbers-held i zero (s ∷ ss) =
-    let own : i ≡ i + 0 = omega arith in
-    kind-info s i (i + 0) (unit_sections_from (suc i) ss) false (numbers-below (suc i) (i + 0) ss (omega arith))
-    ∙ ap (λ (t : Bool). if is_filled (name_of Info) s && t then true else false) (eq-eqb i (i + 0) own) ∙ by_filled (is_filled (name_of Info) s)
-  where
-    by_filled : (b : Bool) → (if b && true then true else false) ≡ b
-    by_filled true = refl
-    by_filled false = refl
-numbers-held i (suc m) (s ∷ ss) =
-    let next : suc i + m ≡ i + suc m = omega arith in
-    kind-info s i (i + suc m) (unit_sections_from (suc i) ss) (front_filled (drop m ss))
-    (ap (holds_number (info_numbers (unit_sections_from (suc i) ss))) (sym next) ∙ numbers-held (suc i) m ss)
-    ∙ ap (λ (t : Bool). if t then true else front_filled (drop m ss))
-    (and-other (is_filled (name_of Info) s) (i == i + suc m) (ne_eqb i (i + suc m) (λ (e : i ≡ i + suc m). omega (arith, e))))
-
-info-held : (v : View) (k : ℕ) → holds_number (info_numbers ((debug_data v).found Info)) (suc k) ≡ held (section_after v (name_of Info) k) (suc k)
-unfolding debug_data unit_sections section_after
-info-held v k =
-    let next : suc k ≡ 1 + k = omega arith in
-    ap (holds_number (info_numbers (unit_sections_from 1 (drop 1 v.sections)))) next ∙ numbers-held 1 k (drop 1 v.sections)
-    ∙ ap front_filled (drop-drop k 1 v.sections ∙ ap (λ (n : ℕ). drop n v.sections) (sym next))
-    ∙ sym (first-held (suc k) (drop (suc k) v.sections))
-
-pub info-zero : (v : View) (n : ℕ) → n ≡ 0 → false ≡ holds_number (info_numbers ((debug_data v).found Info)) n
-unfolding debug_data unit_sections
-info-zero v n e = sym (numbers-below 1 n (drop 1 v.sections) (omega (arith, e)))
-
-pub info-found : (v : View) (n found : ℕ) → 1 ≤ n → Some found ≡ section_after v (name_of Info) (n - 1) → (found == n) ≡ holds_number (info_numbers ((debug_data v).found Info)) n
-info-found v n found some e =
-    let own : n ≡ suc (n - 1) = omega (arith, some) in
-    ap (λ (o : Option ℕ). held o n) e ∙ ap (held (section_after v (name_of Info) (n - 1))) own ∙ sym (info-held v (n - 1))
-    ∙ ap (holds_number (info_numbers ((debug_data v).found Info))) (sym own)
-
-pub info-none : (v : View) (n : ℕ) → 1 ≤ n → None ≡ section_after v (name_of Info) (n - 1) → false ≡ holds_number (info_numbers ((debug_data v).found Info)) n
-info-none v n some e =
-    let own : n ≡ suc (n - 1) = omega (arith, some) in
-    ap (λ (o : Option ℕ). held o n) e ∙ ap (held (section_after v (name_of Info) (n - 1))) own ∙ sym (info-held v (n - 1))
-    ∙ ap (holds_number (info_numbers ((debug_data v).found Info))) (sym own)
-
-pub ruleset number_laws = (info-zero, info-found, info-none)
+    rise : (k m : ℕ) → k ≤ m → m < length list → get_or list k 0 ≤ get_or list m 0
+    rise = subst (λ (numbers : List ℕ). (k m : ℕ) → k ≤ m → m < length numbers → get_or numbers k 0 ≤ get_or numbers m 0) (sym list_is) (named-rise v)

@@ -178,18 +178,11 @@ pub(crate) fn info_section(view: &View) -> u32
     }
 }
 
-/// A section is one of the name `.debug_info`, with bytes in the file.
-#[tactic(auto, using(crate::proofs::InfoLaws::number_laws))]
+/// A section is one of the name `.debug_info`, with bytes in the file. It is found in a time that grows with the logarithm of their number.
 pub(crate) fn is_info(view: &View, section: u32) -> bool
     ensures { result ≡ holds_number (info_numbers ((debug_data view.now).found Info)) section }
 {
-    if section == 0 {
-        return false;
-    }
-    match view.section(DebugSection::Info.name(), section - 1) {
-        Some(found) => found == section,
-        None => false,
-    }
+    view.all(DebugSection::Info).binary_search(&section).is_ok()
 }
 
 /// The number of the first section of macro units, or 0.

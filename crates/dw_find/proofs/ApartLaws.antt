@@ -9,10 +9,11 @@ use Rattle.dw_base.specs.Roles.{Role, offset, line_start, role_of}
 use Rattle.dw_base.specs.SectionTexts.{offset_role, slot_role}
 use Rattle.dw_base.specs.UnitHeaders.{UnitSection}
 use Rattle.dw_base.specs.UnitStates.{UnitState, before_unit}
+use Rattle.dw_base.specs.declared.debug_sections.DebugSection.TheVariants.{Str, LineStr, Line}
 use Rattle.dw_find.specs.Fields.{AreApart, IsApartFrom, AllApart}
 use Rattle.dw_find.specs.SlotPaths.{offset_fields}
 use Rattle.dw_find.specs.TextPlaces.{SectionSays, paths_by}
-use Rattle.dw_find.specs.UnitPaths.{UnitPaths, field_by, path_fields, paths_in, start_by, start_fields}
+use Rattle.dw_find.specs.UnitPaths.{UnitPaths, field_by, path_fields, paths_in, start_by, start_fields, fields_into}
 use Rattle.dw_find.specs.declared.fields.PathField.{PathField}
 use Rattle.dw_find.proofs.PieceFieldLaws.{FieldsFrom, from-place, from-starts}
 use Rattle.dw_find.proofs.FoundLaws.{paths-are}
@@ -75,14 +76,14 @@ units-apart info place (x ∷ xs) l =
     (apart-piece (role_of x) place (length x.cells) (path_fields in_str xs) (path_fields in_line_str xs) (start_fields xs) (from-place in_str info (place + length x.cells) xs l.2)
     (from-place in_line_str info (place + length x.cells) xs l.2) (from-starts info (place + length x.cells) xs l.2) (units-apart info (place + length x.cells) xs l.2))
 
-pub says-apart : (d : DebugData) (z : UnitSection) (u : UnitPaths) → SectionSays d z u → AllApart (u.str ++ (u.line_str ++ u.starts))
+pub says-apart : (d : DebugData) (z : UnitSection) (u : UnitPaths) → SectionSays d z u → AllApart (fields_into u Str ++ (fields_into u LineStr ++ fields_into u Line))
 says-apart d z u s =
     let p : PlacedPieces d.base z 0 s.places s.section.units = section-placed d.base z 0 s.section.list s.places s.section.units s.section.placed in
     let l : Placed (bytes_of z.contents) 0 p.pieces =
     placed d.base (bytes_of z.contents) (before_unit z.number z.kind (length z.contents) 0 0) 0 p.pieces refl p.reads.chain (ap bytes_of p.reads.cells) in
     let is : paths_in (record { number = z.number; pieces = p.pieces }) ≡ u =
     sym (paths-are d.base z 0 p.pieces p.reads) ∙ ap (paths_by z.number) p.places_are ∙ sym s.says in
-    subst (λ (w : UnitPaths). AllApart (w.str ++ (w.line_str ++ w.starts))) is (units-apart (bytes_of z.contents) 0 p.pieces l)
+    subst (λ (w : UnitPaths). AllApart (fields_into w Str ++ (fields_into w LineStr ++ fields_into w Line))) is (units-apart (bytes_of z.contents) 0 p.pieces l)
 
 -- and no two of slots
 slot-apart : (paths : List ℕ) (m : OffsetMode) (n place size : ℕ) (fs gs : List PathField) → FieldsFrom (place + size) fs → FieldsFrom (place + size) gs → AllApart (fs ++ gs)

@@ -1,17 +1,20 @@
 -- A pass over the values of an entry, value by value.
-use Rattle.std.proofs.Common.{Bool, true, false, ◌&&◌, ◌==◌, ◌≡◌, ◌⊎◌, inl, inr, ℕ, suc, ◌+◌, ◌≤◌, ◌<◌, nat_lt, List, [], ◌∷◌, ◌++◌, length, take, drop, get_or, Option, Some, None, IsTrue, refl, sym, ap, ◌∙◌, subst, arith, append_assoc, append-nil}
+use Rattle.std.proofs.Common.{Bool, true, false, ◌&&◌, ◌==◌, ◌≡◌, ◌≢◌, ◌⊎◌, inl, inr, ℕ, suc, ◌+◌, ◌-◌, ◌≤◌, ◌<◌, nat_lt, List, [], ◌∷◌, ◌++◌, length, take, drop, get_or, slice_set, Option, Some, None, IsTrue, refl, sym, ap, ◌∙◌, subst, arith, append_assoc, append-nil}
 use Rattle.std.proofs.Math.Seq.{take-length, take-suc, drop-cons}
 use Rattle.std.proofs.lemmas.List.{drop_all, take-append-drop}
 use Rattle.dw_base.specs.EntryScans.{SpellsValues, no_values, more_values, value as value_fails}
 use Rattle.dw_base.specs.FormFails.{FormFails}
 use Rattle.dw_base.specs.Cells.{Located}
+use Rattle.dw_base.specs.DebugSections.{read_sections}
 use Rattle.dw_base.specs.Forms.{in_str, in_line_str}
 use Rattle.dw_base.specs.Refusals.{Blames, at}
 use Rattle.dw_base.specs.Texts.{IsNulEnd, ends_in}
-use Rattle.dw_base.specs.Roles.{is_path}
+use Rattle.dw_base.specs.Roles.{inline_path, is_path}
 use Rattle.dw_base.specs.TextIndexes.{is_base}
 use Rattle.dw_base.specs.declared.dwarf_numbers.TheConstants.{DW_AT_stmt_list}
 use Rattle.dw_base.specs.Values.{value_at}
+use Rattle.dw_base.specs.declared.debug_sections.DebugSection.{DebugSection}
+use Rattle.dw_base.specs.declared.debug_sections.DebugSection.TheVariants.{Str, LineStr, Line, Macro}
 use Rattle.dw_base.specs.declared.fault.Fault.{Fault}
 use Rattle.dw_base.specs.declared.fault.Fault.TheVariants.{NoMemory, Refused}
 use Rattle.dw_base.specs.declared.fault.Kind.TheVariants.{StringOffset}
@@ -20,16 +23,17 @@ use Rattle.dw_base.specs.declared.shared.Params.{Params}
 use Rattle.dw_base.specs.declared.values.Spec.{Spec}
 use Rattle.dw_base.specs.declared.values.Value.{Value}
 use Rattle.dw_base.specs.declared.values.ValueClass.{ValueClass}
-use Rattle.dw_base.specs.declared.values.ValueClass.TheVariants.{StrOffset, LineStrOffset}
-use Rattle.dw_find.specs.EntryTexts.{Tables, Found, OffsetLies, OffsetNames, OffsetRefuses, OffsetSized, no_text, offset, offset_in, relocation, StartSized, with_base, with_paths, with_places, with_stray, TakenBehind, AreTaken, ValueRefuses, OneRefuses, none, some, ValuesRefuse, fails, table_by, value, ValueTaken}
-use Rattle.dw_find.specs.TextPlaces.{TextPlace, Indexed, no_index, no_start, unit_start, unit_base, base_offset, said_of, text_index, base_in, base_or, fields_in, index_at, indexes_in, indexed_at, inline_in, is_macros, is_start, is_start_form, line_at, macros_in, own_form, said_places, said_value, start_at, starts_in, stray_in, stray_or, line_places, class_places, unit_start_at, value_places, value_places_behind, values_places}
-use Rattle.dw_find.specs.UnitPaths.{UnitPaths}
+use Rattle.dw_base.specs.declared.values.ValueClass.TheVariants.{InlineText, Number, SecOffset, StrIndex, StrOffset, LineStrOffset}
+use Rattle.dw_find.specs.EntryTexts.{Tables, Found, OffsetLies, OffsetNames, OffsetRefuses, OffsetSized, no_text, offset, offset_in, base_kept, base_noted, index_noted, inline_noted, noted, relocation, StartSized, stray_noted, with_base, with_paths, with_places, with_stray, TakenBehind, AreTaken, ValueRefuses, OneRefuses, none, some, ValuesRefuse, fails, table_by, value, ValueTaken}
+use Rattle.dw_find.specs.TextPlaces.{TextPlace, Indexed, no_index, no_start, unit_start, unit_base, base_offset, said_of, text_index, base_in, base_or, fields_in, index_at, indexes_in, indexed_at, inline_in, is_macros, is_start, is_start_form, line_at, macros_in, own_form, places_into, said_base, said_places, said_value, start_at, starts_in, stray_in, stray_or, line_places, class_places, unit_start_at, value_places, value_places_behind, values_places}
+use Rattle.dw_find.specs.UnitPaths.{UnitPaths, each_behind, fields_into, lists_by, stray_first, table_place, with_field, with_inline, with_stray_at}
 use Rattle.dw_find.specs.declared.fields.InlinePath.{InlinePath}
 use Rattle.dw_find.specs.declared.fields.PathField.{PathField}
 use Rattle.dw_find.specs.declared.fields.TextBase.{TextBase}
 use Rattle.dw_find.specs.declared.fields.TextBase.TheVariants.{Field as BaseField, Number as BaseNumber}
 use Rattle.dw_find.specs.declared.fields.TextIndex.{TextIndex}
-use Rattle.dw_find.proofs.FoundLaws.{fields-append, inline-append, paths-same}
+use Rattle.dw_find.proofs.FieldListLaws.{behind-more, behind-none, each-section, lists-same, one-behind, only_at, paths-same}
+use Rattle.dw_find.proofs.FoundLaws.{fields-append, inline-append}
 use Rattle.dw_find.proofs.ValueFactLaws.{start-read, value-inside, value-lies, value-sized}
 
 -- a field's size is a small number
@@ -131,28 +135,54 @@ pub with_stray-none : (o : Option ℕ) → with_stray o [] ≡ o
 with_stray-none None = refl
 with_stray-none (Some n) = refl
 
+-- the fields among places that hold offsets into a section, and among more places
+into-append : (ts us : List TextPlace) (s : DebugSection) → places_into ts s ++ places_into us s ≡ places_into (ts ++ us) s
+into-append ts us =
+    each-section (λ s. places_into ts s ++ places_into us s) (places_into (ts ++ us)) refl refl refl (sym (fields-append in_str ts us)) (sym (fields-append in_line_str ts us)) refl
+    (sym (starts-append ts us)) (sym (macros-append ts us)) refl
+
 -- paths, with more behind, and with more again
 pub with_paths-more : (u : UnitPaths) (ts us : List TextPlace) → with_paths (with_paths u ts) us ≡ with_paths u (ts ++ us)
 unfolding with_paths
 with_paths-more u ts us =
-    paths-same u.number ((u.str ++ fields_in in_str ts) ++ fields_in in_str us) (u.str ++ fields_in in_str (ts ++ us))
-    ((u.line_str ++ fields_in in_line_str ts) ++ fields_in in_line_str us) (u.line_str ++ fields_in in_line_str (ts ++ us))
-    ((u.inline ++ inline_in ts) ++ inline_in us) (u.inline ++ inline_in (ts ++ us))
-    ((u.starts ++ starts_in ts) ++ starts_in us) (u.starts ++ starts_in (ts ++ us))
-    ((u.macros ++ macros_in ts) ++ macros_in us) (u.macros ++ macros_in (ts ++ us))
-    (with_stray (with_stray u.stray ts) us) (with_stray u.stray (ts ++ us))
-    (append_assoc u.str (fields_in in_str ts) (fields_in in_str us) ∙ ap (λ (fs : List PathField). u.str ++ fs) (sym (fields-append in_str ts us)))
-    (append_assoc u.line_str (fields_in in_line_str ts) (fields_in in_line_str us) ∙ ap (λ (fs : List PathField). u.line_str ++ fs) (sym (fields-append in_line_str ts us)))
+    paths-same u.number (each_behind (each_behind u.fields (lists_by (places_into ts))) (lists_by (places_into us))) (each_behind u.fields (lists_by (places_into (ts ++ us))))
+    ((u.inline ++ inline_in ts) ++ inline_in us) (u.inline ++ inline_in (ts ++ us)) (with_stray (with_stray u.stray ts) us) (with_stray u.stray (ts ++ us))
+    (behind-more u.fields (places_into ts) (places_into us) read_sections
+    ∙ ap (each_behind u.fields) (lists-same (λ s. places_into ts s ++ places_into us s) (places_into (ts ++ us)) read_sections (into-append ts us)))
     (append_assoc u.inline (inline_in ts) (inline_in us) ∙ ap (λ (ps : List InlinePath). u.inline ++ ps) (sym (inline-append ts us)))
-    (append_assoc u.starts (starts_in ts) (starts_in us) ∙ ap (λ (fs : List PathField). u.starts ++ fs) (sym (starts-append ts us)))
-    (append_assoc u.macros (macros_in ts) (macros_in us) ∙ ap (λ (fs : List PathField). u.macros ++ fs) (sym (macros-append ts us)))
     (with_stray-more u.stray ts us)
 
-pub with_paths-none : (u : UnitPaths) → with_paths u [] ≡ u
+-- places that say nothing of paths
+pub record SayNoPaths (ts : List TextPlace) : Type 0 where
+  pub str : fields_in in_str ts ≡ []
+  pub line_str : fields_in in_line_str ts ≡ []
+  pub starts : starts_in ts ≡ []
+  pub macros : macros_in ts ≡ []
+  pub inline : inline_in ts ≡ []
+  pub stray : stray_in ts ≡ None
+
+with_stray-same : (o : Option ℕ) (ts : List TextPlace) → stray_in ts ≡ None → with_stray o ts ≡ o
+with_stray-same None ts e = e
+with_stray-same (Some n) ts e = refl
+
+pub with_paths-same : (u : UnitPaths) (ts : List TextPlace) → SayNoPaths ts → with_paths u ts ≡ u
 unfolding with_paths
-with_paths-none u =
-    paths-same u.number (u.str ++ []) u.str (u.line_str ++ []) u.line_str (u.inline ++ []) u.inline (u.starts ++ []) u.starts (u.macros ++ []) u.macros (with_stray u.stray []) u.stray
-    (append-nil u.str) (append-nil u.line_str) (append-nil u.inline) (append-nil u.starts) (append-nil u.macros) (with_stray-none u.stray)
+with_paths-same u ts h =
+    paths-same u.number (each_behind u.fields (lists_by (places_into ts))) u.fields (u.inline ++ inline_in ts) u.inline (with_stray u.stray ts) u.stray
+    (behind-none u.fields (places_into ts) read_sections (each-section (places_into ts) (λ s. []) refl refl refl h.str h.line_str refl h.starts h.macros refl))
+    (ap (λ (ps : List InlinePath). u.inline ++ ps) h.inline ∙ append-nil u.inline) (with_stray-same u.stray ts h.stray)
+
+pub with_paths-none : (u : UnitPaths) → with_paths u [] ≡ u
+with_paths-none u = with_paths-same u [] (record { str = refl; line_str = refl; starts = refl; macros = refl; inline = refl; stray = refl })
+
+-- one more field that holds an offset into a section
+with_field-places : (u : UnitPaths) (into : DebugSection) (f : PathField) (ts : List TextPlace) → table_place into < length read_sections
+    → only_at (table_place into) f read_sections ≡ lists_by (places_into ts) → inline_in ts ≡ [] → stray_in ts ≡ None → with_field u into f ≡ with_paths u ts
+unfolding with_paths
+with_field-places u into f ts lt same inline stray =
+    paths-same u.number (slice_set u.fields (table_place into) (fields_into u into ++ f ∷ [])) (each_behind u.fields (lists_by (places_into ts))) u.inline (u.inline ++ inline_in ts) u.stray
+    (with_stray u.stray ts) (one-behind u.fields (table_place into) f read_sections lt ∙ ap (each_behind u.fields) same)
+    (sym (ap (λ (ps : List InlinePath). u.inline ++ ps) inline ∙ append-nil u.inline)) (sym (with_stray-same u.stray ts stray))
 
 -- the base and the values by index
 abbrev base_first : Option TextBase → Option TextBase → Option TextBase
@@ -189,6 +219,10 @@ indexes-append (t ∷ ts) us =
     ap (λ (xs : List TextIndex). index_at t.at t.says ++ xs) (indexes-append ts us) ∙ sym (append_assoc (index_at t.at t.says) (indexes_in ts) (indexes_in us))
 
 -- what was found, with more behind, and with more again
+with_base-same : (b : Option TextBase) (ts : List TextPlace) → base_in ts ≡ None → with_base b ts ≡ b
+with_base-same None ts e = e
+with_base-same (Some x) ts e = refl
+
 pub with_places-more : (f : Found) (ts us : List TextPlace) → with_places (with_places f ts) us ≡ with_places f (ts ++ us)
 unfolding with_places
 with_places-more f ts us =
@@ -320,7 +354,191 @@ offset-none t z v n r is none_ends same = subst (OffsetRefuses t z v) (sym same)
 
 pub ruleset offset_rules = (offset-names, offset-none, relocation)
 
-pub ruleset note_rules = (names-str, names-line_str, refused-str, refused-line_str, append-nil, with_base-none, with_stray-none)
+-- what was found, with nothing more
+found-same : (f : Found) (ts : List TextPlace) → SayNoPaths ts → base_in ts ≡ None → indexes_in ts ≡ [] → f ≡ with_places f ts
+unfolding with_places
+found-same f ts h base index =
+    sym (ap (λ (u : UnitPaths). record { paths = u; base = with_base f.base ts; indexes = f.indexes ++ indexes_in ts }) (with_paths-same f.paths ts h)
+    ∙ ap (λ (b : Option TextBase). record { paths = f.paths; base = b; indexes = f.indexes ++ indexes_in ts }) (with_base-same f.base ts base)
+    ∙ ap (λ (xs : List TextIndex). record { paths = f.paths; base = f.base; indexes = xs }) (ap (λ (xs : List TextIndex). f.indexes ++ xs) index ∙ append-nil f.indexes))
+
+-- with other paths alone, with one more value by index, or with a base
+paths-more : (f : Found) (u : UnitPaths) (ts : List TextPlace) → u ≡ with_paths f.paths ts → base_in ts ≡ None → indexes_in ts ≡ []
+    → record { paths = u; base = f.base; indexes = f.indexes } ≡ with_places f ts
+unfolding with_places
+paths-more f u ts same base index =
+    ap (λ (x : UnitPaths). record { paths = x; base = f.base; indexes = f.indexes }) same
+    ∙ sym (ap (λ (b : Option TextBase). record { paths = with_paths f.paths ts; base = b; indexes = f.indexes ++ indexes_in ts }) (with_base-same f.base ts base)
+    ∙ ap (λ (xs : List TextIndex). record { paths = with_paths f.paths ts; base = f.base; indexes = xs })
+    (ap (λ (xs : List TextIndex). f.indexes ++ xs) index ∙ append-nil f.indexes))
+
+index-more : (f : Found) (place : ℕ) (path : Bool) (n : ℕ) → index_noted f (record { place = place; path = path; index = n }) ≡ with_places f (indexed_at place (text_index path n))
+unfolding with_places
+index-more f place path n =
+    let ts : List TextPlace = indexed_at place (text_index path n) in
+    sym (ap (λ (u : UnitPaths). record { paths = u; base = with_base f.base ts; indexes = f.indexes ++ indexes_in ts })
+    (with_paths-same f.paths ts (record { str = refl; line_str = refl; starts = refl; macros = refl; inline = refl; stray = refl }))
+    ∙ ap (λ (b : Option TextBase). record { paths = f.paths; base = b; indexes = f.indexes ++ indexes_in ts }) (with_base-same f.base ts refl))
+
+base-more : (f : Found) (field : Bool) (begin at len n : ℕ) (b : TextBase) → SayNoPaths (said_base field begin at len n) → indexes_in (said_base field begin at len n) ≡ []
+    → base_in (said_base field begin at len n) ≡ Some b → base_noted f b ≡ with_places f (said_base field begin at len n)
+unfolding with_places
+base-more f field begin at len n b h index is =
+    let ts : List TextPlace = said_base field begin at len n in
+    sym (ap (λ (u : UnitPaths). record { paths = u; base = with_base f.base ts; indexes = f.indexes ++ indexes_in ts }) (with_paths-same f.paths ts h)
+    ∙ ap (λ (o : Option TextBase). record { paths = f.paths; base = o; indexes = f.indexes ++ indexes_in ts }) (first f.base)
+    ∙ ap (λ (xs : List TextIndex). record { paths = f.paths; base = base_kept f.base b; indexes = xs })
+    (ap (λ (xs : List TextIndex). f.indexes ++ xs) index ∙ append-nil f.indexes))
+  where
+    first : (o : Option TextBase) → with_base o (said_base field begin at len n) ≡ base_kept o b
+    first None = is
+    first (Some x) = refl
+
+-- one more field
+noted-places : (f : Found) (into : DebugSection) (field : PathField) (ts : List TextPlace) → table_place into < length read_sections
+    → only_at (table_place into) field read_sections ≡ lists_by (places_into ts) → inline_in ts ≡ [] → stray_in ts ≡ None → base_in ts ≡ None → indexes_in ts ≡ []
+    → noted f into field ≡ with_places f ts
+noted-places f into field ts lt same inline stray base index =
+    paths-more f (with_field f.paths into field) ts (with_field-places f.paths into field ts lt same inline stray) base index
+
+-- a path that stands in its value
+with_inline-places : (u : UnitPaths) (at len : ℕ) → with_inline u (record { at = at; len = len }) ≡ with_paths u (record { role = inline_path; at = at; len = len + 1; says = no_index } ∷ [])
+unfolding with_paths
+with_inline-places u at len =
+    let ts : List TextPlace = record { role = inline_path; at = at; len = len + 1; says = no_index } ∷ [] in
+    let same : len ≡ (len + 1) - 1 = omega arith in
+    paths-same u.number u.fields (each_behind u.fields (lists_by (places_into ts))) (u.inline ++ record { at = at; len = len } ∷ []) (u.inline ++ inline_in ts) u.stray (with_stray u.stray ts)
+    (sym (behind-none u.fields (places_into ts) read_sections (each-section (places_into ts) (λ s. []) refl refl refl refl refl refl refl refl refl)))
+    (ap (λ (n : ℕ). u.inline ++ record { at = at; len = n } ∷ []) same) (sym (with_stray-same u.stray ts refl))
+
+-- a value that can't say a start
+with_stray-places : (u : UnitPaths) (place : ℕ) → with_stray_at u place ≡ with_paths u (indexed_at place no_start)
+unfolding with_paths
+with_stray-places u place =
+    let ts : List TextPlace = indexed_at place no_start in
+    paths-same u.number u.fields (each_behind u.fields (lists_by (places_into ts))) u.inline (u.inline ++ inline_in ts) (stray_first u.stray place) (with_stray u.stray ts)
+    (sym (behind-none u.fields (places_into ts) read_sections (each-section (places_into ts) (λ s. []) refl refl refl refl refl refl refl refl refl)))
+    (sym (append-nil u.inline)) (by u.stray)
+  where
+    by : (o : Option ℕ) → stray_first o place ≡ with_stray o (indexed_at place no_start)
+    by None = refl
+    by (Some n) = refl
+
+-- what a value says of the start of a line table or of a macro unit
+pub line-noted : (f g : Found) (says : Bool) (v : Value) → says ≡ true → g ≡ noted f Line (record { at = v.at; size = v.len }) → g ≡ with_places f (line_at says v)
+line-noted f g says v e is =
+    is ∙ noted-places f Line (record { at = v.at; size = v.len }) (line_at true v) (omega arith) refl refl refl refl refl ∙ sym (ap (λ (b : Bool). with_places f (line_at b v)) e)
+
+pub line-silent : (f : Found) (says : Bool) (v : Value) → says ≡ false → f ≡ with_places f (line_at says v)
+line-silent f says v e = sym (with_places-none f) ∙ sym (ap (λ (b : Bool). with_places f (line_at b v)) e)
+
+pub unit-noted : (f g : Found) (v : Value) → g ≡ noted f Macro (record { at = v.at; size = v.len }) → g ≡ with_places f (said_value true true 0 v)
+unit-noted f g v is = is ∙ noted-places f Macro (record { at = v.at; size = v.len }) (said_value true true 0 v) (omega arith) refl refl refl refl refl
+
+pub stray-noted : (f g : Found) (place : ℕ) → g ≡ stray_noted f place → g ≡ with_places f (indexed_at place no_start)
+stray-noted f g place is = is ∙ paths-more f (with_stray_at f.paths place) (indexed_at place no_start) (with_stray-places f.paths place) refl refl
+
+pub ruleset start_rules = (line-noted, line-silent, unit-noted, stray-noted)
+
+-- what a value says by its class
+pub str-noted : (f g : Found) (class : ValueClass) (path base field : Bool) (place : ℕ) (v : Value) → class ≡ StrOffset → path ≡ true
+    → g ≡ noted f Str (record { at = v.at; size = v.len }) → g ≡ with_places f (class_places class path base field place v)
+str-noted f g class path base field place v c p is =
+    is ∙ noted-places f Str (record { at = v.at; size = v.len }) (class_places StrOffset true base field place v) (omega arith) refl refl refl refl refl
+    ∙ sym (ap (λ (x : ValueClass). with_places f (class_places x path base field place v)) c ∙ ap (λ (b : Bool). with_places f (class_places StrOffset b base field place v)) p)
+
+pub line_str-noted : (f g : Found) (class : ValueClass) (path base field : Bool) (place : ℕ) (v : Value) → class ≡ LineStrOffset → path ≡ true
+    → g ≡ noted f LineStr (record { at = v.at; size = v.len }) → g ≡ with_places f (class_places class path base field place v)
+line_str-noted f g class path base field place v c p is =
+    is ∙ noted-places f LineStr (record { at = v.at; size = v.len }) (class_places LineStrOffset true base field place v) (omega arith) refl refl refl refl refl
+    ∙ sym (ap (λ (x : ValueClass). with_places f (class_places x path base field place v)) c ∙ ap (λ (b : Bool). with_places f (class_places LineStrOffset b base field place v)) p)
+
+pub inline-noted : (f g : Found) (class : ValueClass) (path base field : Bool) (place : ℕ) (v : Value) → class ≡ InlineText → path ≡ true
+    → g ≡ inline_noted f (record { at = v.at; len = v.len }) → g ≡ with_places f (class_places class path base field place v)
+inline-noted f g class path base field place v c p is =
+    is ∙ paths-more f (with_inline f.paths (record { at = v.at; len = v.len })) (class_places InlineText true base field place v) (with_inline-places f.paths v.at v.len) refl refl
+    ∙ sym (ap (λ (x : ValueClass). with_places f (class_places x path base field place v)) c ∙ ap (λ (b : Bool). with_places f (class_places InlineText b base field place v)) p)
+
+pub index-noted : (f g : Found) (class : ValueClass) (path base field : Bool) (place : ℕ) (v : Value) → class ≡ StrIndex
+    → g ≡ index_noted f (record { place = place; path = path; index = v.number }) → g ≡ with_places f (class_places class path base field place v)
+index-noted f g class path base field place v c is =
+    is ∙ index-more f place path v.number ∙ sym (ap (λ (x : ValueClass). with_places f (class_places x path base field place v)) c)
+
+base-said : (f : Found) (field : Bool) (place : ℕ) (v : Value) → base_noted f (said_of field v) ≡ with_places f (said_base field place v.at v.len v.number)
+base-said f true place v =
+    base-more f true place v.at v.len v.number (said_of true v) (record { str = refl; line_str = refl; starts = refl; macros = refl; inline = refl; stray = refl }) refl refl
+base-said f false place v =
+    base-more f false place v.at v.len v.number (said_of false v) (record { str = refl; line_str = refl; starts = refl; macros = refl; inline = refl; stray = refl }) refl refl
+
+pub number-noted : (f g : Found) (class : ValueClass) (path base field : Bool) (place : ℕ) (v : Value) (b : TextBase) → class ≡ Number → base ≡ true → b ≡ said_of field v
+    → g ≡ base_noted f b → g ≡ with_places f (class_places class path base field place v)
+number-noted f g class path base field place v b c e is new =
+    new ∙ ap (base_noted f) is ∙ base-said f field place v
+    ∙ sym (ap (λ (x : ValueClass). with_places f (class_places x path base field place v)) c ∙ ap (λ (x : Bool). with_places f (class_places Number path x field place v)) e)
+
+pub offset-noted : (f g : Found) (class : ValueClass) (path base field : Bool) (place : ℕ) (v : Value) (b : TextBase) → class ≡ SecOffset → base ≡ true → b ≡ said_of field v
+    → g ≡ base_noted f b → g ≡ with_places f (class_places class path base field place v)
+offset-noted f g class path base field place v b c e is new =
+    new ∙ ap (base_noted f) is ∙ base-said f field place v
+    ∙ sym (ap (λ (x : ValueClass). with_places f (class_places x path base field place v)) c ∙ ap (λ (x : Bool). with_places f (class_places SecOffset path x field place v)) e)
+
+-- or that it says nothing
+abbrev silent : List TextPlace → Type 0
+silent ts = SayNoPaths ts × (base_in ts ≡ None) × (indexes_in ts ≡ [])
+
+by-silent : (f : Found) (class : ValueClass) (path base field : Bool) (place : ℕ) (v : Value) (ts : List TextPlace) → class_places class path base field place v ≡ ts → silent ts
+    → f ≡ with_places f (class_places class path base field place v)
+by-silent f class path base field place v ts e h = found-same f ts h.0 h.1 h.2 ∙ sym (ap (with_places f) e)
+
+pub str-silent : (f : Found) (class : ValueClass) (path base field : Bool) (place : ℕ) (v : Value) → class ≡ StrOffset → path ≡ false
+    → f ≡ with_places f (class_places class path base field place v)
+str-silent f class path base field place v c p =
+    by-silent f class path base field place v (class_places StrOffset false base field place v)
+    (ap (λ (x : ValueClass). class_places x path base field place v) c ∙ ap (λ (b : Bool). class_places StrOffset b base field place v) p)
+    (record { str = refl; line_str = refl; starts = refl; macros = refl; inline = refl; stray = refl }, refl, refl)
+
+pub line_str-silent : (f : Found) (class : ValueClass) (path base field : Bool) (place : ℕ) (v : Value) → class ≡ LineStrOffset → path ≡ false
+    → f ≡ with_places f (class_places class path base field place v)
+line_str-silent f class path base field place v c p =
+    by-silent f class path base field place v (class_places LineStrOffset false base field place v)
+    (ap (λ (x : ValueClass). class_places x path base field place v) c ∙ ap (λ (b : Bool). class_places LineStrOffset b base field place v) p)
+    (record { str = refl; line_str = refl; starts = refl; macros = refl; inline = refl; stray = refl }, refl, refl)
+
+pub inline-silent : (f : Found) (class : ValueClass) (path base field : Bool) (place : ℕ) (v : Value) → class ≡ InlineText → path ≡ false
+    → f ≡ with_places f (class_places class path base field place v)
+inline-silent f class path base field place v c p =
+    by-silent f class path base field place v [] (ap (λ (x : ValueClass). class_places x path base field place v) c ∙ ap (λ (b : Bool). class_places InlineText b base field place v) p)
+    (record { str = refl; line_str = refl; starts = refl; macros = refl; inline = refl; stray = refl }, refl, refl)
+
+pub number-silent : (f : Found) (class : ValueClass) (path base field : Bool) (place : ℕ) (v : Value) → class ≡ Number → base ≡ false
+    → f ≡ with_places f (class_places class path base field place v)
+number-silent f class path base field place v c e =
+    by-silent f class path base field place v [] (ap (λ (x : ValueClass). class_places x path base field place v) c ∙ ap (λ (b : Bool). class_places Number path b field place v) e)
+    (record { str = refl; line_str = refl; starts = refl; macros = refl; inline = refl; stray = refl }, refl, refl)
+
+pub offset-silent : (f : Found) (class : ValueClass) (path base field : Bool) (place : ℕ) (v : Value) → class ≡ SecOffset → base ≡ false
+    → f ≡ with_places f (class_places class path base field place v)
+offset-silent f class path base field place v c e =
+    by-silent f class path base field place v [] (ap (λ (x : ValueClass). class_places x path base field place v) c ∙ ap (λ (b : Bool). class_places SecOffset path b field place v) e)
+    (record { str = refl; line_str = refl; starts = refl; macros = refl; inline = refl; stray = refl }, refl, refl)
+
+-- a value of another class says nothing, and names nothing
+pub class-silent : (f : Found) (class : ValueClass) (path base field : Bool) (place : ℕ) (v : Value) → class ≢ Number → class ≢ InlineText → class ≢ StrOffset → class ≢ LineStrOffset
+    → class ≢ StrIndex → class ≢ SecOffset → f ≡ with_places f (class_places class path base field place v)
+class-silent f Number path base field place v n i s l x o = absurd (n refl)
+class-silent f InlineText path base field place v n i s l x o = absurd (i refl)
+class-silent f StrOffset path base field place v n i s l x o = absurd (s refl)
+class-silent f LineStrOffset path base field place v n i s l x o = absurd (l refl)
+class-silent f StrIndex path base field place v n i s l x o = absurd (x refl)
+class-silent f SecOffset path base field place v n i s l x o = absurd (o refl)
+class-silent f class path base field place v n i s l x o = sym (with_places-none f)
+
+pub class-names : (t : Tables) (class : ValueClass) (v : Value) → class ≢ StrOffset → class ≢ LineStrOffset → OffsetNames t class v
+class-names t StrOffset v s l = absurd (s refl)
+class-names t LineStrOffset v s l = absurd (l refl)
+class-names t class v s l = tt
+
+pub ruleset note_rules = (names-str, names-line_str, refused-str, refused-line_str, str-noted, line_str-noted, inline-noted, index-noted, number-noted, offset-noted, str-silent, line_str-silent, inline-silent, number-silent, offset-silent)
 
 -- where a pass over the values of an entry stands: behind so many attributes, at a place, with what was found. Those passed
 -- stand before the place; what was found with the places of the others behind is what the whole entry gives; and if the

@@ -5,6 +5,7 @@ use Rattle.std.proofs.Math.Seq.{take-append_seam}
 use Rattle.std.proofs.lemmas.List.{take-append-le}
 use Rattle.dw_base.specs.Cells.{Cell, bytes_of, cells_at, field_of, located_cells, offset_of}
 use Rattle.dw_base.specs.DebugData.{DebugData, DataReadings, Lasting, around_of, start_number, unit_named, units_in, ReadsAll}
+use Rattle.dw_base.specs.DebugSections.{read_sections}
 use Rattle.dw_base.specs.Readings.{Reading, Readings, EachReading}
 use Rattle.dw_base.specs.Forms.{TextSection, in_str, in_line_str, ValueKind, number_of, leb_number, inline_text as inline_kind, text_offset, kind_in}
 use Rattle.dw_base.specs.InlinePaths.{inline_fits}
@@ -31,14 +32,15 @@ use Rattle.dw_meaning.proofs.TextEditLaws.{chosen-fits}
 use Rattle.dw_base.proofs.UnitHeaderLaws.{bytes_of-append}
 use Rattle.dw_base.specs.declared.debug_sections.DebugSection.TheVariants.{Line, Macro}
 use Rattle.dw_meaning.proofs.ScanPieceLaws.{bytes_of-drop}
-use Rattle.dw_find.specs.TextPlaces.{TextPlace, Indexed, base_offset, said_base, unit_base, text_index, place_of, indexed_at, indexed_kind, indexed_in, places_in, PlaceNames, PlacesName, fields_in, inline_at, inline_in, paths_by, SectionSays, AllPlaced, InlinesFit, AllFitRooms, macros_in, no_start, said_start, stray_in, starts_in, unit_start}
+use Rattle.dw_find.specs.TextPlaces.{TextPlace, Indexed, base_offset, said_base, unit_base, text_index, place_of, indexed_at, indexed_kind, indexed_in, places_in, PlaceNames, PlacesName, fields_in, inline_at, inline_in, paths_by, SectionSays, AllPlaced, InlinesFit, AllFitRooms, macros_in, no_start, places_into, said_start, stray_in, starts_in, unit_start}
 use Rattle.dw_find.specs.NamedStarts.{AllStarts, StartsNamed, UnitsNamed}
 use Rattle.dw_find.specs.UnitPlaces.{PlacesStart, UnitPlaces, has_unit, names_place}
-use Rattle.dw_find.specs.UnitPaths.{UnitPaths, field_by, path_fields, inline_by, inline_paths, paths_in, paths_of, inline_text, macro_by, macro_fields, start_by, start_fields, stray_among}
+use Rattle.dw_find.specs.UnitPaths.{UnitPaths, field_by, fields_into, lists_by, path_fields, pieces_into, inline_by, inline_paths, paths_in, paths_of, inline_text, macro_by, macro_fields, start_by, start_fields, stray_among}
 use Rattle.dw_find.specs.declared.fields.InlinePath.{InlinePath}
 use Rattle.dw_find.specs.declared.fields.PathField.{PathField}
 use Rattle.dw_base.specs.declared.view_fields.Field.{Field}
 use Rattle.dw_base.specs.declared.view_fields.Field.TheVariants.{Num, Into, Sym}
+use Rattle.dw_find.proofs.FieldListLaws.{each-section, lists-same, paths-same}
 use Rattle.dw_find.proofs.StartFormLaws.{macro-form}
 use Rattle.dw_find.proofs.PlacedLaws.{PlacedCells, placed-cells}
 use Rattle.dw_find.proofs.SectionRunLaws.{PlacedPieces, section-placed}
@@ -57,18 +59,6 @@ inline-append [] us = refl
 inline-append (t ∷ ts) us =
     ap (λ (ps : List InlinePath). inline_at t.role t.at t.len ++ ps) (inline-append ts us)
     ∙ sym (append_assoc (inline_at t.role t.at t.len) (inline_in ts) (inline_in us))
-
--- paths of parts
-abbrev pub paths_with : ℕ → List PathField → List PathField → List InlinePath → List PathField → List PathField → Option ℕ → UnitPaths
-paths_with number str line_str inline starts macros stray =
-    record { number = number; str = str; line_str = line_str; inline = inline; starts = starts; macros = macros; stray = stray }
-
-pub paths-same : (n : ℕ) (s1 s2 l1 l2 : List PathField) (i1 i2 : List InlinePath) (f1 f2 m1 m2 : List PathField) (o1 o2 : Option ℕ) → s1 ≡ s2 → l1 ≡ l2 → i1 ≡ i2 → f1 ≡ f2
-    → m1 ≡ m2 → o1 ≡ o2 → paths_with n s1 l1 i1 f1 m1 o1 ≡ paths_with n s2 l2 i2 f2 m2 o2
-paths-same n s1 s2 l1 l2 i1 i2 f1 f2 m1 m2 o1 o2 s l i f m o =
-    ap (λ (x : List PathField). paths_with n x l1 i1 f1 m1 o1) s ∙ ap (λ (x : List PathField). paths_with n s2 x i1 f1 m1 o1) l
-    ∙ ap (λ (x : List InlinePath). paths_with n s2 l2 x f1 m1 o1) i ∙ ap (λ (x : List PathField). paths_with n s2 l2 i2 x m1 o1) f
-    ∙ ap (λ (x : List PathField). paths_with n s2 l2 i2 f2 x o1) m ∙ ap (λ (x : Option ℕ). paths_with n s2 l2 i2 f2 m2 x) o
 
 -- the field of one place
 field-one : (table : TextSection) (r : Role) (at len : ℕ) → fields_in table (place_of r at len) ≡ field_by table r at len
@@ -360,9 +350,10 @@ inline-are base s (x ∷ xs) c =
 pub paths-are : (base : UnitBase) (z : UnitSection) (first : ℕ) (xs : List (Piece UnitState)) → ReadsUnits base z first xs
     → paths_by z.number (places_in xs) ≡ paths_in (record { number = z.number; pieces = xs })
 paths-are base z first xs r =
-    paths-same z.number (fields_in in_str (places_in xs)) (path_fields in_str xs) (fields_in in_line_str (places_in xs)) (path_fields in_line_str xs) (inline_in (places_in xs)) (inline_paths xs)
-    (starts_in (places_in xs)) (start_fields xs) (macros_in (places_in xs)) (macro_fields xs) (stray_in (places_in xs)) (stray_among xs) (fields-are in_str xs) (fields-are in_line_str xs)
-    (inline-are base (before_unit z.number z.kind (length z.contents) 0 first) xs r.chain) (starts-are xs) (macros-are xs) (stray-are xs)
+    paths-same z.number (lists_by (places_into (places_in xs))) (lists_by (pieces_into xs)) (inline_in (places_in xs)) (inline_paths xs) (stray_in (places_in xs)) (stray_among xs)
+    (lists-same (places_into (places_in xs)) (pieces_into xs) read_sections
+    (each-section (places_into (places_in xs)) (pieces_into xs) refl refl refl (fields-are in_str xs) (fields-are in_line_str xs) refl (starts-are xs) (macros-are xs) refl))
+    (inline-are base (before_unit z.number z.kind (length z.contents) 0 first) xs r.chain) (stray-are xs)
 
 -- the cells of a piece
 piece-cells : (p rest cells : List Cell) (place : ℕ) → p ++ rest ≡ drop place cells → cells_at cells place (length p) ≡ p
@@ -501,12 +492,12 @@ found-readings d first (z ∷ zs) (u ∷ us) all =
       says = ap (λ (v : UnitPaths). v ∷ paths_of rest.readings) own ∙ ap (λ (vs : List UnitPaths). u ∷ vs) rest.says;
       names = λ (rs : DataReadings) (starts : List ℕ) (places : UnitPlaces) e h. (
         names-are d rs starts z.contents 0 p.pieces e cells (subst (PlacesName d z.contents) (sym p.places_are) s.names)
-            (subst (λ (v : UnitPaths). StartsNamed d starts z.contents v.starts) (sym own) h.0.named),
+            (subst (λ (v : UnitPaths). StartsNamed d starts z.contents (fields_into v Line)) (sym own) h.0.named),
         rest.names rs starts places e h.1,
       );
       forms = λ (starts : List ℕ) (places : UnitPlaces) h. (forms-are p.pieces (ap (λ (v : UnitPaths). v.stray) own ∙ h.0.all_say), rest.forms starts places h.1);
       units = λ (g : Lasting) (starts : List ℕ) (places : UnitPlaces) o st h. (
-        units-are d g places z.contents 0 p.pieces o st cells (subst (λ (v : UnitPaths). UnitsNamed d places z.contents v.macros) (sym own) h.0.units),
+        units-are d g places z.contents 0 p.pieces o st cells (subst (λ (v : UnitPaths). UnitsNamed d places z.contents (fields_into v Macro)) (sym own) h.0.units),
         rest.units g starts places o st h.1,
       );
     }

@@ -17,15 +17,14 @@ use Rattle.dw_base.specs.declared.shared.Width.TheVariants.{W32, W64}
 use Rattle.dw_base.specs.declared.values.Spec.{Spec}
 use Rattle.dw_base.specs.declared.values.ValueClass.TheVariants.{StrOffset}
 use Rattle.dw_entries.specs.Passes.{HasSize}
-use Rattle.dw_find.specs.EntryTexts.{Found, OffsetRefuses, OneRefuses, Tables, ValueTaken, no_text, offset as offset_refuses, offset_in, relocation, some, with_base, with_paths, with_places, with_stray}
+use Rattle.dw_find.specs.EntryTexts.{Found, OffsetRefuses, OneRefuses, Tables, ValueTaken, no_text, offset as offset_refuses, offset_in, relocation, some, with_base, with_paths, with_places}
 use Rattle.dw_find.specs.LaterValues.{IsLater, IsNamed, str_field}
 use Rattle.dw_find.specs.QuietValues.{is_text_form}
 use Rattle.dw_find.specs.TextPlaces.{TextPlace, class_places, is_macros, is_start, is_start_form, line_places, no_index, own_form, said_places, value_places}
 use Rattle.dw_find.specs.UnitPaths.{UnitPaths}
 use Rattle.dw_find.specs.declared.fields.TextBase.{TextBase}
 use Rattle.dw_find.specs.declared.fields.TextIndex.{TextIndex}
-use Rattle.dw_find.proofs.EntryTextLaws.{with_places-none}
-use Rattle.dw_find.proofs.FoundLaws.{paths-same}
+use Rattle.dw_find.proofs.EntryTextLaws.{with_paths-same, with_places-none}
 use Rattle.dw_find.proofs.QuietLaws.{Quiet, class-names, or-parts, path-none, places-none, value-quiet}
 use Rattle.dw_find.proofs.StrValueLaws.{str-read, str-value}
 
@@ -33,20 +32,13 @@ use Rattle.dw_find.proofs.StrValueLaws.{str-read, str-value}
 abbrev plain_place : ℕ → ℕ → TextPlace
 plain_place at len = record { role = offset in_str false; at = at; len = len; says = no_index }
 
-stray-plain : (o : Option ℕ) (at len : ℕ) → with_stray o (plain_place at len ∷ []) ≡ o
-stray-plain None at len = refl
-stray-plain (Some n) at len = refl
-
 base-plain : (b : Option TextBase) (at len : ℕ) → with_base b (plain_place at len ∷ []) ≡ b
 base-plain None at len = refl
 base-plain (Some n) at len = refl
 
 paths-plain : (u : UnitPaths) (at len : ℕ) → with_paths u (plain_place at len ∷ []) ≡ u
-unfolding with_paths
 paths-plain u at len =
-    paths-same u.number (u.str ++ []) u.str (u.line_str ++ []) u.line_str (u.inline ++ []) u.inline (u.starts ++ []) u.starts (u.macros ++ []) u.macros
-    (with_stray u.stray (plain_place at len ∷ [])) u.stray
-    (append-nil u.str) (append-nil u.line_str) (append-nil u.inline) (append-nil u.starts) (append-nil u.macros) (stray-plain u.stray at len)
+    with_paths-same u (plain_place at len ∷ []) (record { str = refl; line_str = refl; starts = refl; macros = refl; inline = refl; stray = refl })
 
 places-plain : (f : Found) (at len : ℕ) → with_places f (plain_place at len ∷ []) ≡ f
 unfolding with_places

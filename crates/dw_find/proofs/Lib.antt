@@ -10,6 +10,7 @@ pub mod EntryRunLaws
 pub mod HeaderLaws
 pub mod IndexRunLaws
 pub mod SectionRunLaws
+pub mod FieldListLaws
 pub mod FoundLaws
 pub mod ValueFactLaws
 pub mod TextFieldLaws

@@ -3,25 +3,26 @@ use Rattle.std.proofs.Common.{Bool, true, false, ◌≡◌, ℕ, suc, ◌+◌, �
 use Rattle.std.proofs.Math.Seq.{drop-cons}
 use Rattle.std.proofs.lemmas.List.{drop_all}
 use Rattle.dw_base.specs.DebugData.{line_source}
-use Rattle.dw_base.specs.DebugSections.{name_of}
+use Rattle.dw_base.specs.DebugSections.{name_of, read_sections}
 use Rattle.dw_base.specs.FileViews.{View, section_named}
 use Rattle.dw_base.specs.Forms.{TextSection, in_str, in_line_str, width_size}
 use Rattle.dw_base.specs.LineSources.{LineSource}
 use Rattle.dw_base.specs.LineTables.{LineTable, texts_of}
 use Rattle.dw_base.specs.ViewData.{debug_data}
 use Rattle.dw_base.specs.WrittenLines.{paths_of}
-use Rattle.dw_base.specs.declared.debug_sections.DebugSection.TheVariants.{Line}
+use Rattle.dw_base.specs.declared.debug_sections.DebugSection.TheVariants.{Str, LineStr, Line}
 use Rattle.dw_base.specs.declared.line_tables.FilePlace.{FilePlace}
 use Rattle.dw_base.specs.declared.line_tables.TextPlace.{TextPlace}
 use Rattle.dw_base.specs.declared.shared.Width.{Width}
 use Rattle.dw_lines.specs.ViewSources.{view_source}
 use Rattle.dw_lines.proofs.ReadingLaws.{source-is}
 use Rattle.dw_find.specs.ViewFields.{table_number}
-use Rattle.dw_find.specs.UnitPaths.{UnitPaths}
-use Rattle.dw_find.specs.ViewLines.{is_text_of, lines_by, lines_of_view, lines_with, table_fields, text_field, text_fields}
-use Rattle.dw_find.specs.declared.fields.InlinePath.{InlinePath}
+use Rattle.dw_find.specs.UnitPaths.{UnitPaths, with_fields, lists_by}
+use Rattle.dw_find.specs.ViewLines.{is_text_of, lines_by, lines_of_view, lines_with, table_fields, text_field, text_fields, tables_into}
 use Rattle.dw_find.specs.declared.fields.PathField.{PathField}
-use Rattle.dw_find.proofs.FoundLaws.{paths-same}
+use Rattle.dw_find.specs.EntryTexts.{no_paths}
+use Rattle.dw_find.proofs.FieldListLaws.{lists-same, each-section, paths-same}
+use Rattle.dw_base.specs.declared.debug_sections.DebugSection.{DebugSection}
 
 -- one field
 pub field-some : (section str : ℕ) (table : TextSection) (w : Width) (x : TextPlace) (size : ℕ) (old new : List PathField) → true ≡ is_text_of section str table x → size ≡ width_size w
@@ -120,14 +121,20 @@ first-number : (v : View) → table_number (debug_data v) in_str ≡ (view_sourc
 unfolding debug_data
 first-number v = refl
 
-pub with-fields : (v : View) (section first : ℕ) (ts : List LineTable) (a b starts macros : List PathField) (inline : List InlinePath) (stray : Option ℕ)
-    → first ≡ table_number (debug_data v) in_str → a ≡ table_fields section first in_str ts → b ≡ table_fields section first in_line_str ts → inline ≡ [] → starts ≡ []
-    → macros ≡ [] → stray ≡ None
-    → record { number = section; str = a; line_str = b; inline = inline; starts = starts; macros = macros; stray = stray } ≡ lines_with (view_source v section) ts
-with-fields v section first ts a b starts macros inline stray number x y i s m n =
+pub with-fields : (v : View) (section first : ℕ) (ts : List LineTable) (a b : List PathField) (none str both : UnitPaths) → first ≡ table_number (debug_data v) in_str
+    → a ≡ table_fields section first in_str ts → b ≡ table_fields section first in_line_str ts → none ≡ no_paths section → str ≡ with_fields none Str a
+    → both ≡ with_fields str LineStr b → both ≡ lines_with (view_source v section) ts
+with-fields v section first ts a b none str both number x y n s l =
     let same : first ≡ (view_source v section).str.number = number ∙ first-number v in
-    paths-same section a (table_fields section (view_source v section).str.number in_str ts) b (table_fields section (view_source v section).str.number in_line_str ts) inline [] starts []
-    macros [] stray None (x ∙ ap (λ (k : ℕ). table_fields section k in_str ts) same) (y ∙ ap (λ (k : ℕ). table_fields section k in_line_str ts) same) i s m n
+    l ∙ ap (λ (u : UnitPaths). with_fields u LineStr b) (s ∙ ap (λ (u : UnitPaths). with_fields u Str a) n)
+    ∙ paths-same section (lists_by (own a b)) (lists_by (tables_into section (view_source v section).str.number ts)) [] [] None None
+    (lists-same (own a b) (tables_into section (view_source v section).str.number ts) read_sections (each-section (own a b) (tables_into section (view_source v section).str.number ts) refl refl refl
+    (x ∙ ap (λ (k : ℕ). table_fields section k in_str ts) same) (y ∙ ap (λ (k : ℕ). table_fields section k in_line_str ts) same) refl refl refl refl)) refl refl
+  where
+    own : List PathField → List PathField → DebugSection → List PathField
+    own fs gs Str = fs
+    own fs gs LineStr = gs
+    own fs gs s = []
 
 pub ruleset with_rules = (with-fields)
 

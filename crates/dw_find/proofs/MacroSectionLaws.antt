@@ -4,8 +4,10 @@ use Rattle.std.proofs.Math.Seq.{drop-cons}
 use Rattle.std.proofs.lemmas.List.{drop_all}
 use Rattle.dw_base.specs.declared.macro_units.MacroUnit.{MacroUnit}
 use Rattle.dw_find.specs.MacroSections.{SectionUnits, line_fields, macros_of, macros_with}
-use Rattle.dw_find.specs.UnitPaths.{UnitPaths}
+use Rattle.dw_find.specs.UnitPaths.{UnitPaths, with_fields}
 use Rattle.dw_find.specs.declared.fields.PathField.{PathField}
+use Rattle.dw_find.specs.EntryTexts.{no_paths}
+use Rattle.dw_base.specs.declared.debug_sections.DebugSection.TheVariants.{Line}
 
 pub fields-all : (us : List MacroUnit) (i : ℕ) (fields : List PathField) → length us ≤ i → fields ++ line_fields (drop i us) ≡ line_fields us → fields ≡ line_fields us
 fields-all us i fields end is = sym (append-nil fields) ∙ ap (λ (xs : List MacroUnit). fields ++ line_fields xs) (sym (drop_all i us end)) ∙ is
@@ -31,3 +33,9 @@ pub macros-all : (ss : List SectionUnits) (i : ℕ) (first paths : List UnitPath
 macros-all ss i first paths end is = sym (append-nil paths) ∙ ap (λ (xs : List SectionUnits). paths ++ macros_of xs) (sym (drop_all i ss end)) ∙ is
 
 pub ruleset push_rules = (macros-pushed, macros-all)
+
+-- what a section says
+pub with-starts : (n : ℕ) (fields : List PathField) (none u : UnitPaths) → none ≡ no_paths n → u ≡ with_fields none Line fields → u ≡ macros_with n fields
+with-starts n fields none u e is = is ∙ ap (λ (x : UnitPaths). with_fields x Line fields) e
+
+pub ruleset with_rules = (with-starts)

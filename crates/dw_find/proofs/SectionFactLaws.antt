@@ -11,7 +11,7 @@ use Rattle.dw_base.specs.UnitHeaders.{UnitSection}
 use Rattle.dw_base.specs.ViewData.{debug_data, unit_sections}
 use Rattle.dw_base.specs.declared.fault.Refusal.{Refusal}
 use Rattle.dw_base.proofs.ViewCellLaws.{bytes_of-view_cells}
-use Rattle.dw_base.specs.declared.debug_sections.DebugSection.TheVariants.{Info}
+use Rattle.dw_base.specs.declared.debug_sections.DebugSection.TheVariants.{Info, Str, LineStr, Line, Macro}
 use Rattle.dw_entries.specs.Fronts.{IsOfView}
 use Rattle.dw_entries.proofs.HasUnitLaws.{section-at, is-unit_section}
 use Rattle.dw_entries.proofs.UnitSectionLaws.{is-of-view}
@@ -19,7 +19,7 @@ use Rattle.dw_find.specs.Fields.{AreOffsetFields, AreStartFields}
 use Rattle.dw_find.specs.InlineRooms.{AreRooms, Grows}
 use Rattle.dw_find.specs.ViewFields.{HasOffsets, fields_of, info_of, texts_in, HasPlaces}
 use Rattle.dw_find.specs.TextPlaces.{InlinesFit, AllFitRooms, SectionSays, AllPlaced, fields_in}
-use Rattle.dw_find.specs.UnitPaths.{UnitPaths}
+use Rattle.dw_find.specs.UnitPaths.{UnitPaths, fields_into}
 use Rattle.dw_find.specs.UnitTexts.{AllTaken}
 use Rattle.dw_find.proofs.ApartLaws.{says-apart}
 use Rattle.dw_find.proofs.PlaceValueLaws.{EachOf, each-get, PlaceOf, section-each, path-fields, InlineOf, inlines-each, inline-rooms, inline-row, start-fields, unit-fields}
@@ -76,8 +76,8 @@ facts-there v u f =
 pub has-offsets : (v : View) (u : UnitPaths) → SectionFacts v u → HasOffsets v u
 has-offsets v u f = record {
   there = facts-there v u f;
-  str = facts-offsets v u in_str f (ap (λ (x : UnitPaths). x.str) f.says.says);
-  line_str = facts-offsets v u in_line_str f (ap (λ (x : UnitPaths). x.line_str) f.says.says);
+  str = facts-offsets v u in_str f (ap (λ (x : UnitPaths). fields_into x Str) f.says.says);
+  line_str = facts-offsets v u in_line_str f (ap (λ (x : UnitPaths). fields_into x LineStr) f.says.says);
 }
 
 facts-inline : (v : View) (u : UnitPaths) → (f : SectionFacts v u) → EachOf (InlineOf (debug_data v) f.section) u.inline
@@ -89,11 +89,11 @@ pub has-places : (v : View) (u : UnitPaths) → SectionFacts v u → HasPlaces v
 unfolding debug_data
 has-places v u f = record {
   there = facts-there v u f;
-  starts = subst (λ (bs : List ℕ). AreStartFields bs u.starts) (says-bytes v f.before f.behind f.section u f.split f.says)
-      (subst (AreStartFields (bytes_of f.section.contents)) (sym (ap (λ (x : UnitPaths). x.starts) f.says.says))
+  starts = subst (λ (bs : List ℕ). AreStartFields bs (fields_into u Line)) (says-bytes v f.before f.behind f.section u f.split f.says)
+      (subst (AreStartFields (bytes_of f.section.contents)) (sym (ap (λ (x : UnitPaths). fields_into x Line) f.says.says))
       (start-fields (debug_data v) f.section f.says.places (facts-each v u f)));
-  macros = subst (λ (bs : List ℕ). AreStartFields bs u.macros) (says-bytes v f.before f.behind f.section u f.split f.says)
-      (subst (AreStartFields (bytes_of f.section.contents)) (sym (ap (λ (x : UnitPaths). x.macros) f.says.says))
+  macros = subst (λ (bs : List ℕ). AreStartFields bs (fields_into u Macro)) (says-bytes v f.before f.behind f.section u f.split f.says)
+      (subst (AreStartFields (bytes_of f.section.contents)) (sym (ap (λ (x : UnitPaths). fields_into x Macro) f.says.says))
       (unit-fields (debug_data v) f.section f.says.places (facts-each v u f)));
   apart = says-apart (debug_data v) f.section u f.says;
   rooms = subst (λ (bs : List ℕ). AreRooms bs u.inline) (says-bytes v f.before f.behind f.section u f.split f.says)

@@ -5,16 +5,15 @@ use Rattle.dw_base.specs.DebugSections.{name_of}
 use Rattle.dw_base.specs.FileViews.{View, section_named}
 use Rattle.dw_base.specs.Paths.{PathMap}
 use Rattle.dw_base.specs.Slots.{slots_of}
-use Rattle.dw_base.specs.declared.debug_sections.DebugSection.TheVariants.{StrOffsets}
+use Rattle.dw_base.specs.declared.debug_sections.DebugSection.TheVariants.{Str, StrOffsets}
 use Rattle.dw_base.specs.declared.string_offsets.Contribution.{Contribution}
 use Rattle.dw_offsets.specs.PathSlots.{SlotsTaken, slots_in}
 use Rattle.dw_offsets.specs.declared.slot_fields.PathSlot.{PathSlot}
 use Rattle.dw_find.specs.FoundPaths.{SlotsFound}
 use Rattle.dw_find.specs.SlotPaths.{as_fields, slots_with, slots_by}
-use Rattle.dw_find.specs.UnitPaths.{UnitPaths}
-use Rattle.dw_find.specs.declared.fields.InlinePath.{InlinePath}
+use Rattle.dw_find.specs.UnitPaths.{UnitPaths, with_fields}
 use Rattle.dw_find.specs.declared.fields.PathField.{PathField}
-use Rattle.dw_find.proofs.FoundLaws.{paths-same}
+use Rattle.dw_find.specs.EntryTexts.{no_paths}
 
 -- one field more
 more-fields : (slots : List PathSlot) (i : ℕ) (s : PathSlot) → i < length slots → s ≡ get_or slots i s
@@ -37,11 +36,8 @@ fields-all slots i fields end is = is ∙ ap as_fields (take_all i slots end)
 pub ruleset field_rules = (fields-more, fields-all)
 
 -- what the section says
-pub with-fields : (n : ℕ) (fields str line_str starts macros : List PathField) (inline : List InlinePath) (stray : Option ℕ) → str ≡ fields → line_str ≡ [] → inline ≡ [] → starts ≡ []
-    → macros ≡ [] → stray ≡ None
-    → record { number = n; str = str; line_str = line_str; inline = inline; starts = starts; macros = macros; stray = stray } ≡ slots_with n fields
-with-fields n fields str line_str starts macros inline stray s l i t m none =
-    paths-same n str fields line_str [] inline [] starts [] macros [] stray None s l i t m none
+pub with-fields : (n : ℕ) (fields : List PathField) (none u : UnitPaths) → none ≡ no_paths n → u ≡ with_fields none Str fields → u ≡ slots_with n fields
+with-fields n fields none u e is = is ∙ ap (λ (x : UnitPaths). with_fields x Str fields) e
 
 pub ruleset with_rules = (with-fields)
 

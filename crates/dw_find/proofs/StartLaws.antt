@@ -27,7 +27,7 @@ use Rattle.dw_base.specs.UnitHeaders.{UnitBase, UnitSection}
 use Rattle.dw_base.specs.UnitPieces.{ReadsUnits, unit_grammar}
 use Rattle.dw_base.specs.UnitStates.{Mode, at_header, at_code, at_values, at_chosen, stuck, UnitState, before_unit, in_unit, between, inside, headed, after_header, after_entry, after_code, after_value, code_value, piece_header, past}
 use Rattle.dw_base.specs.ViewData.{debug_data, located}
-use Rattle.dw_base.specs.declared.debug_sections.DebugSection.TheVariants.{Info, Line}
+use Rattle.dw_base.specs.declared.debug_sections.DebugSection.TheVariants.{Info, Line, Macro}
 use Rattle.dw_base.specs.declared.fault.Kind.TheVariants.{Stray}
 use Rattle.dw_base.specs.declared.fault.Refusal.{Refusal}
 use Rattle.dw_base.specs.declared.shared.Order.{Order}
@@ -47,7 +47,7 @@ use Rattle.dw_find.specs.LineStarts.{FieldStrays, HasStart, IsStartGap, Rises, S
 use Rattle.dw_find.specs.ViewFields.{HasPlaces, info_of}
 use Rattle.dw_find.specs.TextPlaces.{AllPlaced, SectionSays, macros_in, starts_in}
 use Rattle.dw_find.specs.NamedStarts.{AllStarts, FieldsSay, SectionStarts, says_start, says_unit}
-use Rattle.dw_find.specs.UnitPaths.{UnitPaths, paths_in, paths_of, macro_by, macro_fields, start_by, start_fields, stray_among}
+use Rattle.dw_find.specs.UnitPaths.{UnitPaths, paths_in, paths_of, macro_by, macro_fields, start_by, start_fields, stray_among, fields_into}
 use Rattle.dw_find.specs.UnitTexts.{AllTaken}
 use Rattle.dw_find.specs.declared.fields.PathField.{PathField}
 use Rattle.dw_find.proofs.FoundLaws.{FoundReadings, found-readings, field-unit}
@@ -186,22 +186,22 @@ pub ruleset field_rules = (field-room, field-few)
 pub section-there : (v : View) (u : UnitPaths) → HasPlaces v u → u.number < length v.sections
 section-there v u h = h.there
 
-pub section-fields : (v : View) (u : UnitPaths) (n : ℕ) (fields : List PathField) → HasPlaces v u → n ≡ u.number → fields ≡ u.starts → AreStartFields (section_bytes v n) fields
+pub section-fields : (v : View) (u : UnitPaths) (n : ℕ) (fields : List PathField) → HasPlaces v u → n ≡ u.number → fields ≡ fields_into u Line → AreStartFields (section_bytes v n) fields
 section-fields v u n fields h en ef = subst (λ (k : ℕ). AreStartFields (section_bytes v k) fields) (sym en) (subst (AreStartFields (info_of v u)) (sym ef) h.starts)
 
-pub unit-fields : (v : View) (u : UnitPaths) (n : ℕ) (fields : List PathField) → HasPlaces v u → n ≡ u.number → fields ≡ u.macros → AreStartFields (section_bytes v n) fields
+pub unit-fields : (v : View) (u : UnitPaths) (n : ℕ) (fields : List PathField) → HasPlaces v u → n ≡ u.number → fields ≡ fields_into u Macro → AreStartFields (section_bytes v n) fields
 unit-fields v u n fields h en ef = subst (λ (k : ℕ). AreStartFields (section_bytes v k) fields) (sym en) (subst (AreStartFields (info_of v u)) (sym ef) h.macros)
 
-pub section-strays : (v : View) (n : ℕ) (starts : List ℕ) (places : UnitPlaces) (u : UnitPaths) (fields : List PathField) (r : Refusal) → n ≡ u.number → fields ≡ u.starts
+pub section-strays : (v : View) (n : ℕ) (starts : List ℕ) (places : UnitPlaces) (u : UnitPaths) (fields : List PathField) (r : Refusal) → n ≡ u.number → fields ≡ fields_into u Line
     → FieldStrays v.order n (view_cells v n) (says_start v.order (located v Line) starts) fields r → SectionStrays v starts places u r
 section-strays v n starts places u fields r en ef h =
-    no_table (subst (λ (k : ℕ). FieldStrays v.order k (view_cells v k) (says_start v.order (located v Line) starts) u.starts r) en
+    no_table (subst (λ (k : ℕ). FieldStrays v.order k (view_cells v k) (says_start v.order (located v Line) starts) (fields_into u Line) r) en
     (subst (λ (fs : List PathField). FieldStrays v.order n (view_cells v n) (says_start v.order (located v Line) starts) fs r) ef h))
 
-pub unit-strays : (v : View) (n : ℕ) (starts : List ℕ) (places : UnitPlaces) (u : UnitPaths) (fields : List PathField) (r : Refusal) → n ≡ u.number → fields ≡ u.macros
+pub unit-strays : (v : View) (n : ℕ) (starts : List ℕ) (places : UnitPlaces) (u : UnitPaths) (fields : List PathField) (r : Refusal) → n ≡ u.number → fields ≡ fields_into u Macro
     → FieldStrays v.order n (view_cells v n) (says_unit v.order places) fields r → SectionStrays v starts places u r
 unit-strays v n starts places u fields r en ef h =
-    no_unit (subst (λ (k : ℕ). FieldStrays v.order k (view_cells v k) (says_unit v.order places) u.macros r) en
+    no_unit (subst (λ (k : ℕ). FieldStrays v.order k (view_cells v k) (says_unit v.order places) (fields_into u Macro) r) en
     (subst (λ (fs : List PathField). FieldStrays v.order n (view_cells v n) (says_unit v.order places) fs r) ef h))
 
 pub section-stray : (v : View) (starts : List ℕ) (places : UnitPlaces) (u : UnitPaths) (n place : ℕ) (r : Refusal) → n ≡ u.number → u.stray ≡ Some place → r ≡ at Stray n place
@@ -470,29 +470,29 @@ section-row v starts places us i u r taken t ms lt is row =
         (stray (all f) (record { units = f.reads; lines = t.are; macros = ms.are })
         (form_row s.one (record { before = x.before; behind = x.behind; section = x.reading; sections = x.sections; front = s.front; rest = s.rest; pieces = s.split }) s.form)))
     by_row f x q (no_table (field k g lt_k is_k none)) =
-        let same : start_fields x.reading.pieces ≡ u.starts = ap (λ (y : UnitPaths). y.starts) x.says in
+        let same : start_fields x.reading.pieces ≡ fields_into u Line = ap (λ (y : UnitPaths). fields_into y Line) x.says in
         let piece : StartPiece x.reading.pieces g =
         subst (StartPiece x.reading.pieces) (sym is_k)
-        (each-get (StartPiece x.reading.pieces) u.starts k g lt_k (subst (EachOf (StartPiece x.reading.pieces)) same (start-pieces x.reading.pieces [] x.reading.pieces refl))) in
+        (each-get (StartPiece x.reading.pieces) (fields_into u Line) k g lt_k (subst (EachOf (StartPiece x.reading.pieces)) same (start-pieces x.reading.pieces [] x.reading.pieces refl))) in
         says_none (by_field f x g piece none)
     by_row f x q (no_table (no_offset k g lt_k is_k fails)) =
-        let same : u.starts ≡ starts_in section.says.places = ap (λ (y : UnitPaths). y.starts) section.says.says in
+        let same : fields_into u Line ≡ starts_in section.says.places = ap (λ (y : UnitPaths). fields_into y Line) section.says.says in
         let row : RowField (debug_data v) section.section g =
         subst (RowField (debug_data v) section.section) (sym is_k)
-        (each-get (RowField (debug_data v) section.section) u.starts k g lt_k (subst (EachOf (RowField (debug_data v) section.section)) (sym same)
+        (each-get (RowField (debug_data v) section.section) (fields_into u Line) k g lt_k (subst (EachOf (RowField (debug_data v) section.section)) (sym same)
         (starts-rows (debug_data v) section.section section.says.places places_each))) in
         reads_none (unread g q row fails)
     by_row f x q (no_unit (field k g lt_k is_k none)) =
-        let same : macro_fields x.reading.pieces ≡ u.macros = ap (λ (y : UnitPaths). y.macros) x.says in
+        let same : macro_fields x.reading.pieces ≡ fields_into u Macro = ap (λ (y : UnitPaths). fields_into y Macro) x.says in
         let piece : UnitPiece x.reading.pieces g =
         subst (UnitPiece x.reading.pieces) (sym is_k)
-        (each-get (UnitPiece x.reading.pieces) u.macros k g lt_k (subst (EachOf (UnitPiece x.reading.pieces)) same (unit-pieces x.reading.pieces [] x.reading.pieces refl))) in
+        (each-get (UnitPiece x.reading.pieces) (fields_into u Macro) k g lt_k (subst (EachOf (UnitPiece x.reading.pieces)) same (unit-pieces x.reading.pieces [] x.reading.pieces refl))) in
         says_none (by_unit f x g piece none)
     by_row f x q (no_unit (no_offset k g lt_k is_k fails)) =
-        let same : u.macros ≡ macros_in section.says.places = ap (λ (y : UnitPaths). y.macros) section.says.says in
+        let same : fields_into u Macro ≡ macros_in section.says.places = ap (λ (y : UnitPaths). fields_into y Macro) section.says.says in
         let row : RowField (debug_data v) section.section g =
         subst (RowField (debug_data v) section.section) (sym is_k)
-        (each-get (RowField (debug_data v) section.section) u.macros k g lt_k (subst (EachOf (RowField (debug_data v) section.section)) (sym same)
+        (each-get (RowField (debug_data v) section.section) (fields_into u Macro) k g lt_k (subst (EachOf (RowField (debug_data v) section.section)) (sym same)
         (units-rows (debug_data v) section.section section.says.places places_each))) in
         reads_none (unread g q row fails)
 
@@ -511,9 +511,9 @@ all-starts v starts places before (z ∷ zs) (u ∷ us) split all each =
     let cells : view_cells v u.number ≡ z.contents = ap (view_cells v) (says-number (debug_data v) z u all.0) ∙ sym of.contents in (
       record {
         all_say = here.all_say;
-        named = subst (λ (l : Located). FieldsSay (says_start v.order l starts) z.contents u.starts) (sym (lines-located v))
-            (subst (λ (cs : List Cell). FieldsSay (says_start v.order (located v Line) starts) cs u.starts) cells here.there);
-        units = subst (λ (cs : List Cell). FieldsSay (says_unit v.order places) cs u.macros) cells here.units;
+        named = subst (λ (l : Located). FieldsSay (says_start v.order l starts) z.contents (fields_into u Line)) (sym (lines-located v))
+            (subst (λ (cs : List Cell). FieldsSay (says_start v.order (located v Line) starts) cs (fields_into u Line)) cells here.there);
+        units = subst (λ (cs : List Cell). FieldsSay (says_unit v.order places) cs (fields_into u Macro)) cells here.units;
       },
       all-starts v starts places (before ++ z ∷ []) zs us (split ∙ sym (append_assoc before (z ∷ []) zs)) all.1 each.1,
     )

@@ -4,12 +4,13 @@ use Rattle.std.specs.Prelude.{true, false, ◌≡◌, ◌⊎◌, ℕ, ◌+◌, �
 use Rattle.dw_base.specs.Cells.{Cell, Located, cells_at, offset_of}
 use Rattle.dw_base.specs.EntryScans.{SpellsValues, ValuesFail}
 use Rattle.dw_base.specs.FormFails.{FormFails}
-use Rattle.dw_base.specs.Forms.{in_str, in_line_str, width_size}
+use Rattle.dw_base.specs.Forms.{width_size}
 use Rattle.dw_base.specs.Numbers.{number_at}
 use Rattle.dw_base.specs.Refusals.{at}
 use Rattle.dw_base.specs.RelocationRows.{FieldPlace, OffsetFails, field_place, offset_field}
 use Rattle.dw_base.specs.Texts.{ends_in}
 use Rattle.dw_base.specs.Values.{number_value, value_at}
+use Rattle.dw_base.specs.declared.debug_sections.DebugSection.{DebugSection}
 use Rattle.dw_base.specs.declared.fault.Kind.TheVariants.{StringOffset}
 use Rattle.dw_base.specs.declared.fault.Refusal.{Refusal}
 use Rattle.dw_base.specs.declared.shared.Order.{Order}
@@ -18,9 +19,11 @@ use Rattle.dw_base.specs.declared.values.Spec.{Spec}
 use Rattle.dw_base.specs.declared.values.Value.{Value}
 use Rattle.dw_base.specs.declared.values.ValueClass.{ValueClass}
 use Rattle.dw_base.specs.declared.values.ValueClass.TheVariants.{StrOffset, LineStrOffset}
-use Rattle.dw_find.specs.TextPlaces.{TextPlace, base_in, fields_in, indexes_in, inline_in, is_start_form, macros_in, starts_in, stray_in, value_places}
-use Rattle.dw_find.specs.UnitPaths.{UnitPaths}
+use Rattle.dw_find.specs.TextPlaces.{TextPlace, base_in, indexes_in, inline_in, is_start_form, places_into, stray_in, value_places}
+use Rattle.dw_find.specs.UnitPaths.{UnitPaths, each_behind, lists_by, with_field, with_inline, with_stray_at}
 use Rattle.dw_find.specs.declared.fields.TextBase.{TextBase}
+use Rattle.dw_find.specs.declared.fields.InlinePath.{InlinePath}
+use Rattle.dw_find.specs.declared.fields.PathField.{PathField}
 use Rattle.dw_find.specs.declared.fields.TextIndex.{TextIndex}
 
 -- the tables of texts
@@ -51,7 +54,7 @@ pub record Found : Type 0 where
 
 -- nothing was found in a section
 abbrev pub no_paths : ℕ → UnitPaths
-no_paths number = record { number = number; str = []; line_str = []; inline = []; starts = []; macros = []; stray = None }
+no_paths number = record { number = number; fields = lists_by (λ s. []); inline = []; stray = None }
 
 -- what was found before a unit: the paths of those before it
 abbrev pub none_found : UnitPaths → Found
@@ -66,13 +69,32 @@ with_stray (Some n) ts = Some n
 unfoldable pub with_paths : UnitPaths → List TextPlace → UnitPaths
 with_paths u ts = record {
   number = u.number;
-  str = u.str ++ fields_in in_str ts;
-  line_str = u.line_str ++ fields_in in_line_str ts;
+  fields = each_behind u.fields (lists_by (places_into ts));
   inline = u.inline ++ inline_in ts;
-  starts = u.starts ++ starts_in ts;
-  macros = u.macros ++ macros_in ts;
   stray = with_stray u.stray ts;
 }
+
+-- what was found, with one more field that holds an offset into a section, path that stands in its value, or value by index; and with the first place of a
+-- value that can't say a start
+abbrev pub noted : Found → DebugSection → PathField → Found
+noted f into field = record { paths = with_field f.paths into field; base = f.base; indexes = f.indexes }
+
+abbrev pub inline_noted : Found → InlinePath → Found
+inline_noted f p = record { paths = with_inline f.paths p; base = f.base; indexes = f.indexes }
+
+abbrev pub index_noted : Found → TextIndex → Found
+index_noted f i = record { paths = f.paths; base = f.base; indexes = f.indexes ++ i ∷ [] }
+
+abbrev pub stray_noted : Found → ℕ → Found
+stray_noted f place = record { paths = with_stray_at f.paths place; base = f.base; indexes = f.indexes }
+
+-- with the base, where there is none yet
+abbrev pub base_kept : Option TextBase → TextBase → Option TextBase
+base_kept None b = Some b
+base_kept (Some x) b = Some x
+
+abbrev pub base_noted : Found → TextBase → Found
+base_noted f b = record { paths = f.paths; base = base_kept f.base b; indexes = f.indexes }
 
 -- a base, or else one that these places say
 abbrev pub with_base : Option TextBase → List TextPlace → Option TextBase

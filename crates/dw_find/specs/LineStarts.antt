@@ -7,14 +7,14 @@ use Rattle.dw_base.specs.FileViews.{View, view_cells}
 use Rattle.dw_base.specs.Refusals.{at}
 use Rattle.dw_base.specs.RelocationRows.{OffsetFails, field_place, offset_field}
 use Rattle.dw_base.specs.ViewData.{located}
-use Rattle.dw_base.specs.declared.debug_sections.DebugSection.TheVariants.{Line}
+use Rattle.dw_base.specs.declared.debug_sections.DebugSection.TheVariants.{Line, Macro}
 use Rattle.dw_base.specs.declared.fault.Kind.TheVariants.{Stray}
 use Rattle.dw_base.specs.declared.fault.Refusal.{Refusal}
 use Rattle.dw_base.specs.declared.shared.Order.{Order}
 use Rattle.dw_meaning.specs.DataFails.{StartsFail}
 use Rattle.dw_meaning.specs.RelocationFails.{ValueRelocationFails}
 use Rattle.dw_find.specs.NamedStarts.{says_start, says_unit}
-use Rattle.dw_find.specs.UnitPaths.{UnitPaths}
+use Rattle.dw_find.specs.UnitPaths.{UnitPaths, fields_into}
 use Rattle.dw_find.specs.UnitPlaces.{UnitPlaces}
 use Rattle.dw_find.specs.declared.fields.PathField.{PathField}
 
@@ -43,9 +43,9 @@ pub data FieldStrays (order : Order) (section : ℕ) (cells : List Cell) (says :
 -- so does a value of a section of a view that is to say where a line table or a macro unit starts, or its form can't
 pub data SectionStrays (v : View) (starts : List ℕ) (places : UnitPlaces) (u : UnitPaths) : Refusal → Type 0 where
   other_form : (place : ℕ) → u.stray ≡ Some place → SectionStrays v starts places u (at Stray u.number place)
-  no_table : {r : Refusal} → FieldStrays v.order u.number (view_cells v u.number) (says_start v.order (located v Line) starts) u.starts r
+  no_table : {r : Refusal} → FieldStrays v.order u.number (view_cells v u.number) (says_start v.order (located v Line) starts) (fields_into u Line) r
       → SectionStrays v starts places u r
-  no_unit : {r : Refusal} → FieldStrays v.order u.number (view_cells v u.number) (says_unit v.order places) u.macros r → SectionStrays v starts places u r
+  no_unit : {r : Refusal} → FieldStrays v.order u.number (view_cells v u.number) (says_unit v.order places) (fields_into u Macro) r → SectionStrays v starts places u r
 
 -- why what the units of debug data are to say of starts can't be taken: one says none; or its offset can't be read
 pub data StartsRefuse (d : DebugData) : Refusal → Type 0 where

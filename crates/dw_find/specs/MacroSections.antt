@@ -14,8 +14,9 @@ use Rattle.dw_base.specs.declared.fault.Refusal.{Refusal}
 use Rattle.dw_base.specs.declared.macro_units.MacroUnit.{MacroUnit}
 use Rattle.dw_base.specs.declared.shared.Width.{Width}
 use Rattle.dw_base.specs.MacroOffsets.{AreReadUnits, UnitsRefuse}
-use Rattle.dw_base.specs.declared.debug_sections.DebugSection.TheVariants.{Macro}
-use Rattle.dw_find.specs.UnitPaths.{UnitPaths, start_by}
+use Rattle.dw_base.specs.declared.debug_sections.DebugSection.{DebugSection}
+use Rattle.dw_base.specs.declared.debug_sections.DebugSection.TheVariants.{Line, Macro}
+use Rattle.dw_find.specs.UnitPaths.{UnitPaths, start_by, lists_by}
 use Rattle.dw_find.specs.declared.fields.PathField.{PathField}
 
 -- a section of macro units: its number, and its units
@@ -53,9 +54,13 @@ abbrev pub line_fields : List MacroUnit → List PathField
 line_fields [] = []
 line_fields (u ∷ us) = line_field u.line u.line_field u.width ++ line_fields us
 
--- what a section of macro units says of paths and line tables: where these start
+-- what a section of macro units says of paths and line tables: where these start, by the fields of their offsets into `.debug_line`
+abbrev pub starts_into : List PathField → DebugSection → List PathField
+starts_into fields Line = fields
+starts_into fields s = []
+
 abbrev pub macros_with : ℕ → List PathField → UnitPaths
-macros_with number starts = record { number = number; str = []; line_str = []; inline = []; starts = starts; macros = []; stray = None }
+macros_with number starts = record { number = number; fields = lists_by (starts_into starts); inline = []; stray = None }
 
 abbrev pub macros_of : List SectionUnits → List UnitPaths
 macros_of [] = []

@@ -6,10 +6,10 @@ use Rattle.dw_base.specs.FileViews.{View, view_cells}
 use Rattle.dw_base.specs.LineMeanings.{is_there}
 use Rattle.dw_base.specs.UnitHeaders.{UnitSection}
 use Rattle.dw_base.specs.ViewData.{located}
-use Rattle.dw_base.specs.declared.debug_sections.DebugSection.TheVariants.{Line}
+use Rattle.dw_base.specs.declared.debug_sections.DebugSection.TheVariants.{Line, Macro}
 use Rattle.dw_base.specs.declared.shared.Order.{Order}
 use Rattle.dw_find.specs.UnitPlaces.{UnitPlaces, names_place}
-use Rattle.dw_find.specs.UnitPaths.{UnitPaths}
+use Rattle.dw_find.specs.UnitPaths.{UnitPaths, fields_into}
 use Rattle.dw_find.specs.declared.fields.PathField.{PathField}
 
 -- this says each of these fields of a section, by its cells
@@ -28,8 +28,8 @@ says_unit order places p = names_place places (field_of order p)
 -- each value of a section of a view that is to say where a line table starts says one of these starts, and so does one of a macro unit
 pub record SectionStarts (v : View) (starts : List ℕ) (places : UnitPlaces) (u : UnitPaths) : Type 0 where
   pub all_say : u.stray ≡ None
-  pub there : FieldsSay (says_start v.order (located v Line) starts) (view_cells v u.number) u.starts
-  pub units : FieldsSay (says_unit v.order places) (view_cells v u.number) u.macros
+  pub there : FieldsSay (says_start v.order (located v Line) starts) (view_cells v u.number) (fields_into u Line)
+  pub units : FieldsSay (says_unit v.order places) (view_cells v u.number) (fields_into u Macro)
 
 -- the same of the cells of a section of debug data
 abbrev pub StartsNamed : DebugData → List ℕ → List Cell → List PathField → Type 0
@@ -40,8 +40,8 @@ UnitsNamed d places cells fs = FieldsSay (says_unit d.base.order places) cells f
 
 pub record SectionNamed (d : DebugData) (starts : List ℕ) (places : UnitPlaces) (z : UnitSection) (u : UnitPaths) : Type 0 where
   pub all_say : u.stray ≡ None
-  pub named : StartsNamed d starts z.contents u.starts
-  pub units : UnitsNamed d places z.contents u.macros
+  pub named : StartsNamed d starts z.contents (fields_into u Line)
+  pub units : UnitsNamed d places z.contents (fields_into u Macro)
 
 -- in all sections
 abbrev pub AllStarts : DebugData → List ℕ → UnitPlaces → List UnitSection → List UnitPaths → Type 0

@@ -8,9 +8,10 @@ use Rattle.dw_base.specs.OffsetPieces.{OffsetState}
 use Rattle.dw_base.specs.Pieces.{Piece}
 use Rattle.dw_base.specs.SectionTexts.{slot_role}
 use Rattle.dw_base.specs.ViewData.{debug_data}
-use Rattle.dw_base.specs.declared.debug_sections.DebugSection.TheVariants.{Line, StrOffsets}
+use Rattle.dw_base.specs.declared.debug_sections.DebugSection.{DebugSection}
+use Rattle.dw_base.specs.declared.debug_sections.DebugSection.TheVariants.{Str, StrOffsets, Line}
 use Rattle.dw_offsets.specs.declared.slot_fields.PathSlot.{PathSlot}
-use Rattle.dw_find.specs.UnitPaths.{UnitPaths, field_by}
+use Rattle.dw_find.specs.UnitPaths.{UnitPaths, field_by, lists_by}
 use Rattle.dw_find.specs.declared.fields.PathField.{PathField}
 
 -- the fields of slots as fields of paths
@@ -23,9 +24,13 @@ abbrev pub offset_fields : TextSection → List ℕ → List (Piece OffsetState)
 offset_fields table paths [] = []
 offset_fields table paths (x ∷ xs) = field_by table (slot_role paths x.state) x.state.place (length x.cells) ++ offset_fields table paths xs
 
--- what a section of string offsets says of paths, by its number and these fields
+-- what a section of string offsets says of paths, by its number and these fields, which hold offsets into `.debug_str`
+abbrev pub slots_into : List PathField → DebugSection → List PathField
+slots_into fields Str = fields
+slots_into fields s = []
+
 abbrev pub slots_with : ℕ → List PathField → UnitPaths
-slots_with number fields = record { number = number; str = fields; line_str = []; inline = []; starts = []; macros = []; stray = None }
+slots_with number fields = record { number = number; fields = lists_by (slots_into fields); inline = []; stray = None }
 
 -- the same of the section of a view, where there is one
 abbrev pub slots_by : Option ℕ → List PathField → List UnitPaths

@@ -20,7 +20,8 @@ use Rattle.dw_base.specs.UnitHeaders.{UnitBase, UnitSection, IsUnit}
 use Rattle.dw_base.specs.UnitTables.{IsUnitTable}
 use Rattle.dw_base.specs.UnitStates.{Mode, at_values, at_chosen, UnitState, code_value, read_value}
 use Rattle.dw_base.specs.Values.{value_at}
-use Rattle.dw_base.specs.declared.debug_sections.DebugSection.TheVariants.{Str, LineStr, StrOffsets}
+use Rattle.dw_base.specs.declared.debug_sections.DebugSection.{DebugSection}
+use Rattle.dw_base.specs.declared.debug_sections.DebugSection.TheVariants.{Str, LineStr, StrOffsets, Line, Macro}
 use Rattle.dw_base.specs.declared.dwarf_numbers.TheConstants.{DW_AT_GNU_macros, DW_AT_macros, DW_AT_stmt_list, DW_FORM_data4, DW_FORM_data8, DW_FORM_indirect, DW_FORM_sec_offset}
 use Rattle.dw_base.specs.declared.shared.Order.{Order}
 use Rattle.dw_base.specs.declared.shared.Params.{Params}
@@ -30,7 +31,7 @@ use Rattle.dw_base.specs.declared.values.Spec.{Spec}
 use Rattle.dw_base.specs.declared.values.Value.{Value}
 use Rattle.dw_base.specs.declared.values.ValueClass.{ValueClass}
 use Rattle.dw_base.specs.declared.values.ValueClass.TheVariants.{InlineText, Number, StrOffset, LineStrOffset, StrIndex, SecOffset}
-use Rattle.dw_find.specs.UnitPaths.{UnitPaths, field_by, inline_text}
+use Rattle.dw_find.specs.UnitPaths.{UnitPaths, field_by, inline_text, lists_by}
 use Rattle.dw_find.specs.declared.fields.InlinePath.{InlinePath}
 use Rattle.dw_find.specs.declared.fields.PathField.{PathField}
 use Rattle.dw_find.specs.declared.fields.TextBase.{TextBase}
@@ -248,7 +249,15 @@ abbrev pub macros_in : List TextPlace → List PathField
 macros_in [] = []
 macros_in (t ∷ ts) = unit_start_at t.at t.len t.says ++ macros_in ts
 
--- and where the first value begins that can't
+-- the fields among these places that hold offsets into a section of debug data
+abbrev pub places_into : List TextPlace → DebugSection → List PathField
+places_into ts Str = fields_in in_str ts
+places_into ts LineStr = fields_in in_line_str ts
+places_into ts Line = starts_in ts
+places_into ts Macro = macros_in ts
+places_into ts s = []
+
+-- and where the first value begins that can't say a start
 abbrev pub stray_or : ℕ → Indexed → Option ℕ → Option ℕ
 stray_or at no_start o = Some at
 stray_or at i o = o
@@ -334,11 +343,8 @@ numbered_bases g unit (u ∷ us) = bases_among g u.cells unit u.places ++ number
 abbrev pub paths_by : ℕ → List TextPlace → UnitPaths
 paths_by number ts = record {
   number = number;
-  str = fields_in in_str ts;
-  line_str = fields_in in_line_str ts;
+  fields = lists_by (places_into ts);
   inline = inline_in ts;
-  starts = starts_in ts;
-  macros = macros_in ts;
   stray = stray_in ts;
 }
 

@@ -1,7 +1,8 @@
 -- What a unit section says of source paths, by its pieces: the fields that hold offsets of their texts, table by table, and
 -- the paths that stand in their values (DWARF 5, 7.5.5, class string); and the section with new ones.
-use Rattle.std.specs.Prelude.{Bool, true, false, ℕ, List, [], ◌∷◌, ◌++◌, length, take, drop, if◌then◌else◌, Option, Some, None}
+use Rattle.std.specs.Prelude.{Bool, true, false, ℕ, List, [], ◌∷◌, ◌++◌, length, get_or, map, slice_set, take, drop, if◌then◌else◌, Option, Some, None}
 use Rattle.dw_base.specs.Cells.{Cell, bytes_of}
+use Rattle.dw_base.specs.DebugSections.{read_sections}
 use Rattle.dw_base.specs.Readings.{Reading, Readings}
 use Rattle.dw_base.specs.Forms.{TextSection, in_str, in_line_str}
 use Rattle.dw_base.specs.Pieces.{Piece}
@@ -9,6 +10,8 @@ use Rattle.dw_base.specs.Roles.{Role, offset, inline_path, line_start, role_of}
 use Rattle.dw_base.specs.TableStarts.{has_start_form, is_macro_value, value_begin}
 use Rattle.dw_base.specs.Texts.{text}
 use Rattle.dw_base.specs.UnitStates.{UnitState}
+use Rattle.dw_base.specs.declared.debug_sections.DebugSection.{DebugSection}
+use Rattle.dw_base.specs.declared.debug_sections.DebugSection.TheVariants.{Info, Types, Abbrev, Str, LineStr, StrOffsets, Line, Macro, Names}
 use Rattle.dw_find.specs.declared.fields.InlinePath.{InlinePath}
 use Rattle.dw_find.specs.declared.fields.PathField.{PathField}
 
@@ -58,31 +61,78 @@ abbrev pub stray_among : List (Piece UnitState) → Option ℕ
 stray_among [] = None
 stray_among (x ∷ xs) = if has_start_form x then stray_among xs else Some (value_begin x.state)
 
--- what a section says of paths: its number, the fields of each table, and the paths that stand in their values; and of line tables and macro
--- units: the fields that say where they start, and the first value that can't
+-- the fields of pieces that hold offsets into a section of debug data: those of paths into the tables of texts, and those that say where line tables and
+-- macro units start
+abbrev pub pieces_into : List (Piece UnitState) → DebugSection → List PathField
+pieces_into ps Str = path_fields in_str ps
+pieces_into ps LineStr = path_fields in_line_str ps
+pieces_into ps Line = start_fields ps
+pieces_into ps Macro = macro_fields ps
+pieces_into ps s = []
+
+-- what a section says of paths, line tables and macro units: its number, for each section of debug data in the order of the table the fields that hold
+-- offsets into it, the paths that stand in their values, and the first value that is to say a start and can't
 pub record UnitPaths : Type 0 where
   pub number : ℕ
-  pub str : List PathField
-  pub line_str : List PathField
+  pub fields : List (List PathField)
   pub inline : List InlinePath
-  pub starts : List PathField
-  pub macros : List PathField
   pub stray : Option ℕ
+
+-- the place of a section in the table
+abbrev pub table_place : DebugSection → ℕ
+table_place Info = 0
+table_place Types = 1
+table_place Abbrev = 2
+table_place Str = 3
+table_place LineStr = 4
+table_place StrOffsets = 5
+table_place Line = 6
+table_place Macro = 7
+table_place Names = 8
+
+-- the fields that hold offsets into a section, and the lists of those of all
+abbrev pub fields_into : UnitPaths → DebugSection → List PathField
+fields_into u s = get_or u.fields (table_place s) []
+
+abbrev pub lists_by : (DebugSection → List PathField) → List (List PathField)
+lists_by into = map into read_sections
 
 abbrev pub paths_in : Reading → UnitPaths
 paths_in r = record {
   number = r.number;
-  str = path_fields in_str r.pieces;
-  line_str = path_fields in_line_str r.pieces;
+  fields = lists_by (pieces_into r.pieces);
   inline = inline_paths r.pieces;
-  starts = start_fields r.pieces;
-  macros = macro_fields r.pieces;
   stray = stray_among r.pieces;
 }
 
 abbrev pub paths_of : Readings → List UnitPaths
 paths_of [] = []
 paths_of (r ∷ rs) = paths_in r ∷ paths_of rs
+
+-- what a section says, with these fields that hold offsets into a section of debug data in the stead of others, and with one more behind them
+abbrev pub with_fields : UnitPaths → DebugSection → List PathField → UnitPaths
+with_fields u into fs = record { number = u.number; fields = slice_set u.fields (table_place into) fs; inline = u.inline; stray = u.stray }
+
+abbrev pub with_field : UnitPaths → DebugSection → PathField → UnitPaths
+with_field u into f = with_fields u into (fields_into u into ++ f ∷ [])
+
+-- with one more path that stands in its value
+abbrev pub with_inline : UnitPaths → InlinePath → UnitPaths
+with_inline u p = record { number = u.number; fields = u.fields; inline = u.inline ++ p ∷ []; stray = u.stray }
+
+-- with the first place of a value that can't say a start
+abbrev pub stray_first : Option ℕ → ℕ → Option ℕ
+stray_first None place = Some place
+stray_first (Some n) place = Some n
+
+abbrev pub with_stray_at : UnitPaths → ℕ → UnitPaths
+with_stray_at u place = record { number = u.number; fields = u.fields; inline = u.inline; stray = stray_first u.stray place }
+
+-- lists of fields, with others behind each
+abbrev pub each_behind : List (List PathField) → List (List PathField) → List (List PathField)
+each_behind [] ys = []
+each_behind (x ∷ xs) [] = x ∷ xs
+each_behind (x ∷ xs) (y ∷ ys) = (x ++ y) ∷ each_behind xs ys
 
 -- the text of a path that stands in its value
 abbrev pub inline_text : List ℕ → InlinePath → List ℕ

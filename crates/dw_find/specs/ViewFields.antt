@@ -7,11 +7,11 @@ use Rattle.dw_base.specs.Forms.{TextSection, in_str, in_line_str}
 use Rattle.dw_base.specs.Paths.{PathMap}
 use Rattle.dw_base.specs.ViewData.{debug_data}
 use Rattle.dw_base.specs.declared.debug_sections.DebugSection.{DebugSection}
-use Rattle.dw_base.specs.declared.debug_sections.DebugSection.TheVariants.{Str as str_section, LineStr as line_str_section}
+use Rattle.dw_base.specs.declared.debug_sections.DebugSection.TheVariants.{Str as str_section, LineStr as line_str_section, Line, Macro}
 use Rattle.dw_find.specs.Fields.{OffsetTable, AllApart, AreOffsetFields, AreStartFields}
 use Rattle.dw_find.specs.InlineRooms.{AreRooms}
 use Rattle.dw_find.specs.TextPlaces.{InlinesFit}
-use Rattle.dw_find.specs.UnitPaths.{UnitPaths}
+use Rattle.dw_find.specs.UnitPaths.{UnitPaths, fields_into}
 use Rattle.dw_find.specs.declared.fields.PathField.{PathField}
 use Rattle.dw_find.specs.declared.tables.TextsOf.{TextsOf}
 use Rattle.dw_find.specs.declared.tables.TextsOf.TheVariants.{Str, LineStr}
@@ -44,8 +44,8 @@ offsets_in v table = offsets_of (debug_data v) table
 
 -- the fields of paths' offsets into a table
 abbrev pub fields_of : TextSection → UnitPaths → List PathField
-fields_of in_str u = u.str
-fields_of in_line_str u = u.line_str
+fields_of in_str u = fields_into u str_section
+fields_of in_line_str u = fields_into u line_str_section
 
 -- the bytes of a section that says this of paths
 abbrev pub info_of : View → UnitPaths → List ℕ
@@ -54,8 +54,8 @@ info_of v u = section_bytes v u.number
 -- it is there, and each of its fields of paths holds an offset that names a text, by the cells of the section
 pub record HasOffsets (v : View) (u : UnitPaths) : Type 0 where
   pub there : u.number < length v.sections
-  pub str : AreOffsetFields v.order ((debug_data v).found str_section) (view_cells v u.number) u.str
-  pub line_str : AreOffsetFields v.order ((debug_data v).found line_str_section) (view_cells v u.number) u.line_str
+  pub str : AreOffsetFields v.order ((debug_data v).found str_section) (view_cells v u.number) (fields_into u str_section)
+  pub line_str : AreOffsetFields v.order ((debug_data v).found line_str_section) (view_cells v u.number) (fields_into u line_str_section)
 
 abbrev pub AllHaveOffsets : View → List UnitPaths → Type 0
 AllHaveOffsets v [] = ⊤
@@ -65,9 +65,9 @@ AllHaveOffsets v (u ∷ us) = HasOffsets v u × AllHaveOffsets v us
 -- a byte in common, and its paths that stand in their values have rooms
 pub record HasPlaces (v : View) (u : UnitPaths) : Type 0 where
   pub there : u.number < length v.sections
-  pub starts : AreStartFields (info_of v u) u.starts
-  pub macros : AreStartFields (info_of v u) u.macros
-  pub apart : AllApart (u.str ++ (u.line_str ++ u.starts))
+  pub starts : AreStartFields (info_of v u) (fields_into u Line)
+  pub macros : AreStartFields (info_of v u) (fields_into u Macro)
+  pub apart : AllApart (fields_into u str_section ++ (fields_into u line_str_section ++ fields_into u Line))
   pub rooms : AreRooms (info_of v u) u.inline
 
 abbrev pub AllHavePlaces : View → List UnitPaths → Type 0

@@ -9,10 +9,11 @@ use Rattle.dw_base.specs.LineSources.{LineSource}
 use Rattle.dw_base.specs.LineTables.{LineTable}
 use Rattle.dw_base.specs.ViewData.{debug_data}
 use Rattle.dw_base.specs.WrittenLines.{paths_of}
-use Rattle.dw_base.specs.declared.debug_sections.DebugSection.TheVariants.{Line}
+use Rattle.dw_base.specs.declared.debug_sections.DebugSection.{DebugSection}
+use Rattle.dw_base.specs.declared.debug_sections.DebugSection.TheVariants.{Str, LineStr, Line}
 use Rattle.dw_base.specs.declared.line_tables.TextPlace.{TextPlace}
 use Rattle.dw_base.specs.declared.shared.Width.{Width}
-use Rattle.dw_find.specs.UnitPaths.{UnitPaths}
+use Rattle.dw_find.specs.UnitPaths.{UnitPaths, lists_by}
 use Rattle.dw_find.specs.declared.fields.PathField.{PathField}
 
 -- where tables start
@@ -39,15 +40,18 @@ abbrev pub table_fields : ℕ → ℕ → TextSection → List LineTable → Lis
 table_fields section str table [] = []
 table_fields section str table (t ∷ ts) = text_fields section str table t.width (paths_of t) ++ table_fields section str table ts
 
+-- those that hold offsets into a section of debug data, by the number of the first table of texts
+abbrev pub tables_into : ℕ → ℕ → List LineTable → DebugSection → List PathField
+tables_into section str ts Str = table_fields section str in_str ts
+tables_into section str ts LineStr = table_fields section str in_line_str ts
+tables_into section str ts s = []
+
 -- what line tables say of paths
 abbrev pub lines_with : LineSource → List LineTable → UnitPaths
 lines_with g ts = record {
   number = g.number;
-  str = table_fields g.number g.str.number in_str ts;
-  line_str = table_fields g.number g.str.number in_line_str ts;
+  fields = lists_by (tables_into g.number g.str.number ts);
   inline = [];
-  starts = [];
-  macros = [];
   stray = None;
 }
 

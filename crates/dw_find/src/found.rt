@@ -1,43 +1,37 @@
 //! What a pass over a unit section finds of paths, and of texts by index.
 
-ghost use Rattle.std.specs.Prelude.{◌≡◌, ◌⊎◌, ◌+◌, ◌≤◌, ◌<◌, length, IfErr, IfOk};
+ghost use Rattle.std.specs.Prelude.{◌≡◌, ◌⊎◌, ◌+◌, ◌≤◌, ◌<◌, length, map, IfErr, IfOk, OnOk};
 ghost use Rattle.dw_base.specs.Cells.{Located, cells_at, offset_of};
 ghost use Rattle.dw_base.specs.FileViews.{view_cells};
 ghost use Rattle.dw_base.specs.RelocationRows.{OffsetFails};
 ghost use Rattle.dw_base.specs.Texts.{IsNulEnd, ends_in};
-ghost use Rattle.dw_find.specs.EntryTexts.{Found as FoundOf, Tables, TextTables as TablesOf, no_paths, none_found, offset_in, value_field};
-ghost use Rattle.dw_find.specs.UnitPaths.{UnitPaths as PathsOf};
+ghost use Rattle.dw_find.specs.EntryTexts.{Found as FoundOf, Tables, TextTables as TablesOf, base_noted, index_noted, inline_noted, no_paths, none_found, noted, offset_in, stray_noted, value_field};
+ghost use Rattle.dw_find.specs.UnitPaths.{UnitPaths as PathsOf, fields_into, with_field, with_fields, with_inline, with_stray_at};
 
 use crate::field_offsets::offset_at;
 use crate::fields::{InlinePath, PathField, TextBase, TextIndex};
-use dw_base::{Refusal, Value, nul_end};
+use dw_base::{DebugSection, Refusal, Value, nul_end};
 use dw_view::View;
-use std::alloc::Global;
+use std::alloc::{AllocError, Global};
 use std::marker::Model;
 
-/// What a unit section says of paths.
+/// What a section says of paths, line tables and macro units.
 #[derive(Drop)]
 pub struct UnitPaths {
     /// The section's number.
     pub section: u32,
-    /// The fields that hold offsets of paths in `.debug_str`.
-    pub str: Vec<PathField>,
-    /// The same of `.debug_line_str`.
-    pub line_str: Vec<PathField>,
+    /// For each section of debug data, in the order of the table, the fields that hold offsets into it.
+    fields: [Vec<PathField>; 9],
     /// The paths that stand in their values.
     pub inline: Vec<InlinePath>,
-    /// The fields that say where line tables start.
-    pub starts: Vec<PathField>,
-    /// Those that say where macro units start.
-    pub macros: Vec<PathField>,
-    /// Where the first value begins that is to say either, and has a form that can't.
+    /// Where the first value begins that is to say where a line table or a macro unit starts, and has a form that can't.
     pub stray: Option<u64>,
 }
 
 impl Model for UnitPaths {
     ghost Value = { PathsOf };
 
-    ghost view = { λ u. record { number = u.section; str = u.str.items; line_str = u.line_str.items; inline = u.inline.items; starts = u.starts.items; macros = u.macros.items; stray = u.stray } };
+    ghost view = { λ u. record { number = u.section; fields = map (λ l. l.items) u.fields; inline = u.inline.items; stray = u.stray } };
 }
 
 impl UnitPaths {
@@ -47,12 +41,61 @@ impl UnitPaths {
     {
         UnitPaths {
             section,
-            str: Vec::new(alloc),
-            line_str: Vec::new(alloc),
+            fields: [
+                Vec::new(alloc),
+                Vec::new(alloc),
+                Vec::new(alloc),
+                Vec::new(alloc),
+                Vec::new(alloc),
+                Vec::new(alloc),
+                Vec::new(alloc),
+                Vec::new(alloc),
+                Vec::new(alloc),
+            ],
             inline: Vec::new(alloc),
-            starts: Vec::new(alloc),
-            macros: Vec::new(alloc),
             stray: None,
+        }
+    }
+
+    /// The fields that hold offsets into a section of debug data: of paths into the tables of texts, and those that say where
+    /// line tables and macro units start.
+    pub fn fields(&self, into: DebugSection) -> &[PathField]
+        ensures fields { result.now ≡ fields_into self.now into }
+    {
+        self.fields[into as usize].as_slice()
+    }
+
+    /// Puts these fields in the stead of those that hold offsets into a section.
+    #[tactic(auto, using(crate::proofs::FieldListLaws::list_rules))]
+    pub(crate) fn put(&mut self, into: DebugSection, fields: Vec<PathField>)
+        ensures { self.new ≡ with_fields self.old into fields.items }
+    {
+        self.fields[into as usize] = fields;
+    }
+
+    /// Adds a field that holds an offset into a section, behind those that do.
+    #[tactic(auto, using(crate::proofs::FieldListLaws::list_rules))]
+    pub(crate) fn push(&mut self, into: DebugSection, field: PathField) -> Result<(), AllocError>
+        ensures { OnOk result (self.new ≡ with_field self.old into field) }
+    {
+        self.fields[into as usize].push(field)?;
+        Ok(())
+    }
+
+    /// Adds a path that stands in its value.
+    pub(crate) fn push_inline(&mut self, path: InlinePath) -> Result<(), AllocError>
+        ensures { OnOk result (self.new ≡ with_inline self.old path) }
+    {
+        self.inline.push(path)?;
+        Ok(())
+    }
+
+    /// Keeps where a value begins that is to say a start and can't, where none is kept yet.
+    pub(crate) fn keep_stray(&mut self, place: u64)
+        ensures { self.new ≡ with_stray_at self.old place }
+    {
+        if self.stray.is_none() {
+            self.stray = Some(place);
         }
     }
 }
@@ -85,6 +128,50 @@ impl Found {
             base: None,
             indexes: Vec::new(alloc),
         }
+    }
+
+    /// Adds a field that holds an offset into a section.
+    pub(crate) fn push_field(
+        &mut self,
+        into: DebugSection,
+        field: PathField,
+    ) -> Result<(), AllocError>
+        ensures { OnOk result (self.new ≡ noted self.old into field) }
+    {
+        self.paths.push(into, field)?;
+        Ok(())
+    }
+
+    /// Adds a path that stands in its value.
+    pub(crate) fn push_inline(&mut self, path: InlinePath) -> Result<(), AllocError>
+        ensures { OnOk result (self.new ≡ inline_noted self.old path) }
+    {
+        self.paths.push_inline(path)?;
+        Ok(())
+    }
+
+    /// Adds a value that names a text by index.
+    pub(crate) fn push_index(&mut self, index: TextIndex) -> Result<(), AllocError>
+        ensures { OnOk result (self.new ≡ index_noted self.old index) }
+    {
+        self.indexes.push(index)?;
+        Ok(())
+    }
+
+    /// Keeps the base of the unit, where none is kept yet.
+    pub(crate) fn keep_base(&mut self, base: TextBase)
+        ensures { self.new ≡ base_noted self.old base }
+    {
+        if self.base.is_none() {
+            self.base = Some(base);
+        }
+    }
+
+    /// Keeps where a value begins that is to say a start and can't, where none is kept yet.
+    pub(crate) fn keep_stray(&mut self, place: u64)
+        ensures { self.new ≡ stray_noted self.old place }
+    {
+        self.paths.keep_stray(place);
     }
 
     /// The unit ends: what it says by index is forgotten.

@@ -86,15 +86,10 @@ fn lines_with(
     let first = table_number(view, TextsOf::Str);
     let str = table_fields(alloc, section, first, TextsOf::Str, tables)?;
     let line_str = table_fields(alloc, section, first, TextsOf::LineStr, tables)?;
-    Ok(UnitPaths {
-        section,
-        str,
-        line_str,
-        inline: Vec::new(alloc),
-        starts: Vec::new(alloc),
-        macros: Vec::new(alloc),
-        stray: None,
-    })
+    let mut paths = UnitPaths::new(alloc, section);
+    paths.put(DebugSection::Str, str);
+    paths.put(DebugSection::LineStr, line_str);
+    Ok(paths)
 }
 
 /// The fields of the tables' paths that lie in a table of texts.

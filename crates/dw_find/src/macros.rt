@@ -93,19 +93,14 @@ pub(crate) fn push_macros(
 }
 
 /// What a section of macro units says of line tables: where they start.
+#[tactic(auto, using(crate::proofs::MacroSectionLaws::with_rules))]
 fn macros_with(alloc: Global, section: &MacroSection) -> Result<UnitPaths, AllocError>
     ensures { IfOk result (λ u. u ≡ macros_with section.now.number (line_fields section.now.units)) }
 {
     let starts = line_fields(alloc, units_of(section))?;
-    Ok(UnitPaths {
-        section: number_of(section),
-        str: Vec::new(alloc),
-        line_str: Vec::new(alloc),
-        inline: Vec::new(alloc),
-        starts,
-        macros: Vec::new(alloc),
-        stray: None,
-    })
+    let mut paths = UnitPaths::new(alloc, number_of(section));
+    paths.put(DebugSection::Line, starts);
+    Ok(paths)
 }
 
 /// The fields of the offsets of the line tables of units.

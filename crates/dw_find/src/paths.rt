@@ -147,15 +147,9 @@ fn slots_with(alloc: Global, section: u32, slots: &[PathSlot]) -> Result<UnitPat
     ensures paths { IfOk result (λ u. u ≡ slots_with section (as_fields slots.now)) }
 {
     let str = path_fields(alloc, slots)?;
-    Ok(UnitPaths {
-        section,
-        str,
-        line_str: Vec::new(alloc),
-        inline: Vec::new(alloc),
-        starts: Vec::new(alloc),
-        macros: Vec::new(alloc),
-        stray: None,
-    })
+    let mut paths = UnitPaths::new(alloc, section);
+    paths.put(DebugSection::Str, str);
+    Ok(paths)
 }
 
 /// The fields of slots as fields of paths.

@@ -64,8 +64,18 @@ fn section_starts(
     if let Some(place) = found.stray {
         return Err(stray(found.section, place));
     }
-    lines_start(view, found.section, starts, found.starts.as_slice())?;
-    units_start(view, found.section, places, found.macros.as_slice())?;
+    lines_start(
+        view,
+        found.section,
+        starts,
+        found.fields(DebugSection::Line),
+    )?;
+    units_start(
+        view,
+        found.section,
+        places,
+        found.fields(DebugSection::Macro),
+    )?;
     Ok(())
 }
 

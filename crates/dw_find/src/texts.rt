@@ -21,7 +21,8 @@ use dw_base::dwarf_numbers::{
     DW_FORM_indirect, DW_FORM_sec_offset,
 };
 use dw_base::{
-    Fault, Kind, Refusal, Spec, UnitHeader, Value, ValueClass, is_base, is_path, uleb_at,
+    DebugSection, Fault, Kind, Refusal, Spec, UnitHeader, Value, ValueClass, is_base, is_path,
+    uleb_at,
 };
 use dw_forms::value_at;
 use std::alloc::AllocError;
@@ -189,13 +190,13 @@ fn says_start(spec: &Spec, bytes: &[u8], place: u64) -> bool
 }
 
 /// Notes the field of a value that says where a line table starts.
-#[tactic(auto, using(crate::proofs::EntryTextLaws::note_rules), unfolding(crate::specs::EntryTexts::with_places, crate::specs::EntryTexts::with_paths))]
+#[tactic(auto, using(crate::proofs::EntryTextLaws::start_rules))]
 fn note_start(says: bool, value: &Value, found: &mut Found) -> Result<(), AllocError>
     requires sized { says ≡ true → (value.now.len ≡ 4) ⊎ (value.now.len ≡ 8) }
     ensures found { OnOk result (found.new ≡ with_places found.old (line_at says value.now)) }
 {
     if says {
-        found.paths.starts.push(field_of(value))?;
+        found.push_field(DebugSection::Line, field_of(value))?;
     }
     Ok(())
 }
@@ -227,27 +228,25 @@ fn note_said(
 }
 
 /// Notes where the first value begins that is to say a start, and has a form that can't.
-#[tactic(auto, using(crate::proofs::EntryTextLaws::note_rules), unfolding(crate::specs::EntryTexts::with_places, crate::specs::EntryTexts::with_paths))]
+#[tactic(auto, using(crate::proofs::EntryTextLaws::start_rules))]
 fn note_stray(place: u64, found: &mut Found)
     ensures found { found.new ≡ with_places found.old (indexed_at place no_start) }
 {
-    if found.paths.stray.is_none() {
-        found.paths.stray = Some(place);
-    }
+    found.keep_stray(place);
 }
 
 /// Notes the field of a value that says where a macro unit starts.
-#[tactic(auto, using(crate::proofs::EntryTextLaws::note_rules), unfolding(crate::specs::EntryTexts::with_places, crate::specs::EntryTexts::with_paths))]
+#[tactic(auto, using(crate::proofs::EntryTextLaws::start_rules))]
 fn note_unit(value: &Value, found: &mut Found) -> Result<(), AllocError>
     requires sized { (value.now.len ≡ 4) ⊎ (value.now.len ≡ 8) }
     ensures found { OnOk result (found.new ≡ with_places found.old (said_value true true 0 value.now)) }
 {
-    found.paths.macros.push(field_of(value))?;
+    found.push_field(DebugSection::Macro, field_of(value))?;
     Ok(())
 }
 
 /// Notes what a value at a place says of a path or by index, where it is a path's or a base's, or an index.
-#[tactic(auto, using(crate::proofs::EntryTextLaws::note_rules), unfolding(crate::specs::EntryTexts::with_places, crate::specs::EntryTexts::with_paths))]
+#[tactic(auto, using(crate::proofs::EntryTextLaws::note_rules))]
 fn note_value(
     texts: &SectionTexts,
     spec: &Spec,
@@ -269,31 +268,31 @@ fn note_value(
         ValueClass::StrOffset => {
             offset_names(texts, texts.str(), value)?;
             if path {
-                found.paths.str.push(field_of(value))?;
+                found.push_field(DebugSection::Str, field_of(value))?;
             }
         }
         ValueClass::LineStrOffset => {
             offset_names(texts, texts.line_str(), value)?;
             if path {
-                found.paths.line_str.push(field_of(value))?;
+                found.push_field(DebugSection::LineStr, field_of(value))?;
             }
         }
         ValueClass::InlineText => {
             if path {
-                found.paths.inline.push(InlinePath {
+                found.push_inline(InlinePath {
                     at: value.at,
                     len: value.len,
                 })?;
             }
         }
-        ValueClass::StrIndex => found.indexes.push(TextIndex {
+        ValueClass::StrIndex => found.push_index(TextIndex {
             place,
             path,
             index: value.number,
         })?,
         ValueClass::Number | ValueClass::SecOffset => {
-            if base && found.base.is_none() {
-                found.base = Some(text_base(is_start_form(own_form(spec, bytes, place)), value));
+            if base {
+                found.keep_base(text_base(is_start_form(own_form(spec, bytes, place)), value));
             }
         }
         _ => {}

@@ -5,3 +5,4 @@ pub mod ViewTables
 pub mod PlainOpcodes
 pub mod HeaderFields
 pub mod TableMoves
+pub mod NewTexts

@@ -2,14 +2,14 @@
 //!
 //! Read first: `WrittenLines` in `dw_base/specs`, then `specs/ChangeSteps.antt`.
 
-ghost use Rattle.std.specs.Prelude.{◌≡◌, ◌+◌, ◌≤◌, ◌<◌, ◌^◌, ◌==◌, ◌++◌, if◌then◌else◌, length, nat_eq, IfOk, IfErr, OnOk};
-ghost use Rattle.std.specs.HashMap.{get};
+ghost use Rattle.std.specs.Prelude.{◌≡◌, ◌+◌, ◌≤◌, ◌<◌, ◌^◌, ◌==◌, ◌++◌, if◌then◌else◌, length, IfOk, IfErr, OnOk};
 ghost use Rattle.dw_base.specs.Cells.{bytes_of, cells_at};
 ghost use Rattle.dw_base.specs.FileViews.{section_bytes, view_cells};
 ghost use Rattle.dw_base.specs.Forms.{width_size};
 ghost use Rattle.dw_base.specs.NewOffsets.{with_offset};
 ghost use Rattle.dw_base.specs.ViewData.{located};
-ghost use Rattle.dw_base.specs.declared.debug_sections.DebugSection.TheVariants.{Str};
+ghost use Rattle.dw_base.specs.declared.debug_sections.DebugSection.TheVariants.{LineStr, Str};
+ghost use Rattle.dw_lines.specs.NewTexts.{texts_known};
 ghost use Rattle.dw_lines.specs.ViewSources.{view_source};
 ghost use Rattle.dw_lines.specs.OffsetRooms.{AllHaveRoom, HasRoom};
 ghost use Rattle.dw_lines.specs.ChangeSteps.{after_changes, fits_width, offset_fits, OffsetsFit};
@@ -17,12 +17,12 @@ ghost use Rattle.dw_base.specs.LineWriteFails.{WideOffset};
 ghost use Rattle.dw_base.specs.WrittenLines.{all_changes, bytes_at, new_place, part, path_changes};
 ghost use Rattle.dw_base.specs.LineTables.{texts_of};
 
+use crate::new_texts::NewTexts;
 use crate::parts::{bytes_at, part, push_number};
 use dw_base::{DebugSection, FilePlace, Kind, NoMemory, Refusal, TextPlace, Width};
 use dw_paths::{Maps, map_path};
 use dw_view::View;
 use std::alloc::{AllocError, Global};
-use std::collections::HashMap;
 
 /// The paths of a header: of its directories, then of its files.
 pub(crate) fn paths_of(
@@ -51,18 +51,13 @@ fn str_section(view: &View) -> u32
 }
 
 /// The new place of a text, of those that are known in `.debug_str` and in `.debug_line_str`.
-pub(crate) fn new_place(
-    view: &View,
-    str: &HashMap<u64, u64>,
-    line_str: &HashMap<u64, u64>,
-    path: &TextPlace,
-) -> Option<u64>
-    ensures place { result ≡ (if path.now.section == (located view.now Str).number then get nat_eq str.now path.now.at else get nat_eq line_str.now path.now.at) }
+pub(crate) fn new_place(view: &View, texts: &NewTexts, path: &TextPlace) -> Option<u64>
+    ensures place { result ≡ (if path.now.section == (located view.now Str).number then texts_known texts.now Str path.now.at else texts_known texts.now LineStr path.now.at) }
 {
     if path.section == str_section(view) {
-        return str.get(&path.at).copied();
+        return texts.get(DebugSection::Str, path.at);
     }
-    line_str.get(&path.at).copied()
+    texts.get(DebugSection::LineStr, path.at)
 }
 
 /// A new offset, where there is one, fits its field.
@@ -92,17 +87,16 @@ fn offset_fits(section: u32, width: Width, place: Option<u64>, path: &TextPlace)
 #[tactic(auto, using(crate::proofs::ChangeLaws::fit_laws))]
 pub(crate) fn check_offsets(
     view: &View,
-    str: &HashMap<u64, u64>,
-    line_str: &HashMap<u64, u64>,
+    texts: &NewTexts,
     section: u32,
     width: Width,
     paths: &[TextPlace],
 ) -> Result<(), Refusal>
-    ensures fit { OnOk result (OffsetsFit section width (new_place (view_source view.now section) (λ o. get nat_eq str.now o) (λ o. get nat_eq line_str.now o)) paths.now) }
-    ensures refused { IfErr result (WideOffset section width (new_place (view_source view.now section) (λ o. get nat_eq str.now o) (λ o. get nat_eq line_str.now o)) paths.now) }
+    ensures fit { OnOk result (OffsetsFit section width (new_place (view_source view.now section) (texts_known texts.now Str) (texts_known texts.now LineStr)) paths.now) }
+    ensures refused { IfErr result (WideOffset section width (new_place (view_source view.now section) (texts_known texts.now Str) (texts_known texts.now LineStr)) paths.now) }
 {
     for path in paths {
-        let place = new_place(view, str, line_str, path);
+        let place = new_place(view, texts, path);
         if !offset_fits(section, width, place, path) {
             return Err(Refusal::at(Kind::TooWide, section, path.field));
         }
@@ -163,8 +157,7 @@ fn put_path(
     alloc: Global,
     view: &View,
     maps: &Maps,
-    str: &HashMap<u64, u64>,
-    line_str: &HashMap<u64, u64>,
+    texts: &NewTexts,
     section: u32,
     width: Width,
     path: &TextPlace,
@@ -173,7 +166,7 @@ fn put_path(
 ) -> Result<u64, NoMemory>
     requires there { section < length view.now.sections }
     requires room { HasRoom section width (length (section_bytes view.now section)) path.now }
-    ensures put { IfOk result (λ next. (out.new.items, next) ≡ after_changes (section_bytes view.now section) (out.old.items, from) (path_changes (view_source view.now section) maps.now (new_place (view_source view.now section) (λ o. get nat_eq str.now o) (λ o. get nat_eq line_str.now o)) width path.now)) }
+    ensures put { IfOk result (λ next. (out.new.items, next) ≡ after_changes (section_bytes view.now section) (out.old.items, from) (path_changes (view_source view.now section) maps.now (new_place (view_source view.now section) (texts_known texts.now Str) (texts_known texts.now LineStr)) width path.now)) }
 {
     let bytes = view.bytes(section);
     if path.section == section {
@@ -182,7 +175,7 @@ fn put_path(
         push_change(out, bytes, from, path.at, &mapped)?;
         return Ok(behind(bytes, path.at, path.len));
     }
-    let Some(place) = new_place(view, str, line_str, path) else {
+    let Some(place) = new_place(view, texts, path) else {
         return Ok(from);
     };
     push_offset(view, out, section, bytes, from, path.field, width, place)?;
@@ -196,8 +189,7 @@ pub(crate) fn put_paths(
     alloc: Global,
     view: &View,
     maps: &Maps,
-    str: &HashMap<u64, u64>,
-    line_str: &HashMap<u64, u64>,
+    texts: &NewTexts,
     section: u32,
     width: Width,
     paths: &[TextPlace],
@@ -206,13 +198,11 @@ pub(crate) fn put_paths(
 ) -> Result<u64, NoMemory>
     requires there { section < length view.now.sections }
     requires rooms { AllHaveRoom section width (length (section_bytes view.now section)) paths.now }
-    ensures put { IfOk result (λ next. (out.new.items, next) ≡ after_changes (section_bytes view.now section) (out.old.items, from) (all_changes (view_source view.now section) maps.now (new_place (view_source view.now section) (λ o. get nat_eq str.now o) (λ o. get nat_eq line_str.now o)) width paths.now)) }
+    ensures put { IfOk result (λ next. (out.new.items, next) ≡ after_changes (section_bytes view.now section) (out.old.items, from) (all_changes (view_source view.now section) maps.now (new_place (view_source view.now section) (texts_known texts.now Str) (texts_known texts.now LineStr)) width paths.now)) }
 {
     let mut place = from;
     for path in paths {
-        place = put_path(
-            alloc, view, maps, str, line_str, section, width, path, place, out,
-        )?;
+        place = put_path(alloc, view, maps, texts, section, width, path, place, out)?;
     }
     Ok(place)
 }

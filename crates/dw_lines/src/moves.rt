@@ -5,16 +5,18 @@
 //! with the number of paths.
 //! Read first: `LineStretches` in `dw_meaning/specs`, then `specs/TableMoves.antt`.
 
-ghost use Rattle.std.specs.Prelude.{◌≡◌, ◌+◌, ◌-◌, ◌≤◌, ◌<◌, ◌^◌, ◌++◌, ◌∷◌, [], length, nat_eq, IfOk, OnOk};
-ghost use Rattle.std.specs.HashMap.{get};
+ghost use Rattle.std.specs.Prelude.{◌≡◌, ◌+◌, ◌-◌, ◌≤◌, ◌<◌, ◌^◌, ◌++◌, ◌∷◌, [], length, IfOk, OnOk};
 ghost use Rattle.dw_base.specs.Forms.{width_size};
 ghost use Rattle.dw_base.specs.LineTables.{IsLineTable};
 ghost use Rattle.dw_base.specs.WrittenLines.{behind_lengths, new_place};
+ghost use Rattle.dw_base.specs.declared.debug_sections.DebugSection.TheVariants.{LineStr, Str};
 ghost use Rattle.dw_lines.specs.TableMoves.{InOrder, PathsInOrder, header_runs, header_start, kept_run, last_runs, new_end, offsets_from, passed, passed_runs, placed_offsets, runs_from};
+ghost use Rattle.dw_lines.specs.NewTexts.{texts_known};
 ghost use Rattle.dw_lines.specs.ViewSources.{view_source};
 ghost use Rattle.dw_meaning.specs.LineStretches.{all_path_stretches, path_stretches, table_stretches};
 
 use crate::changes::{new_place, paths_of};
+use crate::new_texts::NewTexts;
 use crate::parts::bytes_at;
 use crate::table::LineTable;
 use crate::written::{header_length_place, header_of};
@@ -23,7 +25,6 @@ use dw_paths::{Maps, map_len};
 use dw_view::View;
 use elf_relocs::Run;
 use std::alloc::{AllocError, Global};
-use std::collections::HashMap;
 
 /// A field of a section, and the offset that it is to say.
 #[derive(Clone, Copy, Debug, PartialEq, Eq, Drop)]
@@ -105,8 +106,7 @@ fn pass_offset(
 fn pass_path(
     view: &View,
     maps: &Maps,
-    str: &HashMap<u64, u64>,
-    line_str: &HashMap<u64, u64>,
+    texts: &NewTexts,
     section: u32,
     width: Width,
     path: &TextPlace,
@@ -115,11 +115,11 @@ fn pass_path(
     offsets: &mut Vec<FieldOffset>,
 ) -> Result<Run, AllocError>
     requires there { section < length view.now.sections }
-    requires order { InOrder at.old (2 ^ 31) (path_stretches (view_source view.now section) maps.now (new_place (view_source view.now section) (λ o. get nat_eq str.now o) (λ o. get nat_eq line_str.now o)) width path.now) }
-    requires fits { (passed at (path_stretches (view_source view.now section) maps.now (new_place (view_source view.now section) (λ o. get nat_eq str.now o) (λ o. get nat_eq line_str.now o)) width path.now)).new < 2 ^ 64 }
-    ensures next { IfOk result (λ s. s ≡ passed at (path_stretches (view_source view.now section) maps.now (new_place (view_source view.now section) (λ o. get nat_eq str.now o) (λ o. get nat_eq line_str.now o)) width path.now)) }
-    ensures runs { OnOk result (runs.new.items ≡ runs.old.items ++ passed_runs at (path_stretches (view_source view.now section) maps.now (new_place (view_source view.now section) (λ o. get nat_eq str.now o) (λ o. get nat_eq line_str.now o)) width path.now)) }
-    ensures offsets { OnOk result (offsets.new.items ≡ offsets.old.items ++ placed_offsets (path_stretches (view_source view.now section) maps.now (new_place (view_source view.now section) (λ o. get nat_eq str.now o) (λ o. get nat_eq line_str.now o)) width path.now)) }
+    requires order { InOrder at.old (2 ^ 31) (path_stretches (view_source view.now section) maps.now (new_place (view_source view.now section) (texts_known texts.now Str) (texts_known texts.now LineStr)) width path.now) }
+    requires fits { (passed at (path_stretches (view_source view.now section) maps.now (new_place (view_source view.now section) (texts_known texts.now Str) (texts_known texts.now LineStr)) width path.now)).new < 2 ^ 64 }
+    ensures next { IfOk result (λ s. s ≡ passed at (path_stretches (view_source view.now section) maps.now (new_place (view_source view.now section) (texts_known texts.now Str) (texts_known texts.now LineStr)) width path.now)) }
+    ensures runs { OnOk result (runs.new.items ≡ runs.old.items ++ passed_runs at (path_stretches (view_source view.now section) maps.now (new_place (view_source view.now section) (texts_known texts.now Str) (texts_known texts.now LineStr)) width path.now)) }
+    ensures offsets { OnOk result (offsets.new.items ≡ offsets.old.items ++ placed_offsets (path_stretches (view_source view.now section) maps.now (new_place (view_source view.now section) (texts_known texts.now Str) (texts_known texts.now LineStr)) width path.now)) }
 {
     if path.section == section {
         let old = bytes_at(view.bytes(section), path.at, path.len);
@@ -127,7 +127,7 @@ fn pass_path(
         let next = pass_other(at, path.at, path.len, len, runs)?;
         return Ok(next);
     }
-    let Some(place) = new_place(view, str, line_str, path) else {
+    let Some(place) = new_place(view, texts, path) else {
         return Ok(at);
     };
     let next = pass_offset(at, path.field, width, place, runs, offsets)?;
@@ -138,8 +138,7 @@ fn pass_path(
 fn pass_paths(
     view: &View,
     maps: &Maps,
-    str: &HashMap<u64, u64>,
-    line_str: &HashMap<u64, u64>,
+    texts: &NewTexts,
     section: u32,
     width: Width,
     paths: &[TextPlace],
@@ -148,17 +147,15 @@ fn pass_paths(
     offsets: &mut Vec<FieldOffset>,
 ) -> Result<Run, AllocError>
     requires there { section < length view.now.sections }
-    requires order { InOrder start.old (2 ^ 31) (all_path_stretches (view_source view.now section) maps.now (new_place (view_source view.now section) (λ o. get nat_eq str.now o) (λ o. get nat_eq line_str.now o)) width paths.now) }
-    requires fits { (passed start (all_path_stretches (view_source view.now section) maps.now (new_place (view_source view.now section) (λ o. get nat_eq str.now o) (λ o. get nat_eq line_str.now o)) width paths.now)).new < 2 ^ 64 }
-    ensures next { IfOk result (λ s. s ≡ passed start (all_path_stretches (view_source view.now section) maps.now (new_place (view_source view.now section) (λ o. get nat_eq str.now o) (λ o. get nat_eq line_str.now o)) width paths.now)) }
-    ensures runs { OnOk result (runs.new.items ≡ runs.old.items ++ passed_runs start (all_path_stretches (view_source view.now section) maps.now (new_place (view_source view.now section) (λ o. get nat_eq str.now o) (λ o. get nat_eq line_str.now o)) width paths.now)) }
-    ensures offsets { OnOk result (offsets.new.items ≡ offsets.old.items ++ placed_offsets (all_path_stretches (view_source view.now section) maps.now (new_place (view_source view.now section) (λ o. get nat_eq str.now o) (λ o. get nat_eq line_str.now o)) width paths.now)) }
+    requires order { InOrder start.old (2 ^ 31) (all_path_stretches (view_source view.now section) maps.now (new_place (view_source view.now section) (texts_known texts.now Str) (texts_known texts.now LineStr)) width paths.now) }
+    requires fits { (passed start (all_path_stretches (view_source view.now section) maps.now (new_place (view_source view.now section) (texts_known texts.now Str) (texts_known texts.now LineStr)) width paths.now)).new < 2 ^ 64 }
+    ensures next { IfOk result (λ s. s ≡ passed start (all_path_stretches (view_source view.now section) maps.now (new_place (view_source view.now section) (texts_known texts.now Str) (texts_known texts.now LineStr)) width paths.now)) }
+    ensures runs { OnOk result (runs.new.items ≡ runs.old.items ++ passed_runs start (all_path_stretches (view_source view.now section) maps.now (new_place (view_source view.now section) (texts_known texts.now Str) (texts_known texts.now LineStr)) width paths.now)) }
+    ensures offsets { OnOk result (offsets.new.items ≡ offsets.old.items ++ placed_offsets (all_path_stretches (view_source view.now section) maps.now (new_place (view_source view.now section) (texts_known texts.now Str) (texts_known texts.now LineStr)) width paths.now)) }
 {
     let mut at = start;
     for path in paths {
-        at = pass_path(
-            view, maps, str, line_str, section, width, path, at, runs, offsets,
-        )?;
+        at = pass_path(view, maps, texts, section, width, path, at, runs, offsets)?;
     }
     Ok(at)
 }
@@ -186,8 +183,7 @@ fn push_last(header: &LineHeader, at: Run, runs: &mut Vec<Run>) -> Result<(), Al
 fn push_header(
     view: &View,
     maps: &Maps,
-    str: &HashMap<u64, u64>,
-    line_str: &HashMap<u64, u64>,
+    texts: &NewTexts,
     section: u32,
     header: &LineHeader,
     paths: &[TextPlace],
@@ -198,10 +194,10 @@ fn push_header(
     requires there { section < length view.now.sections }
     requires small { header.now.start ≤ 2 ^ 31 }
     requires near { header.now.program ≤ 2 ^ 31 }
-    requires order { InOrder (behind_lengths header.now.start header.now.width header.now.version) header.now.program (all_path_stretches (view_source view.now section) maps.now (new_place (view_source view.now section) (λ o. get nat_eq str.now o) (λ o. get nat_eq line_str.now o)) header.now.width paths.now) }
-    requires fits { (passed (header_start header.now new) (all_path_stretches (view_source view.now section) maps.now (new_place (view_source view.now section) (λ o. get nat_eq str.now o) (λ o. get nat_eq line_str.now o)) header.now.width paths.now)).new + header.now.program < 2 ^ 64 }
-    ensures runs { OnOk result (runs.new.items ≡ runs.old.items ++ header_runs header.now new (all_path_stretches (view_source view.now section) maps.now (new_place (view_source view.now section) (λ o. get nat_eq str.now o) (λ o. get nat_eq line_str.now o)) header.now.width paths.now)) }
-    ensures offsets { OnOk result (offsets.new.items ≡ offsets.old.items ++ placed_offsets (all_path_stretches (view_source view.now section) maps.now (new_place (view_source view.now section) (λ o. get nat_eq str.now o) (λ o. get nat_eq line_str.now o)) header.now.width paths.now)) }
+    requires order { InOrder (behind_lengths header.now.start header.now.width header.now.version) header.now.program (all_path_stretches (view_source view.now section) maps.now (new_place (view_source view.now section) (texts_known texts.now Str) (texts_known texts.now LineStr)) header.now.width paths.now) }
+    requires fits { (passed (header_start header.now new) (all_path_stretches (view_source view.now section) maps.now (new_place (view_source view.now section) (texts_known texts.now Str) (texts_known texts.now LineStr)) header.now.width paths.now)).new + header.now.program < 2 ^ 64 }
+    ensures runs { OnOk result (runs.new.items ≡ runs.old.items ++ header_runs header.now new (all_path_stretches (view_source view.now section) maps.now (new_place (view_source view.now section) (texts_known texts.now Str) (texts_known texts.now LineStr)) header.now.width paths.now)) }
+    ensures offsets { OnOk result (offsets.new.items ≡ offsets.old.items ++ placed_offsets (all_path_stretches (view_source view.now section) maps.now (new_place (view_source view.now section) (texts_known texts.now Str) (texts_known texts.now LineStr)) header.now.width paths.now)) }
 {
     let size = header.width.length_size();
     let number = header_length_place(header);
@@ -215,8 +211,7 @@ fn push_header(
     let last = pass_paths(
         view,
         maps,
-        str,
-        line_str,
+        texts,
         section,
         header.width,
         paths,
@@ -238,24 +233,23 @@ impl LineTable {
         alloc: Global,
         view: &View,
         maps: &Maps,
-        str: &HashMap<u64, u64>,
-        line_str: &HashMap<u64, u64>,
+        texts: &NewTexts,
         new: u64,
         runs: &mut Vec<Run>,
         offsets: &mut Vec<FieldOffset>,
     ) -> Result<(), AllocError>
         requires there { self.now.section < length view.now.sections }
         requires table { IsLineTable (view_source view.now self.now.section) self.now.start self.now }
-        requires order { PathsInOrder (view_source view.now self.now.section) maps.now (new_place (view_source view.now self.now.section) (λ o. get nat_eq str.now o) (λ o. get nat_eq line_str.now o)) self.now }
-        requires fits { new_end new (table_stretches (view_source view.now self.now.section) maps.now (new_place (view_source view.now self.now.section) (λ o. get nat_eq str.now o) (λ o. get nat_eq line_str.now o)) self.now) < 2 ^ 63 }
-        ensures runs { OnOk result (runs.new.items ≡ runs.old.items ++ runs_from self.now.start new (table_stretches (view_source view.now self.now.section) maps.now (new_place (view_source view.now self.now.section) (λ o. get nat_eq str.now o) (λ o. get nat_eq line_str.now o)) self.now)) }
-        ensures offsets { OnOk result (offsets.new.items ≡ offsets.old.items ++ offsets_from self.now.start (table_stretches (view_source view.now self.now.section) maps.now (new_place (view_source view.now self.now.section) (λ o. get nat_eq str.now o) (λ o. get nat_eq line_str.now o)) self.now)) }
+        requires order { PathsInOrder (view_source view.now self.now.section) maps.now (new_place (view_source view.now self.now.section) (texts_known texts.now Str) (texts_known texts.now LineStr)) self.now }
+        requires fits { new_end new (table_stretches (view_source view.now self.now.section) maps.now (new_place (view_source view.now self.now.section) (texts_known texts.now Str) (texts_known texts.now LineStr)) self.now) < 2 ^ 63 }
+        ensures runs { OnOk result (runs.new.items ≡ runs.old.items ++ runs_from self.now.start new (table_stretches (view_source view.now self.now.section) maps.now (new_place (view_source view.now self.now.section) (texts_known texts.now Str) (texts_known texts.now LineStr)) self.now)) }
+        ensures offsets { OnOk result (offsets.new.items ≡ offsets.old.items ++ offsets_from self.now.start (table_stretches (view_source view.now self.now.section) maps.now (new_place (view_source view.now self.now.section) (texts_known texts.now Str) (texts_known texts.now LineStr)) self.now)) }
     {
         let section = self.section;
         let header = header_of(view, section, self.start);
         let paths = paths_of(alloc, &self.dirs, &self.files)?;
         push_header(
-            view, maps, str, line_str, section, &header, &paths, new, runs, offsets,
+            view, maps, texts, section, &header, &paths, new, runs, offsets,
         )?;
         Ok(())
     }

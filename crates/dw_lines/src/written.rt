@@ -4,12 +4,13 @@
 //! new length or offset doesn't fit its field, or the program defines a file whose path changes.
 //! Read first: `WrittenLines` and `LineWriteFails` in `dw_base/specs`.
 
-ghost use Rattle.std.specs.Prelude.{◌≡◌, ◌↔◌, ◌+◌, ◌-◌, ◌≤◌, ◌<◌, ◌^◌, ◌++◌, [], length, nat_eq, Some, IsSome, IsTrue, IfOk, IfErr, OnOk};
-ghost use Rattle.std.specs.HashMap.{get};
+ghost use Rattle.std.specs.Prelude.{◌≡◌, ◌↔◌, ◌+◌, ◌-◌, ◌≤◌, ◌<◌, ◌^◌, ◌++◌, [], length, Some, IsSome, IsTrue, IfOk, IfErr, OnOk};
 ghost use Rattle.dw_base.specs.FileViews.{section_bytes};
 ghost use Rattle.dw_lines.specs.OffsetRooms.{AllHaveRoom};
+ghost use Rattle.dw_lines.specs.NewTexts.{texts_known};
 ghost use Rattle.dw_lines.specs.ViewSources.{view_source};
 ghost use Rattle.dw_base.specs.Refusals.{Blames, at};
+ghost use Rattle.dw_base.specs.declared.debug_sections.DebugSection.TheVariants.{LineStr, Str};
 ghost use Rattle.dw_base.specs.declared.fault.Kind.TheVariants.{TooWide};
 ghost use Rattle.dw_base.specs.declared.fault.Refusal.{Refusal as RefusalOf};
 ghost use Rattle.dw_base.specs.LineTables.{IsLineTable, table_bytes, table_with};
@@ -22,6 +23,7 @@ ghost use Rattle.dw_base.specs.WrittenLines.{all_changes, behind_lengths, change
 use crate::changes::{check_offsets, paths_of, put_paths};
 use crate::defined_paths::check_opcodes;
 use crate::header::{length_place, line_header};
+use crate::new_texts::NewTexts;
 use crate::parts::{part, push_length, push_number};
 use crate::table::LineTable;
 use dw_base::{
@@ -30,7 +32,6 @@ use dw_base::{
 use dw_paths::Maps;
 use dw_view::View;
 use std::alloc::{AllocError, Global};
-use std::collections::HashMap;
 
 /// A table that was written.
 #[derive(Drop)]
@@ -60,8 +61,7 @@ fn written_header(
     alloc: Global,
     view: &View,
     maps: &Maps,
-    str: &HashMap<u64, u64>,
-    line_str: &HashMap<u64, u64>,
+    texts: &NewTexts,
     section: u32,
     header: &LineHeader,
     paths: &[TextPlace],
@@ -69,7 +69,7 @@ fn written_header(
     requires there { section < length view.now.sections }
     requires rooms { AllHaveRoom section header.now.width (length (section_bytes view.now section)) paths.now }
     requires small { header.now.start ≤ 2 ^ 31 }
-    ensures bytes { IfOk result (λ out. out.items ≡ changed (section_bytes view.now section) (behind_lengths header.now.start header.now.width header.now.version) header.now.program (all_changes (view_source view.now section) maps.now (new_place (view_source view.now section) (λ o. get nat_eq str.now o) (λ o. get nat_eq line_str.now o)) header.now.width paths.now)) }
+    ensures bytes { IfOk result (λ out. out.items ≡ changed (section_bytes view.now section) (behind_lengths header.now.start header.now.width header.now.version) header.now.program (all_changes (view_source view.now section) maps.now (new_place (view_source view.now section) (texts_known texts.now Str) (texts_known texts.now LineStr)) header.now.width paths.now)) }
 {
     let first = header_length_place(header) + u64::from(header.width.offset_size());
     let mut out = Vec::new(alloc);
@@ -77,8 +77,7 @@ fn written_header(
         alloc,
         view,
         maps,
-        str,
-        line_str,
+        texts,
         section,
         header.width,
         paths,
@@ -220,16 +219,15 @@ impl LineTable {
         alloc: Global,
         view: &View,
         maps: &Maps,
-        str: &HashMap<u64, u64>,
-        line_str: &HashMap<u64, u64>,
+        texts: &NewTexts,
     ) -> Result<WrittenTable, Fault>
         requires there { self.now.section < length view.now.sections }
         requires table { IsLineTable (view_source view.now self.now.section) self.now.start self.now }
-        ensures bytes { IfOk result (λ w. w.bytes.items ≡ written_table (view_source view.now self.now.section) maps.now (new_place (view_source view.now self.now.section) (λ o. get nat_eq str.now o) (λ o. get nat_eq line_str.now o)) self.now) }
-        ensures program { IfOk result (λ w. w.program ≡ written_program (view_source view.now self.now.section) maps.now (new_place (view_source view.now self.now.section) (λ o. get nat_eq str.now o) (λ o. get nat_eq line_str.now o)) self.now) }
-        ensures can { OnOk result (CanWrite (view_source view.now self.now.section) maps.now (new_place (view_source view.now self.now.section) (λ o. get nat_eq str.now o) (λ o. get nat_eq line_str.now o)) self.now) }
-        ensures none { OnOk result ((r : RefusalOf) → WriteFails (view_source view.now self.now.section) maps.now (new_place (view_source view.now self.now.section) (λ o. get nat_eq str.now o) (λ o. get nat_eq line_str.now o)) self.now r → ⊥) }
-        ensures refused { IfErr result (Blames (WriteFails (view_source view.now self.now.section) maps.now (new_place (view_source view.now self.now.section) (λ o. get nat_eq str.now o) (λ o. get nat_eq line_str.now o)) self.now)) }
+        ensures bytes { IfOk result (λ w. w.bytes.items ≡ written_table (view_source view.now self.now.section) maps.now (new_place (view_source view.now self.now.section) (texts_known texts.now Str) (texts_known texts.now LineStr)) self.now) }
+        ensures program { IfOk result (λ w. w.program ≡ written_program (view_source view.now self.now.section) maps.now (new_place (view_source view.now self.now.section) (texts_known texts.now Str) (texts_known texts.now LineStr)) self.now) }
+        ensures can { OnOk result (CanWrite (view_source view.now self.now.section) maps.now (new_place (view_source view.now self.now.section) (texts_known texts.now Str) (texts_known texts.now LineStr)) self.now) }
+        ensures none { OnOk result ((r : RefusalOf) → WriteFails (view_source view.now self.now.section) maps.now (new_place (view_source view.now self.now.section) (texts_known texts.now Str) (texts_known texts.now LineStr)) self.now r → ⊥) }
+        ensures refused { IfErr result (Blames (WriteFails (view_source view.now self.now.section) maps.now (new_place (view_source view.now self.now.section) (texts_known texts.now Str) (texts_known texts.now LineStr)) self.now)) }
     {
         let section = self.section;
         let header = header_of(view, section, self.start);
@@ -237,10 +235,10 @@ impl LineTable {
             return Err(fault);
         }
         let paths = paths_of(alloc, &self.dirs, &self.files)?;
-        if let Err(refusal) = check_offsets(view, str, line_str, section, header.width, &paths) {
+        if let Err(refusal) = check_offsets(view, texts, section, header.width, &paths) {
             return Err(Fault::Refused(refusal));
         }
-        let lists = written_header(alloc, view, maps, str, line_str, section, &header, &paths)?;
+        let lists = written_header(alloc, view, maps, texts, section, &header, &paths)?;
         let front = written_front(alloc, view, section, &header, &lists)?;
         match whole_table(alloc, view, section, &header, &front) {
             Ok(written) => Ok(written),

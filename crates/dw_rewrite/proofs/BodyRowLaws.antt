@@ -20,6 +20,7 @@ use Rattle.dw_base.specs.declared.fault.Fault.TheVariants.{NoMemory, Refused}
 use Rattle.dw_base.specs.declared.fault.Kind.TheVariants.{TooLarge}
 use Rattle.dw_base.specs.declared.fault.Refusal.{Refusal}
 use Rattle.dw_base.proofs.FileViewLaws.{section_after-within}
+use Rattle.dw_lines.specs.NewTexts.{NewPlaces}
 use Rattle.dw_lines.specs.ViewTables.{tables_read}
 use Rattle.dw_lines.proofs.ReadingLaws.{source-is}
 use Rattle.dw_meaning.specs.DataOutput.{PathsFit, table_change}
@@ -144,6 +145,10 @@ pub either-first : (A B : Refusal → Type 0) (f : Fault) → Blames A f → Bla
 either-first A B NoMemory h = tt
 either-first A B (Refused r) h = inl h
 
-pub either-second : (A B : Refusal → Type 0) (f : Fault) → Blames B f → Blames (λ (r : Refusal). A r ⊎ B r) f
+either-second : (A B : Refusal → Type 0) (f : Fault) → Blames B f → Blames (λ (r : Refusal). A r ⊎ B r) f
 either-second A B NoMemory h = tt
 either-second A B (Refused r) h = inr h
+
+-- the second, of the new places of texts that are known
+pub either-known : (A : Refusal → Type 0) (B : NewPlaces → Refusal → Type 0) (n k : NewPlaces) (f : Fault) → n ≡ k → Blames (B n) f → Blames (λ (r : Refusal). A r ⊎ B k r) f
+either-known A B n k f same h = subst (λ (p : NewPlaces). Blames (λ (r : Refusal). A r ⊎ B p r) f) same (either-second A (B n) f h)

@@ -149,9 +149,7 @@ pass-end s known fields old now i p end = record {
   list = p.list;
 }
 
-pub ruleset set_rules = (path_there, pass-start, pass-end)
-
-pub ruleset start_rules = (field_there, pass-start, pass-end)
+pub ruleset set_rules = (field_there, pass-start, pass-end)
 
 -- what is put is what is known, field by field
 put-append : (order : Order) (out : List ℕ) (xs ys : List Patch) → with_patches order out (xs ++ ys) ≡ with_patches order (with_patches order out xs) ys

@@ -14,7 +14,8 @@ use Rattle.dw_base.specs.Refusals.{Blames}
 use Rattle.dw_base.specs.StringTables.{TextTable, table_bytes}
 use Rattle.dw_base.specs.Texts.{laid_texts}
 use Rattle.dw_base.specs.ViewData.{debug_data, located, located_at}
-use Rattle.dw_base.specs.declared.debug_sections.DebugSection.TheVariants.{Str as str_section, LineStr as line_str_section, Line as line_section}
+use Rattle.dw_base.specs.declared.debug_sections.DebugSection.{DebugSection}
+use Rattle.dw_base.specs.declared.debug_sections.DebugSection.TheVariants.{Info, Types, Abbrev, Str as str_section, LineStr as line_str_section, StrOffsets, Line as line_section, Macro, Names}
 use Rattle.dw_base.specs.declared.fault.Fault.{Fault}
 use Rattle.dw_base.specs.declared.fault.Fault.TheVariants.{NoMemory, Refused}
 use Rattle.dw_base.proofs.FileViewLaws.{section_after-within}
@@ -23,7 +24,7 @@ use Rattle.dw_base.proofs.ViewCellLaws.{lines-located}
 use Rattle.dw_find.specs.Fields.{AreOffsetFields, IsOffsetField}
 use Rattle.dw_rewrite.specs.Changes.{FieldSource, Remembers, texts_at}
 use Rattle.dw_find.specs.ViewFields.{AllHaveOffsets, AllHavePlaces, HasOffsets, HasPlaces, as_table, fields_of, offsets_in, table_number}
-use Rattle.dw_rewrite.specs.NewTables.{plan_in, section_texts_at, source_in, starts_in, texts_of, all_texts_at, IsSectionNoted, AllNoted, Growing, GrownBy, TableMade, table_with, fault_at, LongTable, long_table}
+use Rattle.dw_rewrite.specs.NewTables.{plan_in, section_texts_at, source_in, source_into, table_into, texts_of, all_texts_at, IsSectionNoted, AllNoted, Growing, GrownBy, TableMade, table_with, fault_at, LongTable, long_table}
 use Rattle.dw_find.specs.UnitPaths.{UnitPaths}
 use Rattle.dw_find.specs.declared.fields.PathField.{PathField}
 use Rattle.dw_find.specs.declared.tables.TextsOf.{TextsOf}
@@ -43,23 +44,36 @@ same-source v LineStr section number bytes e f =
 
 pub ruleset source_rules = (same-source)
 
-lines-source : (v : View) (section : ℕ) (o : Option ℕ) → o ≡ section_named v (name_of line_section)
-    → record { order = v.order; cells = view_cells v section; table = located_at v o } ≡ starts_in v section
+-- and into a section of debug data
+into-located : (v : View) (s : DebugSection) → table_into v s ≡ located v s
+unfolding debug_data
+into-located v str_section = refl
+into-located v line_str_section = refl
+into-located v line_section = lines-located v
+into-located v Info = refl
+into-located v Types = refl
+into-located v Abbrev = refl
+into-located v StrOffsets = refl
+into-located v Macro = refl
+into-located v Names = refl
+
+into-source : (v : View) (section : ℕ) (s : DebugSection) (o : Option ℕ) → o ≡ section_named v (name_of s)
+    → record { order = v.order; cells = view_cells v section; table = located_at v o } ≡ source_into v section s
 unfolding located
-lines-source v section o e =
+into-source v section s o e =
     ap (λ (p : Option ℕ). record { order = v.order; cells = view_cells v section; table = located_at v p }) e
-    ∙ ap (λ (z : Located). record { order = v.order; cells = view_cells v section; table = z }) (sym (lines-located v))
+    ∙ ap (λ (z : Located). record { order = v.order; cells = view_cells v section; table = z }) (sym (into-located v s))
 
-pub lines-some : (v : View) (section i : ℕ) (bytes : List ℕ) → Some i ≡ section_named v (name_of line_section) → bytes ≡ section_bytes v i
-    → record { order = v.order; cells = view_cells v section; table = record { number = i; bytes = bytes } } ≡ starts_in v section
-lines-some v section i bytes e f =
-    ap (λ (b : List ℕ). record { order = v.order; cells = view_cells v section; table = record { number = i; bytes = b } }) f ∙ lines-source v section (Some i) e
+pub into-some : (v : View) (section i : ℕ) (s : DebugSection) (bytes : List ℕ) → Some i ≡ section_named v (name_of s) → bytes ≡ section_bytes v i
+    → record { order = v.order; cells = view_cells v section; table = record { number = i; bytes = bytes } } ≡ source_into v section s
+into-some v section i s bytes e f =
+    ap (λ (b : List ℕ). record { order = v.order; cells = view_cells v section; table = record { number = i; bytes = b } }) f ∙ into-source v section s (Some i) e
 
-pub lines-none : (v : View) (section : ℕ) → None ≡ section_named v (name_of line_section)
-    → record { order = v.order; cells = view_cells v section; table = record { number = 0; bytes = [] } } ≡ starts_in v section
-lines-none v section e = lines-source v section None e
+pub into-none : (v : View) (section : ℕ) (s : DebugSection) → None ≡ section_named v (name_of s)
+    → record { order = v.order; cells = view_cells v section; table = record { number = 0; bytes = [] } } ≡ source_into v section s
+into-none v section s e = into-source v section s None e
 
-pub ruleset start_rules = (lines-some, lines-none)
+pub ruleset into_rules = (into-some, into-none)
 
 -- what holds of a source and fields holds of those that are the same
 pub moved : (P : FieldSource → List PathField → Type 0) (s q : FieldSource) (f g : List PathField) → s ≡ q → f ≡ g → P s f → P q g
@@ -68,15 +82,6 @@ moved P s q f g es ef h = subst (λ (x : FieldSource). P x g) es (subst (P s) ef
 own-fields : (v : View) (u : UnitPaths) (table : TextSection) → HasOffsets v u → AreOffsetFields v.order (texts_of v table) (view_cells v u.number) (fields_of table u)
 own-fields v u in_str h = h.str
 own-fields v u in_line_str h = h.line_str
-
-abbrev AreOf : FieldSource → List PathField → Type 0
-AreOf s fields = AreOffsetFields s.order s.table s.cells fields
-
--- the fields of a section are fields
-pub section-fields : (v : View) (t : TextsOf) (u : UnitPaths) (s : FieldSource) (fields : List PathField) → HasOffsets v u → s ≡ source_in v u.number (as_table t)
-    → fields ≡ fields_of (as_table t) u → AreOffsetFields s.order s.table s.cells fields
-section-fields v t u s fields h es ef =
-    moved AreOf (source_in v u.number (as_table t)) s (fields_of (as_table t) u) fields (sym es) (sym ef) (own-fields v u (as_table t) h)
 
 -- no fields are fields of an empty table
 no-fields : (s : FieldSource) (fields : List PathField) → s.table.bytes ≡ [] → AreOffsetFields s.order s.table s.cells fields → fields ≡ []

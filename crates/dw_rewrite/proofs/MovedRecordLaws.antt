@@ -9,12 +9,13 @@ use Rattle.dw_base.specs.RelocationBodies.{relocation_body}
 use Rattle.dw_base.specs.SectionRelocations.{RelocationSource, cells_from, relocations_in}
 use Rattle.dw_base.specs.StringTables.{Plan, TextTable}
 use Rattle.dw_base.specs.ViewData.{debug_data}
+use Rattle.dw_base.specs.declared.debug_sections.DebugSection.TheVariants.{Str, LineStr, Line}
 use Rattle.dw_meaning.specs.DataOutput.{changes_of, table_change}
 use Rattle.dw_meaning.proofs.RecordMoveLaws.{RecordsApart}
 use Rattle.dw_patch.specs.RecordMoves.{moved_table}
 use Rattle.elf_layout.specs.declared.patch.Patch.{Patch}
 use Rattle.dw_patch.proofs.SaidCellLaws.{SaidAll}
-use Rattle.dw_find.specs.UnitPaths.{UnitPaths}
+use Rattle.dw_find.specs.UnitPaths.{UnitPaths, fields_into}
 use Rattle.dw_find.specs.declared.fields.PathField.{PathField}
 use Rattle.dw_rewrite.specs.Changes.{AreNoted, FieldSource, Knows, offset_at}
 use Rattle.dw_rewrite.specs.NewOffsets.{asked, offset_by, offsets_after, offsets_in, offsets_known}
@@ -42,16 +43,16 @@ pub section-asked : (m : PathMap) (v : View) (ps pl : TextTable) (ks kl kt : ℕ
     → IsSectionNoted m v in_str u ks → IsSectionNoted m v in_line_str u kl
     → offsets_in v ks kl kt u ≡ offsets_in v (asked_in m v in_str ps.texts) (asked_in m v in_line_str pl.texts) kt u
 section-asked m v ps pl ks kl kt u gs gl ns nl =
-    ap (λ (l : List Patch). l ++ (offsets_known (source_in v u.number in_line_str) kl u.line_str ++ offsets_known (starts_in v u.number) kt u.starts))
-    (offsets-asked (plan_in m v in_str) m (source_in v u.number in_str) ps.texts u.str ks gs.knows ns)
-    ∙ ap (λ (l : List Patch). offsets_known (source_in v u.number in_str) (asked_in m v in_str ps.texts) u.str ++ (l ++ offsets_known (starts_in v u.number) kt u.starts))
-    (offsets-asked (plan_in m v in_line_str) m (source_in v u.number in_line_str) pl.texts u.line_str kl gl.knows nl)
+    ap (λ (l : List Patch). l ++ (offsets_known (source_in v u.number in_line_str) kl (fields_into u LineStr) ++ offsets_known (starts_in v u.number) kt (fields_into u Line)))
+    (offsets-asked (plan_in m v in_str) m (source_in v u.number in_str) ps.texts (fields_into u Str) ks gs.knows ns)
+    ∙ ap (λ (l : List Patch). offsets_known (source_in v u.number in_str) (asked_in m v in_str ps.texts) (fields_into u Str) ++ (l ++ offsets_known (starts_in v u.number) kt (fields_into u Line)))
+    (offsets-asked (plan_in m v in_line_str) m (source_in v u.number in_line_str) pl.texts (fields_into u LineStr) kl gl.knows nl)
 
 -- those are what the edit says
 pub section-after : (m : PathMap) (v : View) (all : DataReadings) (u : UnitPaths)
     → offsets_in v (asked_in m v in_str (table_change m in_str (around_of (debug_data v) all) all).texts)
     (asked_in m v in_line_str (table_change m in_line_str (around_of (debug_data v) all) all).texts) (starts_after m v all) u
-    ≡ offsets_after (changes_of m (around_of (debug_data v) all) all) (around_of (debug_data v) all) (view_cells v u.number) u.str u.line_str u.starts
+    ≡ offsets_after (changes_of m (around_of (debug_data v) all) all) (around_of (debug_data v) all) (view_cells v u.number) (fields_into u Str) (fields_into u LineStr) (fields_into u Line)
 unfolding table_change debug_data
 section-after m v all u = refl
 

@@ -4,7 +4,7 @@ use Rattle.dw_base.specs.Cells.{Cell, bytes_of}
 use Rattle.dw_base.specs.DebugSections.{name_of}
 use Rattle.dw_base.specs.OffsetPieces.{OffsetState, ReadsOffsets}
 use Rattle.dw_base.specs.SectionTexts.{edited_with, mentions_with, slot_role}
-use Rattle.dw_base.specs.declared.debug_sections.DebugSection.TheVariants.{Info, StrOffsets, Names}
+use Rattle.dw_base.specs.declared.debug_sections.DebugSection.TheVariants.{Info, Str, LineStr, StrOffsets, Line, Names}
 use Rattle.dw_base.proofs.ViewCellLaws.{bytes-cells, bytes_of-view_cells}
 use Rattle.dw_meaning.specs.DataOutput.{Body, cells_body, table_change, changes_of, names_after, offsets_after, unit_body, unit_bodies}
 use Rattle.dw_base.specs.DebugData.{DebugData, DataReadings, Around, around_of, path_slots, table_of, units_in, ReadsAll}
@@ -26,7 +26,7 @@ use Rattle.dw_rewrite.proofs.SlotWrittenLaws.{names-kept, no-offsets, slots_writ
 use Rattle.dw_rewrite.specs.Changes.{FieldSource, patched, texts_at, with_all_known}
 use Rattle.dw_find.specs.ViewFields.{fields_of, info_of}
 use Rattle.dw_rewrite.specs.NewTables.{plan_in, section_texts_at, all_texts_at, IsSectionNoted, Growing, TableMade, change_in, section_after, body_after, bodies_after, section_known, bodies_known, source_in, starts_in}
-use Rattle.dw_find.specs.UnitPaths.{UnitPaths, path_fields, inline_paths, paths_in, paths_of, start_fields}
+use Rattle.dw_find.specs.UnitPaths.{UnitPaths, path_fields, inline_paths, paths_in, paths_of, start_fields, fields_into}
 use Rattle.dw_rewrite.specs.UnitsAfter.{inlined, text_source}
 use Rattle.dw_find.specs.declared.fields.PathField.{PathField}
 use Rattle.dw_rewrite.proofs.ChangedLaws.{put_is_patched}
@@ -162,12 +162,12 @@ known-section : (m : PathMap) (v : View) (ps pl : TextTable) (ks kl kt : ℕ →
     → IsSectionNoted m v in_str u ks → IsSectionNoted m v in_line_str u kl → section_known m v ks kl kt u ≡ section_after m v ps.texts pl.texts kt u
 unfolding section_known section_after
 known-section m v ps pl ks kl kt u gs gl ns nl =
-    let first = put_is_patched (plan_in m v in_str) m (source_in v u.number in_str) ps.texts (info_of v u) u.str ks gs.knows ns in
-    ap (λ (out : List ℕ). inlined m (info_of v u) (with_all_known (starts_in v u.number) kt (with_all_known (source_in v u.number in_line_str) kl out u.line_str) u.starts)
+    let first = put_is_patched (plan_in m v in_str) m (source_in v u.number in_str) ps.texts (info_of v u) (fields_into u Str) ks gs.knows ns in
+    ap (λ (out : List ℕ). inlined m (info_of v u) (with_all_known (starts_in v u.number) kt (with_all_known (source_in v u.number in_line_str) kl out (fields_into u LineStr)) (fields_into u Line))
     u.inline) first
-    ∙ ap (λ (out : List ℕ). inlined m (info_of v u) (with_all_known (starts_in v u.number) kt out u.starts) u.inline)
+    ∙ ap (λ (out : List ℕ). inlined m (info_of v u) (with_all_known (starts_in v u.number) kt out (fields_into u Line)) u.inline)
     (put_is_patched (plan_in m v in_line_str) m (source_in v u.number in_line_str) pl.texts
-    (patched (change_in m v in_str ps.texts) m (source_in v u.number in_str) (info_of v u) u.str) u.line_str kl gl.knows nl)
+    (patched (change_in m v in_str ps.texts) m (source_in v u.number in_str) (info_of v u) (fields_into u Str)) (fields_into u LineStr) kl gl.knows nl)
 
 pub known-bodies : (m : PathMap) (v : View) (ps pl : TextTable) (ks kl kt : ℕ → Option ℕ) (us : List UnitPaths) → Growing m v in_str ps ks → Growing m v in_line_str pl kl
     → EachOf (λ u. IsSectionNoted m v in_str u ks) us → EachOf (λ u. IsSectionNoted m v in_line_str u kl) us

@@ -7,14 +7,15 @@ use Rattle.dw_base.specs.FileViews.{View}
 use Rattle.dw_base.specs.Forms.{in_str, in_line_str}
 use Rattle.dw_base.specs.Refusals.{Blames, at}
 use Rattle.dw_base.specs.RelocationFields.{relocation_at}
+use Rattle.dw_base.specs.declared.debug_sections.DebugSection.TheVariants.{Str, LineStr, Line}
 use Rattle.dw_base.specs.declared.fault.Fault.{Fault}
 use Rattle.dw_base.specs.declared.fault.Fault.TheVariants.{NoMemory, Refused}
 use Rattle.dw_base.specs.declared.fault.Kind.TheVariants.{TooWide}
 use Rattle.dw_meaning.specs.NewAddends.{Makes, Misses}
 use Rattle.dw_patch.specs.RecordMoves.{patch_for}
 use Rattle.elf_layout.specs.declared.patch.Patch.{Patch}
-use Rattle.dw_find.specs.Fields.{AllApart, AreApart, IsApartFrom, IsOffsetField}
-use Rattle.dw_find.specs.UnitPaths.{UnitPaths}
+use Rattle.dw_find.specs.Fields.{AllApart, AreApart, IsApartFrom}
+use Rattle.dw_find.specs.UnitPaths.{UnitPaths, fields_into}
 use Rattle.dw_find.specs.ViewFields.{HasOffsets, HasPlaces}
 use Rattle.dw_find.specs.declared.fields.PathField.{PathField}
 use Rattle.dw_rewrite.specs.Changes.{FieldSource, IsFieldOf, offset_at}
@@ -24,7 +25,8 @@ use Rattle.dw_rewrite.specs.OffsetAddends.{FieldMakes, FieldMisses, FieldsMake, 
 use Rattle.dw_rewrite.specs.OffsetAddends.FieldMisses.{misses_new}
 use Rattle.dw_rewrite.specs.OffsetAddends.FieldsMiss.{one_field}
 use Rattle.dw_rewrite.specs.OffsetAddends.SectionMisses.{in_str_field, in_line_str_field, in_start_field}
-use Rattle.dw_rewrite.proofs.ChangedLaws.{field_front, field_there, path_there}
+use Rattle.dw_rewrite.proofs.ChangedLaws.{field_front, field_there}
+use Rattle.dw_rewrite.proofs.SectionBytesLaws.{line_str-fields, places-there, start-fields, str-fields}
 use Rattle.dw_rewrite.proofs.SaidLaws.{Sized, patch-further, patch-skip}
 
 -- nothing is added, or one field is
@@ -130,58 +132,58 @@ sized-append [] gs h k = k
 sized-append (f ∷ fs) gs h k = (h.0, sized-append fs gs h.1 k)
 
 -- of a section
-pub section-sized : (v : View) (u : UnitPaths) → HasOffsets v u → HasPlaces v u → Sized u.str × Sized u.line_str × Sized u.starts
+pub section-sized : (v : View) (u : UnitPaths) → HasOffsets v u → HasPlaces v u → Sized (fields_into u Str) × Sized (fields_into u LineStr) × Sized (fields_into u Line)
 section-sized v u h p = (
-  sized-each u.str (λ k d lt. (h.str.each k d lt).sized),
-  sized-each u.line_str (λ k d lt. (h.line_str.each k d lt).sized),
-  sized-each u.starts (λ k d lt. (p.starts.each k d lt).sized),
+  sized-each (fields_into u Str) (λ k d lt. (h.str.each k d lt).sized),
+  sized-each (fields_into u LineStr) (λ k d lt. (h.line_str.each k d lt).sized),
+  sized-each (fields_into u Line) (λ k d lt. (p.starts.each k d lt).sized),
 )
 
-pub section-together : (v : View) (u : UnitPaths) → HasOffsets v u → HasPlaces v u → NoneTogether (u.str ++ (u.line_str ++ u.starts))
+pub section-together : (v : View) (u : UnitPaths) → HasOffsets v u → HasPlaces v u → NoneTogether (fields_into u Str ++ (fields_into u LineStr ++ fields_into u Line))
 section-together v u h p =
     let sized = section-sized v u h p in
-    together-apart (u.str ++ (u.line_str ++ u.starts))
-    (sized-append u.str (u.line_str ++ u.starts) sized.0 (sized-append u.line_str u.starts sized.1 sized.2)) p.apart
+    together-apart (fields_into u Str ++ (fields_into u LineStr ++ fields_into u Line))
+    (sized-append (fields_into u Str) (fields_into u LineStr ++ fields_into u Line) sized.0 (sized-append (fields_into u LineStr) (fields_into u Line) sized.1 sized.2)) p.apart
 
 -- its three lists, one behind another
-pub first-together : (v : View) (u : UnitPaths) → HasOffsets v u → HasPlaces v u → NoneTogether u.str
-first-together v u h p = together-front u.str (u.line_str ++ u.starts) (section-together v u h p)
+pub first-together : (v : View) (u : UnitPaths) → HasOffsets v u → HasPlaces v u → NoneTogether (fields_into u Str)
+first-together v u h p = together-front (fields_into u Str) (fields_into u LineStr ++ fields_into u Line) (section-together v u h p)
 
-pub second-together : (v : View) (u : UnitPaths) → HasOffsets v u → HasPlaces v u → NoneTogether u.line_str
-second-together v u h p = together-front u.line_str u.starts (together-behind u.str (u.line_str ++ u.starts) (section-together v u h p))
+pub second-together : (v : View) (u : UnitPaths) → HasOffsets v u → HasPlaces v u → NoneTogether (fields_into u LineStr)
+second-together v u h p = together-front (fields_into u LineStr) (fields_into u Line) (together-behind (fields_into u Str) (fields_into u LineStr ++ fields_into u Line) (section-together v u h p))
 
-pub third-together : (v : View) (u : UnitPaths) → HasOffsets v u → HasPlaces v u → NoneTogether u.starts
-third-together v u h p = together-behind u.line_str u.starts (together-behind u.str (u.line_str ++ u.starts) (section-together v u h p))
+pub third-together : (v : View) (u : UnitPaths) → HasOffsets v u → HasPlaces v u → NoneTogether (fields_into u Line)
+third-together v u h p = together-behind (fields_into u LineStr) (fields_into u Line) (together-behind (fields_into u Str) (fields_into u LineStr ++ fields_into u Line) (section-together v u h p))
 
-pub first-absent : (u : UnitPaths) (none : List Patch) → none ≡ [] → AreAbsent none u.str
-first-absent u none is = subst (λ (l : List Patch). AreAbsent l u.str) (sym is) (absent-first u.str)
+pub first-absent : (u : UnitPaths) (none : List Patch) → none ≡ [] → AreAbsent none (fields_into u Str)
+first-absent u none is = subst (λ (l : List Patch). AreAbsent l (fields_into u Str)) (sym is) (absent-first (fields_into u Str))
 
 pub second-absent : (v : View) (u : UnitPaths) (ks : ℕ → Option ℕ) (none one : List Patch) → HasOffsets v u → HasPlaces v u → none ≡ []
-    → one ≡ none ++ offsets_known (source_in v u.number in_str) ks u.str → AreAbsent one u.line_str
+    → one ≡ none ++ offsets_known (source_in v u.number in_str) ks (fields_into u Str) → AreAbsent one (fields_into u LineStr)
 second-absent v u ks none one h p is e =
-    subst (λ (l : List Patch). AreAbsent l u.line_str) (sym (e ∙ ap (λ (l : List Patch). l ++ offsets_known (source_in v u.number in_str) ks u.str) is))
-    (absent-behind (source_in v u.number in_str) ks [] u.str u.line_str
-    (together-front (u.str ++ u.line_str) u.starts (subst NoneTogether (sym (append_assoc u.str u.line_str u.starts)) (section-together v u h p))) (absent-first u.line_str))
+    subst (λ (l : List Patch). AreAbsent l (fields_into u LineStr)) (sym (e ∙ ap (λ (l : List Patch). l ++ offsets_known (source_in v u.number in_str) ks (fields_into u Str)) is))
+    (absent-behind (source_in v u.number in_str) ks [] (fields_into u Str) (fields_into u LineStr)
+    (together-front (fields_into u Str ++ fields_into u LineStr) (fields_into u Line) (subst NoneTogether (sym (append_assoc (fields_into u Str) (fields_into u LineStr) (fields_into u Line))) (section-together v u h p))) (absent-first (fields_into u LineStr)))
 
 pub third-absent : (v : View) (u : UnitPaths) (ks kl : ℕ → Option ℕ) (none one two : List Patch) → HasOffsets v u → HasPlaces v u → none ≡ []
-    → one ≡ none ++ offsets_known (source_in v u.number in_str) ks u.str → two ≡ one ++ offsets_known (source_in v u.number in_line_str) kl u.line_str → AreAbsent two u.starts
+    → one ≡ none ++ offsets_known (source_in v u.number in_str) ks (fields_into u Str) → two ≡ one ++ offsets_known (source_in v u.number in_line_str) kl (fields_into u LineStr) → AreAbsent two (fields_into u Line)
 third-absent v u ks kl none one two h p is e f =
     let all = section-together v u h p in
-    subst (λ (l : List Patch). AreAbsent l u.starts)
-    (sym (f ∙ ap (λ (l : List Patch). l ++ offsets_known (source_in v u.number in_line_str) kl u.line_str)
-    (e ∙ ap (λ (l : List Patch). l ++ offsets_known (source_in v u.number in_str) ks u.str) is)))
-    (absent-behind (source_in v u.number in_line_str) kl (offsets_known (source_in v u.number in_str) ks u.str) u.line_str u.starts
-    (together-behind u.str (u.line_str ++ u.starts) all)
-    (absent-behind (source_in v u.number in_str) ks [] u.str u.starts (together-skip u.str u.line_str u.starts all) (absent-first u.starts)))
+    subst (λ (l : List Patch). AreAbsent l (fields_into u Line))
+    (sym (f ∙ ap (λ (l : List Patch). l ++ offsets_known (source_in v u.number in_line_str) kl (fields_into u LineStr))
+    (e ∙ ap (λ (l : List Patch). l ++ offsets_known (source_in v u.number in_str) ks (fields_into u Str)) is)))
+    (absent-behind (source_in v u.number in_line_str) kl (offsets_known (source_in v u.number in_str) ks (fields_into u Str)) (fields_into u LineStr) (fields_into u Line)
+    (together-behind (fields_into u Str) (fields_into u LineStr ++ fields_into u Line) all)
+    (absent-behind (source_in v u.number in_str) ks [] (fields_into u Str) (fields_into u Line) (together-skip (fields_into u Str) (fields_into u LineStr) (fields_into u Line) all) (absent-first (fields_into u Line))))
 
-pub all-added : (v : View) (u : UnitPaths) (ks kl kt : ℕ → Option ℕ) (none one two all : List Patch) → none ≡ [] → one ≡ none ++ offsets_known (source_in v u.number in_str) ks u.str
-    → two ≡ one ++ offsets_known (source_in v u.number in_line_str) kl u.line_str → all ≡ two ++ offsets_known (starts_in v u.number) kt u.starts → all ≡ offsets_in v ks kl kt u
+pub all-added : (v : View) (u : UnitPaths) (ks kl kt : ℕ → Option ℕ) (none one two all : List Patch) → none ≡ [] → one ≡ none ++ offsets_known (source_in v u.number in_str) ks (fields_into u Str)
+    → two ≡ one ++ offsets_known (source_in v u.number in_line_str) kl (fields_into u LineStr) → all ≡ two ++ offsets_known (starts_in v u.number) kt (fields_into u Line) → all ≡ offsets_in v ks kl kt u
 all-added v u ks kl kt none one two all is e f g =
-    g ∙ ap (λ (l : List Patch). l ++ offsets_known (starts_in v u.number) kt u.starts)
-    (f ∙ ap (λ (l : List Patch). l ++ offsets_known (source_in v u.number in_line_str) kl u.line_str)
-    (e ∙ ap (λ (l : List Patch). l ++ offsets_known (source_in v u.number in_str) ks u.str) is))
-    ∙ append_assoc (offsets_known (source_in v u.number in_str) ks u.str) (offsets_known (source_in v u.number in_line_str) kl u.line_str)
-    (offsets_known (starts_in v u.number) kt u.starts)
+    g ∙ ap (λ (l : List Patch). l ++ offsets_known (starts_in v u.number) kt (fields_into u Line))
+    (f ∙ ap (λ (l : List Patch). l ++ offsets_known (source_in v u.number in_line_str) kl (fields_into u LineStr))
+    (e ∙ ap (λ (l : List Patch). l ++ offsets_known (source_in v u.number in_str) ks (fields_into u Str)) is))
+    ∙ append_assoc (offsets_known (source_in v u.number in_str) ks (fields_into u Str)) (offsets_known (source_in v u.number in_line_str) kl (fields_into u LineStr))
+    (offsets_known (starts_in v u.number) kt (fields_into u Line))
 
 -- whether their addends make them: where the code names source and fields as it has them,
 pub fields-own : (s t : FieldSource) (known : ℕ → Option ℕ) (fs gs : List PathField) → s ≡ t → fs ≡ gs → FieldsMake s known fs → FieldsMake t known gs
@@ -194,26 +196,26 @@ fault-own s t known n k fs gs f source number fields b =
     (subst (λ (i : ℕ). Blames (FieldsMiss t known i fs) f) number (subst (λ (x : FieldSource). Blames (FieldsMiss x known n fs) f) source b))
 
 -- and of the section
-pub section-makes : (v : View) (u : UnitPaths) (ks kl kt : ℕ → Option ℕ) → FieldsMake (source_in v u.number in_str) ks u.str → FieldsMake (source_in v u.number in_line_str) kl u.line_str
-    → FieldsMake (starts_in v u.number) kt u.starts → SectionMakes v ks kl kt u
+pub section-makes : (v : View) (u : UnitPaths) (ks kl kt : ℕ → Option ℕ) → FieldsMake (source_in v u.number in_str) ks (fields_into u Str) → FieldsMake (source_in v u.number in_line_str) kl (fields_into u LineStr)
+    → FieldsMake (starts_in v u.number) kt (fields_into u Line) → SectionMakes v ks kl kt u
 section-makes v u ks kl kt s l t = record { str = s; line_str = l; starts = t }
 
-pub str-fault : (v : View) (u : UnitPaths) (ks kl kt : ℕ → Option ℕ) (f : Fault) → Blames (FieldsMiss (source_in v u.number in_str) ks u.number u.str) f
+pub str-fault : (v : View) (u : UnitPaths) (ks kl kt : ℕ → Option ℕ) (f : Fault) → Blames (FieldsMiss (source_in v u.number in_str) ks u.number (fields_into u Str)) f
     → Blames (SectionMisses v ks kl kt u) f
 str-fault v u ks kl kt NoMemory b = tt
 str-fault v u ks kl kt (Refused r) b = in_str_field b
 
-pub line_str-fault : (v : View) (u : UnitPaths) (ks kl kt : ℕ → Option ℕ) (f : Fault) → Blames (FieldsMiss (source_in v u.number in_line_str) kl u.number u.line_str) f
+pub line_str-fault : (v : View) (u : UnitPaths) (ks kl kt : ℕ → Option ℕ) (f : Fault) → Blames (FieldsMiss (source_in v u.number in_line_str) kl u.number (fields_into u LineStr)) f
     → Blames (SectionMisses v ks kl kt u) f
 line_str-fault v u ks kl kt NoMemory b = tt
 line_str-fault v u ks kl kt (Refused r) b = in_line_str_field b
 
-pub starts-fault : (v : View) (u : UnitPaths) (ks kl kt : ℕ → Option ℕ) (f : Fault) → Blames (FieldsMiss (starts_in v u.number) kt u.number u.starts) f
+pub starts-fault : (v : View) (u : UnitPaths) (ks kl kt : ℕ → Option ℕ) (f : Fault) → Blames (FieldsMiss (starts_in v u.number) kt u.number (fields_into u Line)) f
     → Blames (SectionMisses v ks kl kt u) f
 starts-fault v u ks kl kt NoMemory b = tt
 starts-fault v u ks kl kt (Refused r) b = in_start_field b
 
-pub ruleset section_rules = (first-together, second-together, third-together, first-absent, second-absent, third-absent, all-added, section-makes)
+pub ruleset section_rules = (places-there, str-fields, line_str-fields, start-fields, first-together, second-together, third-together, first-absent, second-absent, third-absent, all-added, section-makes)
 
 -- the fields up to one are added, and their addends make the offsets
 pub record AddPass (s : FieldSource) (known : ℕ → Option ℕ) (fields : List PathField) (old now : List Patch) (i : ℕ) : Type 0 where
@@ -269,13 +271,7 @@ pass-fault s known section fields i f k NoMemory lt is known_is b = tt
 pass-fault s known section fields i f k (Refused r) lt is known_is b =
     one_field i f lt is (subst (λ (x : Option ℕ). FieldMisses s section f x r) known_is b)
 
--- an offset of a field of a path is one of the section
-pub path-field : (s : FieldSource) (f : PathField) → IsOffsetField s.order s.table s.cells f → IsFieldOf s f
-path-field s f h = record { sized = h.sized; inside = h.inside }
-
-pub ruleset field_rules = (path_there, pass-start, path-field)
-
-pub ruleset start_rules = (field_there, pass-start)
+pub ruleset field_rules = (field_there, pass-start)
 
 -- the section with its records
 pub ruleset body_rules = (none-added)

@@ -16,7 +16,8 @@ use Rattle.dw_base.proofs.PlainCellLaws.{IsPlain, plain_cells-plain}
 use Rattle.dw_base.proofs.RelocationFieldLaws.{relocation_at-plain}
 use Rattle.dw_base.proofs.SectionRelocationLaws.{cells_from-none}
 use Rattle.dw_base.proofs.ViewCellLaws.{view_cells-view_of}
-use Rattle.dw_find.specs.UnitPaths.{UnitPaths}
+use Rattle.dw_base.specs.declared.debug_sections.DebugSection.TheVariants.{Str, LineStr, Line}
+use Rattle.dw_find.specs.UnitPaths.{UnitPaths, fields_into}
 use Rattle.dw_find.specs.ViewFields.{HasPlaces}
 use Rattle.dw_find.specs.declared.fields.PathField.{PathField}
 use Rattle.dw_meaning.specs.DataOutput.{Body}
@@ -102,9 +103,9 @@ none-makes b v ks kl kt u n o is h v_is held none =
     let plain : IsPlain (view_cells v u.number) =
     subst (λ (w : View). IsPlain (view_cells w u.number)) (sym v_is) (cells-plain b u.number (own-there b v u h v_is) own) in
     record {
-      str = fields-plain (source_in v u.number in_str) ks u.str plain;
-      line_str = fields-plain (source_in v u.number in_line_str) kl u.line_str plain;
-      starts = fields-plain (starts_in v u.number) kt u.starts plain;
+      str = fields-plain (source_in v u.number in_str) ks (fields_into u Str) plain;
+      line_str = fields-plain (source_in v u.number in_line_str) kl (fields_into u LineStr) plain;
+      starts = fields-plain (starts_in v u.number) kt (fields_into u Line) plain;
     }
 
 pub ruleset one_rules = (section-there, places-fit, one-pushed, none-pushed, none-makes)

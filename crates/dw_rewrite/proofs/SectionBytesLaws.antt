@@ -5,7 +5,7 @@ use Rattle.std.proofs.lemmas.List.{drop_all}
 use Rattle.dw_meaning.specs.DataOutput.{Body}
 use Rattle.dw_base.specs.Elf.{contents_of, section_count}
 use Rattle.dw_base.specs.FileViews.{View, section_bytes, view_cells, view_of}
-use Rattle.dw_base.specs.Forms.{TextSection, in_str, in_line_str}
+use Rattle.dw_base.specs.Forms.{in_str, in_line_str}
 use Rattle.dw_base.specs.InlinePaths.{inline_fits}
 use Rattle.dw_base.specs.Paths.{PathMap}
 use Rattle.dw_base.specs.Refusals.{Blames}
@@ -16,102 +16,88 @@ use Rattle.dw_base.specs.declared.shared.Order.{Order}
 use Rattle.dw_patch.specs.Patching.{PatchList, no_patches}
 use Rattle.elf_layout.specs.Patched.{with_patches}
 use Rattle.elf_layout.specs.declared.patch.Patch.{Patch}
-use Rattle.dw_find.specs.Fields.{AllApart, IsStartField}
+use Rattle.dw_find.specs.Fields.{AllApart, AreOffsetFields, IsStartField}
 use Rattle.dw_rewrite.specs.Changes.{AreFieldsOf, AreFree, AreSet, FieldSource}
 use Rattle.dw_find.specs.InlineRooms.{grows, Grows, one}
-use Rattle.dw_find.specs.ViewFields.{AllRoomsFit, HasPlaces, as_table, fields_of, info_of}
-use Rattle.dw_rewrite.specs.NewTables.{bodies_known, body_known, fields_known, section_known, source_in, starts_in}
+use Rattle.dw_find.specs.ViewFields.{AllRoomsFit, HasOffsets, HasPlaces, info_of}
+use Rattle.dw_rewrite.specs.NewTables.{bodies_known, body_known, fields_known, section_known, source_in, source_into, starts_in}
 use Rattle.dw_find.specs.TextPlaces.{InlinesFit}
-use Rattle.dw_find.specs.UnitPaths.{UnitPaths, inline_text}
+use Rattle.dw_find.specs.UnitPaths.{UnitPaths, inline_text, fields_into}
 use Rattle.dw_rewrite.specs.UnitsAfter.{inlined}
 use Rattle.dw_find.specs.declared.fields.InlinePath.{InlinePath}
 use Rattle.dw_find.specs.declared.fields.PathField.{PathField}
-use Rattle.dw_find.specs.declared.tables.TextsOf.{TextsOf}
 use Rattle.dw_base.proofs.FileViewLaws.{length-view_of, section_bytes-view_of}
 use Rattle.dw_base.proofs.ViewCellLaws.{length-view_cells}
+use Rattle.dw_base.specs.declared.debug_sections.DebugSection.{DebugSection}
+use Rattle.dw_base.specs.declared.debug_sections.DebugSection.TheVariants.{Str, LineStr, Line}
 use Rattle.dw_rewrite.proofs.FieldSetLaws.{all-put, apart-behind, apart-front, apart-skip, free-behind, free-first}
-use Rattle.dw_rewrite.proofs.GrowthLaws.{moved}
 use Rattle.dw_find.proofs.PlaceValueLaws.{EachOf, each-get}
 use Rattle.dw_find.proofs.SectionFactLaws.{FitsIn}
 
 -- fields of line tables are fields of the cells
-pub start-fields : (v : View) (u : UnitPaths) → HasPlaces v u → AreFieldsOf (starts_in v u.number) u.starts
+pub start-fields : (v : View) (u : UnitPaths) → HasPlaces v u → AreFieldsOf (starts_in v u.number) (fields_into u Line)
 start-fields v u h = record {
-  each = λ (k : ℕ) (d : PathField) (lt : k < length u.starts).
-      let one : IsStartField (info_of v u) (get_or u.starts k d) = h.starts.each k d lt in
-      let inside : (get_or u.starts k d).at + (get_or u.starts k d).size ≤ length (info_of v u) = one.inside in
+  each = λ (k : ℕ) (d : PathField) (lt : k < length (fields_into u Line)).
+      let one : IsStartField (info_of v u) (get_or (fields_into u Line) k d) = h.starts.each k d lt in
+      let inside : (get_or (fields_into u Line) k d).at + (get_or (fields_into u Line) k d).size ≤ length (info_of v u) = one.inside in
       let size : length (view_cells v u.number) ≡ length (info_of v u) = length-view_cells v u.number in
       record { sized = one.sized; inside = omega (arith, inside, size) };
 }
 
+-- and so are those of the tables of texts
+offsets-fields : (s : FieldSource) (fields : List PathField) → AreOffsetFields s.order s.table s.cells fields → AreFieldsOf s fields
+offsets-fields s fields h = record { each = λ k d lt. record { sized = (h.each k d lt).sized; inside = (h.each k d lt).inside } }
+
+pub str-fields : (v : View) (u : UnitPaths) → HasOffsets v u → AreFieldsOf (source_in v u.number in_str) (fields_into u Str)
+str-fields v u h = offsets-fields (source_in v u.number in_str) (fields_into u Str) h.str
+
+pub line_str-fields : (v : View) (u : UnitPaths) → HasOffsets v u → AreFieldsOf (source_in v u.number in_line_str) (fields_into u LineStr)
+line_str-fields v u h = offsets-fields (source_in v u.number in_line_str) (fields_into u LineStr) h.line_str
+
 -- as many cells as bytes
-pub size-source : (v : View) (u : UnitPaths) (t : TextSection) (n : ℕ) (s : FieldSource) → n ≡ length (info_of v u) → s ≡ source_in v u.number t → n ≡ length s.cells
-size-source v u t n s is e = is ∙ sym (length-view_cells v u.number) ∙ ap (λ (x : FieldSource). length x.cells) (sym e)
-
-pub size-starts : (v : View) (u : UnitPaths) (n : ℕ) (s : FieldSource) → n ≡ length (info_of v u) → s ≡ starts_in v u.number → n ≡ length s.cells
-size-starts v u n s is e = is ∙ sym (length-view_cells v u.number) ∙ ap (λ (x : FieldSource). length x.cells) (sym e)
-
--- the fields of a table that were set, as the code has them
-pub section-set : (v : View) (t : TextsOf) (u : UnitPaths) (p q : PatchList) (known : ℕ → Option ℕ) (s : FieldSource) (fields : List PathField)
-    → s ≡ source_in v u.number (as_table t) → fields ≡ fields_of (as_table t) u → AreSet s known fields p q
-    → AreSet (source_in v u.number (as_table t)) known (fields_of (as_table t) u) p q
-section-set v t u p q known s fields es ef set = moved (λ x fs. AreSet x known fs p q) s (source_in v u.number (as_table t)) fields (fields_of (as_table t) u) es ef set
+pub size-into : (v : View) (u : UnitPaths) (into : DebugSection) (n : ℕ) (s : FieldSource) → n ≡ length (info_of v u) → s ≡ source_into v u.number into → n ≡ length s.cells
+size-into v u into n s is e = is ∙ sym (length-view_cells v u.number) ∙ ap (λ (x : FieldSource). length x.cells) (sym e)
 
 -- they have no byte in common
-section-apart : (v : View) (u : UnitPaths) (table : TextSection) → HasPlaces v u → AllApart (fields_of table u)
-section-apart v u in_str h = apart-front u.str (u.line_str ++ u.starts) h.apart
-section-apart v u in_line_str h = apart-front u.line_str u.starts (apart-behind u.str (u.line_str ++ u.starts) h.apart)
+pub str-apart : (v : View) (u : UnitPaths) → HasPlaces v u → AllApart (fields_into u Str)
+str-apart v u h = apart-front (fields_into u Str) (fields_into u LineStr ++ fields_into u Line) h.apart
 
-pub starts-apart : (v : View) (u : UnitPaths) (fields : List PathField) → HasPlaces v u → fields ≡ u.starts → AllApart fields
-starts-apart v u fields h is = subst AllApart (sym is) (apart-behind u.line_str u.starts (apart-behind u.str (u.line_str ++ u.starts) h.apart))
+pub line_str-apart : (v : View) (u : UnitPaths) → HasPlaces v u → AllApart (fields_into u LineStr)
+line_str-apart v u h = apart-front (fields_into u LineStr) (fields_into u Line) (apart-behind (fields_into u Str) (fields_into u LineStr ++ fields_into u Line) h.apart)
 
-pub starts-fields : (v : View) (u : UnitPaths) (s : FieldSource) (fields : List PathField) → HasPlaces v u → s ≡ starts_in v u.number → fields ≡ u.starts → AreFieldsOf s fields
-starts-fields v u s fields h es ef = moved AreFieldsOf (starts_in v u.number) s u.starts fields (sym es) (sym ef) (start-fields v u h)
+pub starts-apart : (v : View) (u : UnitPaths) → HasPlaces v u → AllApart (fields_into u Line)
+starts-apart v u h = apart-behind (fields_into u LineStr) (fields_into u Line) (apart-behind (fields_into u Str) (fields_into u LineStr ++ fields_into u Line) h.apart)
 
-pub starts-free : (u : UnitPaths) (fields : List PathField) (patches : List Patch) → AreFree patches u.starts → fields ≡ u.starts → AreFree patches fields
-starts-free u fields patches free is = subst (AreFree patches) (sym is) free
-
-pub starts-set : (v : View) (u : UnitPaths) (p q : PatchList) (known : ℕ → Option ℕ) (s : FieldSource) (fields : List PathField) → s ≡ starts_in v u.number → fields ≡ u.starts
-    → AreSet s known fields p q → AreSet (starts_in v u.number) known u.starts p q
-starts-set v u p q known s fields es ef set = moved (λ x fs. AreSet x known fs p q) s (starts_in v u.number) fields u.starts es ef set
-
-pub fields-apart : (v : View) (t : TextsOf) (u : UnitPaths) (fields : List PathField) → HasPlaces v u → fields ≡ fields_of (as_table t) u → AllApart fields
-fields-apart v t u fields h is = subst AllApart (sym is) (section-apart v u (as_table t) h)
-
-pub fields-free : (v : View) (t : TextsOf) (u : UnitPaths) (fields : List PathField) (patches : List Patch) → AreFree patches (fields_of (as_table t) u) → fields ≡ fields_of (as_table t) u
-    → AreFree patches fields
-fields-free v t u fields patches free is = subst (AreFree patches) (sym is) free
-
-apart-both : (u : UnitPaths) → AllApart (u.str ++ (u.line_str ++ u.starts)) → AllApart ((u.str ++ u.line_str) ++ u.starts)
-apart-both u h = subst AllApart (sym (append_assoc u.str u.line_str u.starts)) h
+apart-both : (u : UnitPaths) → AllApart (fields_into u Str ++ (fields_into u LineStr ++ fields_into u Line)) → AllApart ((fields_into u Str ++ fields_into u LineStr) ++ fields_into u Line)
+apart-both u h = subst AllApart (sym (append_assoc (fields_into u Str) (fields_into u LineStr) (fields_into u Line))) h
 
 -- those of both tables, one after the other
-pub none-free : (v : View) (u : UnitPaths) (p : PatchList) (n size : ℕ) → p ≡ no_patches v.order n size → AreFree p.list u.str
-none-free v u p n size is = rw is (free-first u.str)
+pub none-free : (v : View) (u : UnitPaths) (p : PatchList) (n size : ℕ) → p ≡ no_patches v.order n size → AreFree p.list (fields_into u Str)
+none-free v u p n size is = rw is (free-first (fields_into u Str))
 
 pub line-free : (v : View) (u : UnitPaths) (p q : PatchList) (known : ℕ → Option ℕ) (n size : ℕ) → HasPlaces v u → p ≡ no_patches v.order n size
-    → AreSet (source_in v u.number in_str) known u.str p q → AreFree q.list u.line_str
+    → AreSet (source_in v u.number in_str) known (fields_into u Str) p q → AreFree q.list (fields_into u LineStr)
 line-free v u p q known n size h is s =
     let list : q.list ≡ s.more = s.list ∙ ap (λ (x : PatchList). x.list ++ s.more) is in
-    subst (λ (ps : List Patch). AreFree ps u.line_str) (sym list)
-    (free-behind (source_in v u.number in_str) known [] s.more u.str u.line_str s.said (apart-front (u.str ++ u.line_str) u.starts (apart-both u h.apart)) (free-first u.line_str))
+    subst (λ (ps : List Patch). AreFree ps (fields_into u LineStr)) (sym list)
+    (free-behind (source_in v u.number in_str) known [] s.more (fields_into u Str) (fields_into u LineStr) s.said (apart-front (fields_into u Str ++ fields_into u LineStr) (fields_into u Line) (apart-both u h.apart)) (free-first (fields_into u LineStr)))
 
 pub start-free : (v : View) (u : UnitPaths) (p q r : PatchList) (ks kl : ℕ → Option ℕ) (n size : ℕ) → HasPlaces v u → p ≡ no_patches v.order n size
-    → AreSet (source_in v u.number in_str) ks u.str p q → AreSet (source_in v u.number in_line_str) kl u.line_str q r → AreFree r.list u.starts
+    → AreSet (source_in v u.number in_str) ks (fields_into u Str) p q → AreSet (source_in v u.number in_line_str) kl (fields_into u LineStr) q r → AreFree r.list (fields_into u Line)
 start-free v u p q r ks kl n size h is s l =
     let list : r.list ≡ s.more ++ l.more =
     l.list ∙ ap (λ (ps : List Patch). ps ++ l.more) (s.list ∙ ap (λ (x : PatchList). x.list ++ s.more) is) in
-    let behind : AllApart (u.line_str ++ u.starts) = apart-behind u.str (u.line_str ++ u.starts) h.apart in
-    let first : AreFree s.more u.starts =
-    free-behind (source_in v u.number in_str) ks [] s.more u.str u.starts s.said (apart-skip u.str u.line_str u.starts h.apart) (free-first u.starts) in
-    subst (λ (ps : List Patch). AreFree ps u.starts) (sym list)
-    (free-behind (source_in v u.number in_line_str) kl s.more l.more u.line_str u.starts l.said behind first)
+    let behind : AllApart (fields_into u LineStr ++ fields_into u Line) = apart-behind (fields_into u Str) (fields_into u LineStr ++ fields_into u Line) h.apart in
+    let first : AreFree s.more (fields_into u Line) =
+    free-behind (source_in v u.number in_str) ks [] s.more (fields_into u Str) (fields_into u Line) s.said (apart-skip (fields_into u Str) (fields_into u LineStr) (fields_into u Line) h.apart) (free-first (fields_into u Line)) in
+    subst (λ (ps : List Patch). AreFree ps (fields_into u Line)) (sym list)
+    (free-behind (source_in v u.number in_line_str) kl s.more l.more (fields_into u LineStr) (fields_into u Line) l.said behind first)
 
 pub fields-put : (v : View) (u : UnitPaths) (ks kl kt : ℕ → Option ℕ) (out new : List ℕ) (p q r w : PatchList) (n size : ℕ) → p ≡ no_patches v.order n size
-    → AreSet (source_in v u.number in_str) ks u.str p q → AreSet (source_in v u.number in_line_str) kl u.line_str q r
-    → AreSet (starts_in v u.number) kt u.starts r w → new ≡ with_patches w.order out w.list → new ≡ fields_known v ks kl kt u out
+    → AreSet (source_in v u.number in_str) ks (fields_into u Str) p q → AreSet (source_in v u.number in_line_str) kl (fields_into u LineStr) q r
+    → AreSet (starts_in v u.number) kt (fields_into u Line) r w → new ≡ with_patches w.order out w.list → new ≡ fields_known v ks kl kt u out
 fields-put v u ks kl kt out new p q r w n size is first second third put =
-    all-put (source_in v u.number in_str) (source_in v u.number in_line_str) (starts_in v u.number) out new ks kl kt u.str u.line_str u.starts p q r w
+    all-put (source_in v u.number in_str) (source_in v u.number in_line_str) (starts_in v u.number) out new ks kl kt (fields_into u Str) (fields_into u LineStr) (fields_into u Line) p q r w
     (ap (λ (x : PatchList). x.order) is) refl refl (ap (λ (x : PatchList). x.list) is) first second third put
 
 -- a section whose paths all fit isn't refused
@@ -183,7 +169,7 @@ places-there v u h = h.there
 pub file-there : (v : View) (b : List ℕ) (u : UnitPaths) (n : ℕ) → v ≡ view_of b → HasPlaces v u → n ≡ u.number → n < length (view_of b).sections
 file-there v b u n same h is = subst (λ (x : View). n < length x.sections) same (omega (arith, h.there, is))
 
-pub ruleset one_rules = (places-there, file-there)
+pub ruleset one_rules = (places-there, file-there, str-fields, line_str-fields, start-fields, str-apart, line_str-apart, starts-apart)
 
 pub lent-there : (b : List ℕ) (i : ℕ) → i < length (view_of b).sections → i < section_count b
 lent-there b i lt = omega (arith, lt, length-view_of b)

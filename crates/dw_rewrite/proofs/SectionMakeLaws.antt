@@ -22,7 +22,7 @@ use Rattle.dw_base.specs.UnitHeaders.{UnitSection}
 use Rattle.dw_base.specs.UnitPieces.{ReadsUnits}
 use Rattle.dw_base.specs.UnitStates.{before_unit}
 use Rattle.dw_base.specs.ViewData.{cells_located, debug_data}
-use Rattle.dw_base.specs.declared.debug_sections.DebugSection.TheVariants.{Info, StrOffsets, Macro}
+use Rattle.dw_base.specs.declared.debug_sections.DebugSection.TheVariants.{Info, Str, LineStr, StrOffsets, Line, Macro}
 use Rattle.dw_base.specs.declared.fault.Kind.TheVariants.{TooWide}
 use Rattle.dw_base.specs.declared.fault.Refusal.{Refusal}
 use Rattle.dw_meaning.specs.DataOutput.{changes_of, table_change}
@@ -31,7 +31,7 @@ use Rattle.dw_meaning.specs.NewAddends.AddendsFail.{in_unit, in_slots, in_macros
 use Rattle.dw_meaning.proofs.MacroPieceLaws.{CellsOf}
 use Rattle.dw_find.specs.MacroSections.{macro_starts, macros_read, macros_with}
 use Rattle.dw_find.specs.SlotPaths.{offset_fields, read_fields, slots_by, slots_read, slots_with}
-use Rattle.dw_find.specs.UnitPaths.{UnitPaths, paths_in, paths_of}
+use Rattle.dw_find.specs.UnitPaths.{UnitPaths, paths_in, paths_of, fields_into}
 use Rattle.dw_find.specs.ViewFields.{AllHaveOffsets, AllHavePlaces, HasOffsets, HasPlaces}
 use Rattle.dw_find.specs.declared.fields.PathField.{PathField}
 use Rattle.dw_find.proofs.MacroHaveLaws.{AllCells}
@@ -80,12 +80,12 @@ any-same s k j number (f ∷ fs) r same (inr h) = inr (any-same s k j number fs 
 -- the row of a section, by its lists of fields
 abbrev pub AnyField : View → (ℕ → Option ℕ) → (ℕ → Option ℕ) → (ℕ → Option ℕ) → UnitPaths → Refusal → Type 0
 AnyField v ks kl kt u r =
-    AnyMisses (source_in v u.number in_str) ks u.number u.str r ⊎ (AnyMisses (source_in v u.number in_line_str) kl u.number u.line_str r ⊎ AnyMisses (starts_in v u.number) kt u.number u.starts r)
+    AnyMisses (source_in v u.number in_str) ks u.number (fields_into u Str) r ⊎ (AnyMisses (source_in v u.number in_line_str) kl u.number (fields_into u LineStr) r ⊎ AnyMisses (starts_in v u.number) kt u.number (fields_into u Line) r)
 
 field-of : (v : View) (ks kl kt : ℕ → Option ℕ) (u : UnitPaths) (r : Refusal) → SectionMisses v ks kl kt u r → AnyField v ks kl kt u r
-field-of v ks kl kt u r (in_str_field h) = inl (any-of (source_in v u.number in_str) ks u.number u.str r h)
-field-of v ks kl kt u r (in_line_str_field h) = inr (inl (any-of (source_in v u.number in_line_str) kl u.number u.line_str r h))
-field-of v ks kl kt u r (in_start_field h) = inr (inr (any-of (starts_in v u.number) kt u.number u.starts r h))
+field-of v ks kl kt u r (in_str_field h) = inl (any-of (source_in v u.number in_str) ks u.number (fields_into u Str) r h)
+field-of v ks kl kt u r (in_line_str_field h) = inr (inl (any-of (source_in v u.number in_line_str) kl u.number (fields_into u LineStr) r h))
+field-of v ks kl kt u r (in_start_field h) = inr (inr (any-of (starts_in v u.number) kt u.number (fields_into u Line) r h))
 
 -- and of sections, by the list
 abbrev pub AnySection : View → (ℕ → Option ℕ) → (ℕ → Option ℕ) → (ℕ → Option ℕ) → List UnitPaths → Refusal → Type 0
@@ -129,10 +129,10 @@ section-known : (m : PathMap) (v : View) (ps pl : TextTable) (ks kl kt : ℕ →
     → IsSectionNoted m v in_str u ks → IsSectionNoted m v in_line_str u kl → SectionMakes v ks kl kt u
     → SectionMakes v (asked_in m v in_str ps.texts) (asked_in m v in_line_str pl.texts) kt u
 section-known m v ps pl ks kl kt u gs gl ns nl h = record {
-  str = makes-same (source_in v u.number in_str) ks (asked_in m v in_str ps.texts) u.str
-      (same-asked (plan_in m v in_str) m (source_in v u.number in_str) ps.texts u.str ks gs.knows ns) h.str;
-  line_str = makes-same (source_in v u.number in_line_str) kl (asked_in m v in_line_str pl.texts) u.line_str
-      (same-asked (plan_in m v in_line_str) m (source_in v u.number in_line_str) pl.texts u.line_str kl gl.knows nl) h.line_str;
+  str = makes-same (source_in v u.number in_str) ks (asked_in m v in_str ps.texts) (fields_into u Str)
+      (same-asked (plan_in m v in_str) m (source_in v u.number in_str) ps.texts (fields_into u Str) ks gs.knows ns) h.str;
+  line_str = makes-same (source_in v u.number in_line_str) kl (asked_in m v in_line_str pl.texts) (fields_into u LineStr)
+      (same-asked (plan_in m v in_line_str) m (source_in v u.number in_line_str) pl.texts (fields_into u LineStr) kl gl.knows nl) h.line_str;
   starts = h.starts;
 }
 
@@ -140,11 +140,11 @@ field-known : (m : PathMap) (v : View) (ps pl : TextTable) (ks kl kt : ℕ → O
     → IsSectionNoted m v in_str u ks → IsSectionNoted m v in_line_str u kl → AnyField v ks kl kt u r
     → AnyField v (asked_in m v in_str ps.texts) (asked_in m v in_line_str pl.texts) kt u r
 field-known m v ps pl ks kl kt u r gs gl ns nl (inl h) =
-    inl (any-same (source_in v u.number in_str) ks (asked_in m v in_str ps.texts) u.number u.str r
-    (same-asked (plan_in m v in_str) m (source_in v u.number in_str) ps.texts u.str ks gs.knows ns) h)
+    inl (any-same (source_in v u.number in_str) ks (asked_in m v in_str ps.texts) u.number (fields_into u Str) r
+    (same-asked (plan_in m v in_str) m (source_in v u.number in_str) ps.texts (fields_into u Str) ks gs.knows ns) h)
 field-known m v ps pl ks kl kt u r gs gl ns nl (inr (inl h)) =
-    inr (inl (any-same (source_in v u.number in_line_str) kl (asked_in m v in_line_str pl.texts) u.number u.line_str r
-    (same-asked (plan_in m v in_line_str) m (source_in v u.number in_line_str) pl.texts u.line_str kl gl.knows nl) h))
+    inr (inl (any-same (source_in v u.number in_line_str) kl (asked_in m v in_line_str pl.texts) u.number (fields_into u LineStr) r
+    (same-asked (plan_in m v in_line_str) m (source_in v u.number in_line_str) pl.texts (fields_into u LineStr) kl gl.knows nl) h))
 field-known m v ps pl ks kl kt u r gs gl ns nl (inr (inr h)) = inr (inr h)
 
 pub all-known : (m : PathMap) (v : View) (ps pl : TextTable) (ks kl kt : ℕ → Option ℕ) (us : List UnitPaths) → Growing m v in_str ps ks → Growing m v in_line_str pl kl

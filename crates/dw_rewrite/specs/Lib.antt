@@ -3,6 +3,7 @@ pub mod UnitsAfter
 pub mod NewOffsets
 pub mod NewTables
 pub mod NewStarts
+pub mod NewPlaces
 pub mod NewLines
 pub mod LineOffsets
 pub mod PushedBodies

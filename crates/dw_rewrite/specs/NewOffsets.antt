@@ -18,7 +18,7 @@ use Rattle.elf_layout.specs.declared.patch.Patch.{Patch}
 use Rattle.dw_rewrite.specs.Changes.{FieldSource, offset_at, path_of, start_known}
 use Rattle.dw_rewrite.specs.NewTables.{source_in, starts_in}
 use Rattle.dw_rewrite.specs.UnitsAfter.{start_source, text_source}
-use Rattle.dw_find.specs.UnitPaths.{UnitPaths}
+use Rattle.dw_find.specs.UnitPaths.{UnitPaths, fields_into}
 use Rattle.dw_find.specs.declared.fields.PathField.{PathField}
 
 -- the offset that a field is to say, where a new one is known
@@ -45,8 +45,8 @@ offsets_after c a cells fs gs hs =
 -- the same of a section that says this of paths, from what is known of the new places, and of the starts of line tables
 abbrev pub offsets_in : View → (ℕ → Option ℕ) → (ℕ → Option ℕ) → (ℕ → Option ℕ) → UnitPaths → List Patch
 offsets_in v ks kl kt u =
-    offsets_known (source_in v u.number in_str) ks u.str
-    ++ (offsets_known (source_in v u.number in_line_str) kl u.line_str ++ offsets_known (starts_in v u.number) kt u.starts)
+    offsets_known (source_in v u.number in_str) ks (fields_into u Str)
+    ++ (offsets_known (source_in v u.number in_line_str) kl (fields_into u LineStr) ++ offsets_known (starts_in v u.number) kt (fields_into u Line))
 
 -- none of the offsets is said where one of these fields begins
 abbrev pub AreAbsent : List Patch → List PathField → Type 0

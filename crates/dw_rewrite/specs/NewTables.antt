@@ -10,14 +10,15 @@ use Rattle.dw_base.specs.Paths.{PathMap}
 use Rattle.dw_base.specs.Refusals.{at}
 use Rattle.dw_base.specs.StringTables.{Plan, TextTable, appending, table_bytes}
 use Rattle.dw_base.specs.TextChanges.{TableChange}
-use Rattle.dw_base.specs.ViewData.{debug_data}
-use Rattle.dw_base.specs.declared.debug_sections.DebugSection.TheVariants.{Line}
+use Rattle.dw_base.specs.ViewData.{debug_data, located}
+use Rattle.dw_base.specs.declared.debug_sections.DebugSection.{DebugSection}
+use Rattle.dw_base.specs.declared.debug_sections.DebugSection.TheVariants.{Str, LineStr, Line}
 use Rattle.dw_base.specs.declared.fault.Fault.{Fault}
 use Rattle.dw_base.specs.declared.fault.Fault.TheVariants.{NoMemory, Refused}
 use Rattle.dw_base.specs.declared.fault.Kind.TheVariants.{TooLarge}
 use Rattle.dw_base.specs.declared.fault.Refusal.{Refusal}
 use Rattle.dw_rewrite.specs.Changes.{AreNoted, FieldSource, Knows, Remembers, patched, texts_at, with_all_known}
-use Rattle.dw_find.specs.UnitPaths.{UnitPaths}
+use Rattle.dw_find.specs.UnitPaths.{UnitPaths, fields_into}
 use Rattle.dw_rewrite.specs.UnitsAfter.{inlined}
 use Rattle.dw_find.specs.ViewFields.{fields_of, info_of, table_number, texts_in}
 
@@ -34,6 +35,16 @@ source_in v section table = record { order = v.order; cells = view_cells v secti
 
 abbrev pub starts_in : View → ℕ → FieldSource
 starts_in v section = record { order = v.order; cells = view_cells v section; table = located_cells ((debug_data v).found Line) }
+
+-- and into a section of debug data
+abbrev pub table_into : View → DebugSection → Located
+table_into v Str = texts_of v in_str
+table_into v LineStr = texts_of v in_line_str
+table_into v Line = located_cells ((debug_data v).found Line)
+table_into v s = located v s
+
+abbrev pub source_into : View → ℕ → DebugSection → FieldSource
+source_into v section s = record { order = v.order; cells = view_cells v section; table = table_into v s }
 
 -- the new texts of a table after the paths of a section, and of sections
 abbrev pub section_texts_at : PathMap → View → TextSection → List (List ℕ) → UnitPaths → List (List ℕ)
@@ -80,9 +91,9 @@ change_in m v table ts = record { plan = plan_in m v table; texts = ts }
 -- the new bytes of a section, where these are the new texts of the two tables, and the new starts of line tables by their old ones
 unfoldable pub section_after : PathMap → View → List (List ℕ) → List (List ℕ) → (ℕ → Option ℕ) → UnitPaths → List ℕ
 section_after m v ts ls kt u =
-    let with_str = patched (change_in m v in_str ts) m (source_in v u.number in_str) (info_of v u) u.str in
-    let with_both = patched (change_in m v in_line_str ls) m (source_in v u.number in_line_str) with_str u.line_str in
-    inlined m (info_of v u) (with_all_known (starts_in v u.number) kt with_both u.starts) u.inline
+    let with_str = patched (change_in m v in_str ts) m (source_in v u.number in_str) (info_of v u) (fields_into u Str) in
+    let with_both = patched (change_in m v in_line_str ls) m (source_in v u.number in_line_str) with_str (fields_into u LineStr) in
+    inlined m (info_of v u) (with_all_known (starts_in v u.number) kt with_both (fields_into u Line)) u.inline
 
 abbrev pub body_after : PathMap → View → List (List ℕ) → List (List ℕ) → (ℕ → Option ℕ) → UnitPaths → Body
 body_after m v ts ls kt u = record { number = u.number; bytes = section_after m v ts ls kt u }
@@ -104,15 +115,15 @@ pub data LongTable (m : PathMap) (v : View) (table : TextSection) (us : List Uni
 -- the same from the new places that are known
 unfoldable pub section_known : PathMap → View → (ℕ → Option ℕ) → (ℕ → Option ℕ) → (ℕ → Option ℕ) → UnitPaths → List ℕ
 section_known m v ks kl kt u =
-    let with_str = with_all_known (source_in v u.number in_str) ks (info_of v u) u.str in
-    let with_both = with_all_known (source_in v u.number in_line_str) kl with_str u.line_str in
-    inlined m (info_of v u) (with_all_known (starts_in v u.number) kt with_both u.starts) u.inline
+    let with_str = with_all_known (source_in v u.number in_str) ks (info_of v u) (fields_into u Str) in
+    let with_both = with_all_known (source_in v u.number in_line_str) kl with_str (fields_into u LineStr) in
+    inlined m (info_of v u) (with_all_known (starts_in v u.number) kt with_both (fields_into u Line)) u.inline
 
 -- the bytes of a section with the new offsets that are known in its fields of both tables, and the new starts of line tables
 abbrev pub fields_known : View → (ℕ → Option ℕ) → (ℕ → Option ℕ) → (ℕ → Option ℕ) → UnitPaths → List ℕ → List ℕ
 fields_known v ks kl kt u out =
     with_all_known (starts_in v u.number) kt
-    (with_all_known (source_in v u.number in_line_str) kl (with_all_known (source_in v u.number in_str) ks out u.str) u.line_str) u.starts
+    (with_all_known (source_in v u.number in_line_str) kl (with_all_known (source_in v u.number in_str) ks out (fields_into u Str)) (fields_into u LineStr)) (fields_into u Line)
 
 abbrev pub body_known : PathMap → View → (ℕ → Option ℕ) → (ℕ → Option ℕ) → (ℕ → Option ℕ) → UnitPaths → Body
 body_known m v ks kl kt u = record { number = u.number; bytes = section_known m v ks kl kt u }

@@ -5,12 +5,13 @@ use Rattle.dw_base.specs.FileViews.{View}
 use Rattle.dw_base.specs.Forms.{in_str, in_line_str}
 use Rattle.dw_base.specs.Refusals.{at}
 use Rattle.dw_base.specs.RelocationFields.{relocation_at}
+use Rattle.dw_base.specs.declared.debug_sections.DebugSection.TheVariants.{Str, LineStr, Line}
 use Rattle.dw_base.specs.declared.fault.Kind.TheVariants.{TooWide}
 use Rattle.dw_base.specs.declared.fault.Refusal.{Refusal}
 use Rattle.dw_meaning.specs.NewAddends.{Makes, Misses}
 use Rattle.dw_rewrite.specs.Changes.{FieldSource, offset_at}
 use Rattle.dw_rewrite.specs.NewTables.{source_in, starts_in}
-use Rattle.dw_find.specs.UnitPaths.{UnitPaths}
+use Rattle.dw_find.specs.UnitPaths.{UnitPaths, fields_into}
 use Rattle.dw_find.specs.declared.fields.PathField.{PathField}
 
 -- the addend at a field makes the offset that it is to say, where a new one is known
@@ -25,9 +26,9 @@ FieldsMake s known (f ∷ fs) = FieldMakes s f (known (offset_at s f)) × Fields
 
 -- at those of a section's paths and line tables, from what is known of the new places, and of the starts of line tables
 pub record SectionMakes (v : View) (ks kl kt : ℕ → Option ℕ) (u : UnitPaths) : Type 0 where
-  pub str : FieldsMake (source_in v u.number in_str) ks u.str
-  pub line_str : FieldsMake (source_in v u.number in_line_str) kl u.line_str
-  pub starts : FieldsMake (starts_in v u.number) kt u.starts
+  pub str : FieldsMake (source_in v u.number in_str) ks (fields_into u Str)
+  pub line_str : FieldsMake (source_in v u.number in_line_str) kl (fields_into u LineStr)
+  pub starts : FieldsMake (starts_in v u.number) kt (fields_into u Line)
 
 -- and of all these sections
 abbrev pub AllMake : View → (ℕ → Option ℕ) → (ℕ → Option ℕ) → (ℕ → Option ℕ) → List UnitPaths → Type 0
@@ -45,9 +46,9 @@ pub data FieldsMiss (s : FieldSource) (known : ℕ → Option ℕ) (section : �
 
 -- of one of a section
 pub data SectionMisses (v : View) (ks kl kt : ℕ → Option ℕ) (u : UnitPaths) : Refusal → Type 0 where
-  in_str_field : {r : Refusal} → FieldsMiss (source_in v u.number in_str) ks u.number u.str r → SectionMisses v ks kl kt u r
-  in_line_str_field : {r : Refusal} → FieldsMiss (source_in v u.number in_line_str) kl u.number u.line_str r → SectionMisses v ks kl kt u r
-  in_start_field : {r : Refusal} → FieldsMiss (starts_in v u.number) kt u.number u.starts r → SectionMisses v ks kl kt u r
+  in_str_field : {r : Refusal} → FieldsMiss (source_in v u.number in_str) ks u.number (fields_into u Str) r → SectionMisses v ks kl kt u r
+  in_line_str_field : {r : Refusal} → FieldsMiss (source_in v u.number in_line_str) kl u.number (fields_into u LineStr) r → SectionMisses v ks kl kt u r
+  in_start_field : {r : Refusal} → FieldsMiss (starts_in v u.number) kt u.number (fields_into u Line) r → SectionMisses v ks kl kt u r
 
 -- and of one of these sections
 pub data AllMiss (v : View) (ks kl kt : ℕ → Option ℕ) (us : List UnitPaths) : Refusal → Type 0 where

@@ -3,8 +3,7 @@
 //!
 //! Read first: `specs/Bodies.antt`.
 
-ghost use Rattle.std.specs.HashMap.{get};
-ghost use Rattle.std.specs.Prelude.{[], ◌≡◌, ◌⊎◌, ◌∷◌, ◌++◌, ◌<◌, ◌≤◌, ℕ, length, nat_eq, slice_index, IfErr, IfOk, OnOk};
+ghost use Rattle.std.specs.Prelude.{[], ◌≡◌, ◌⊎◌, ◌∷◌, ◌++◌, ◌<◌, ◌≤◌, ℕ, length, slice_index, IfErr, IfOk, OnOk};
 ghost use Rattle.dw_base.specs.DebugData.{line_source};
 ghost use Rattle.dw_base.specs.DebugSections.{name_of};
 ghost use Rattle.dw_base.specs.Elf.{contents_of};
@@ -14,7 +13,7 @@ ghost use Rattle.dw_base.specs.Refusals.{Blames, at};
 ghost use Rattle.dw_base.specs.RelocationRows.{moving_sections};
 ghost use Rattle.dw_base.specs.RelocationSectionFails.{RelocationSectionsRead};
 ghost use Rattle.dw_base.specs.ViewData.{debug_data};
-ghost use Rattle.dw_base.specs.declared.debug_sections.DebugSection.TheVariants.{Line};
+ghost use Rattle.dw_base.specs.declared.debug_sections.DebugSection.TheVariants.{Str, LineStr, Line};
 ghost use Rattle.dw_base.specs.declared.fault.Fault.TheVariants.{NoMemory};
 ghost use Rattle.dw_lines.specs.ViewTables.{TablesFound};
 ghost use Rattle.dw_meaning.specs.RelocationFails.{LeftRelocationsRead};
@@ -22,30 +21,30 @@ ghost use Rattle.dw_find.specs.ViewFields.{AllHaveOffsets, AllHavePlaces, AllRoo
 ghost use Rattle.dw_rewrite.specs.NewTables.{bodies_known, table_body_of};
 ghost use Rattle.dw_rewrite.specs.Bodies.{BodiesRefuse, FileBodiesMade};
 ghost use Rattle.dw_find.specs.FoundPaths.{PathsFound, without_lines};
-ghost use Rattle.dw_rewrite.specs.NewStarts.{known_starts};
 ghost use Rattle.dw_find.specs.SlotPaths.{lines_count};
 ghost use Rattle.dw_find.specs.MacroSections.{UnitsFoundIn};
 ghost use Rattle.dw_rewrite.specs.PushedBodies.{macros_count, names_body, one_body, pushed_bodies, slots_count, some_sections};
 ghost use Rattle.dw_rewrite.specs.LineOffsets.{OffsetMisses, OffsetsMake, StartsKnown, line_offsets, line_record};
 ghost use Rattle.dw_rewrite.specs.NewOffsets.{AllPlacesFit, records_known};
 ghost use Rattle.dw_rewrite.specs.OffsetAddends.{AllMake, AllMiss};
+ghost use Rattle.dw_rewrite.specs.NewPlaces.{places_known};
 
 use crate::line_records::push_line_record;
 use crate::lines::{NewLines, new_lines};
+use crate::new_places::NewPlaces;
 use crate::new_sections::{Body, new_sections};
 use crate::records::push_records;
 use crate::starts::NewStarts;
 use crate::tables::{NewTable, new_table};
 use dw_base::{DebugSection, Fault, Kind, OUTPUT_LIMIT, Refusal};
 use dw_find::{MacroSection, TextsOf, UnitPaths, starts_of, table_number};
-use dw_lines::LineTable;
+use dw_lines::{LineTable, NewTexts};
 use dw_paths::Maps;
 use dw_strings::Pool;
 use dw_view::{RelocationSources, View};
 use elf_file::ElfFile;
 use elf_layout::NewBody;
 use std::alloc::{AllocError, Global};
-use std::collections::HashMap;
 
 /// The sections with new bytes: the tables of texts, string offsets, line tables and name tables, then the sections
 /// of macro units and the unit sections, each in the order of their numbers, and those that hold relocations of them.
@@ -78,12 +77,14 @@ pub(crate) fn new_bodies<'a>(
         pool: line_pool,
         new_offsets: line_offsets,
     } = new_table(alloc, view, maps, TextsOf::LineStr, paths)?;
-    let lines = new_lines(alloc, view, maps, &new_offsets, &line_offsets, tables)?;
+    let texts = NewTexts::new(new_offsets, line_offsets);
+    let lines = new_lines(alloc, view, maps, &texts, tables)?;
     if lines.bytes.len() as u64 > OUTPUT_LIMIT {
         return Err(Fault::Refused(long_lines(view)));
     }
     let NewLines { bytes, starts: new } = lines;
     let starts = NewStarts::new(old.as_slice(), new.as_slice());
+    let places = NewPlaces { texts, starts };
     let mut bodies = table_bodies(alloc, view, pool, line_pool)?;
     let lines = lines_body(view, bytes);
     let sections = without_lines(view, paths);
@@ -92,9 +93,7 @@ pub(crate) fn new_bodies<'a>(
         elf,
         view,
         maps,
-        &new_offsets,
-        &line_offsets,
-        &starts,
+        &places,
         lines,
         macros.len(),
         sections,
@@ -105,9 +104,7 @@ pub(crate) fn new_bodies<'a>(
         view,
         sources,
         maps,
-        &new_offsets,
-        &line_offsets,
-        &starts,
+        &places,
         new.as_slice(),
         tables,
         sections,
@@ -193,9 +190,7 @@ fn push_bodies<'a>(
     elf: &ElfFile<'a>,
     view: &View,
     maps: &Maps,
-    str: &HashMap<u64, u64>,
-    line_str: &HashMap<u64, u64>,
-    starts: &NewStarts,
+    new_places: &NewPlaces,
     lines: Body<'a>,
     macro_count: usize,
     paths: &[UnitPaths],
@@ -207,18 +202,16 @@ fn push_bodies<'a>(
     requires rooms { AllRoomsFit maps.now view.now paths.now }
     requires macros { macro_count ≡ macros_count view.now }
     requires among { some_sections view.now ≤ length paths.now }
-    ensures bodies { OnOk result (bodies.new.items ≡ bodies.old.items ++ pushed_bodies maps.now view.now (λ o. get nat_eq str.now o) (λ o. get nat_eq line_str.now o) (λ o. known_starts starts.now o) lines.entry paths.now) }
+    ensures bodies { OnOk result (bodies.new.items ≡ bodies.old.items ++ pushed_bodies maps.now view.now (places_known new_places.now Str) (places_known new_places.now LineStr) (places_known new_places.now Line) lines.entry paths.now) }
     ensures only { IfErr result (λ f. f ≡ NoMemory) }
 {
     let (front, macros) = paths.split_at(paths.len() - macro_count);
     let (units, slots) = front.split_at(front.len() - slots_count(view));
-    push_slots_body(alloc, elf, view, maps, str, line_str, starts, slots, bodies)?;
+    push_slots_body(alloc, elf, view, maps, new_places, slots, bodies)?;
     bodies.push(lines)?;
     push_names(alloc, view, bodies)?;
-    new_sections(
-        alloc, elf, view, maps, str, line_str, starts, macros, bodies,
-    )?;
-    new_sections(alloc, elf, view, maps, str, line_str, starts, units, bodies)?;
+    new_sections(alloc, elf, view, maps, new_places, macros, bodies)?;
+    new_sections(alloc, elf, view, maps, new_places, units, bodies)?;
     Ok(())
 }
 
@@ -230,9 +223,7 @@ fn push_relocations(
     view: &View,
     sources: &RelocationSources,
     maps: &Maps,
-    str: &HashMap<u64, u64>,
-    line_str: &HashMap<u64, u64>,
-    starts: &NewStarts,
+    new_places: &NewPlaces,
     new: &[u64],
     tables: &[LineTable],
     paths: &[UnitPaths],
@@ -245,16 +236,15 @@ fn push_relocations(
     requires places { AllHavePlaces view.now paths.now }
     requires fit { AllPlacesFit sources.now }
     requires tables { TablesFound view.now tables.now }
-    requires starts { StartsKnown maps.now (line_source (debug_data view.now)) (λ o. get nat_eq str.now o) (λ o. get nat_eq line_str.now o) tables.now new.now }
-    ensures bodies { OnOk result (bodies.new.items ≡ (bodies.old.items ++ records_known sources.now view.now (λ o. get nat_eq str.now o) (λ o. get nat_eq line_str.now o) (λ o. known_starts starts.now o) paths.now) ++ line_record sources.now maps.now (line_source (debug_data view.now)) (λ o. get nat_eq str.now o) (λ o. get nat_eq line_str.now o) tables.now (section_named view.now (name_of Line))) }
-    ensures makes { OnOk result (AllMake view.now (λ o. get nat_eq str.now o) (λ o. get nat_eq line_str.now o) (λ o. known_starts starts.now o) paths.now) }
-    ensures line_makes { OnOk result (OffsetsMake (line_source (debug_data view.now)).cells (line_offsets maps.now (line_source (debug_data view.now)) (λ o. get nat_eq str.now o) (λ o. get nat_eq line_str.now o) tables.now)) }
-    ensures refused { IfErr result (Blames (λ r. AllMiss view.now (λ o. get nat_eq str.now o) (λ o. get nat_eq line_str.now o) (λ o. known_starts starts.now o) paths.now r ⊎ OffsetMisses (line_source (debug_data view.now)).number (line_source (debug_data view.now)).cells (line_offsets maps.now (line_source (debug_data view.now)) (λ o. get nat_eq str.now o) (λ o. get nat_eq line_str.now o) tables.now) r)) }
+    requires starts { StartsKnown maps.now (line_source (debug_data view.now)) (places_known new_places.now Str) (places_known new_places.now LineStr) tables.now new.now }
+    ensures bodies { OnOk result (bodies.new.items ≡ (bodies.old.items ++ records_known sources.now view.now (places_known new_places.now Str) (places_known new_places.now LineStr) (places_known new_places.now Line) paths.now) ++ line_record sources.now maps.now (line_source (debug_data view.now)) (places_known new_places.now Str) (places_known new_places.now LineStr) tables.now (section_named view.now (name_of Line))) }
+    ensures makes { OnOk result (AllMake view.now (places_known new_places.now Str) (places_known new_places.now LineStr) (places_known new_places.now Line) paths.now) }
+    ensures line_makes { OnOk result (OffsetsMake (line_source (debug_data view.now)).cells (line_offsets maps.now (line_source (debug_data view.now)) (places_known new_places.now Str) (places_known new_places.now LineStr) tables.now)) }
+    ensures refused { IfErr result (Blames (λ r. AllMiss view.now (places_known new_places.now Str) (places_known new_places.now LineStr) (places_known new_places.now Line) paths.now r ⊎ OffsetMisses (line_source (debug_data view.now)).number (line_source (debug_data view.now)).cells (line_offsets maps.now (line_source (debug_data view.now)) (places_known new_places.now Str) (places_known new_places.now LineStr) tables.now) r)) }
 {
-    push_records(alloc, view, sources, str, line_str, starts, paths, bodies)?;
-    push_line_record(
-        alloc, view, sources, maps, str, line_str, new, tables, bodies,
-    )?;
+    push_records(alloc, view, sources, new_places, paths, bodies)?;
+    let new_texts = new_places.texts();
+    push_line_record(alloc, view, sources, maps, new_texts, new, tables, bodies)?;
     Ok(())
 }
 
@@ -276,9 +266,7 @@ fn push_slots_body<'a>(
     elf: &ElfFile<'a>,
     view: &View,
     maps: &Maps,
-    str: &HashMap<u64, u64>,
-    line_str: &HashMap<u64, u64>,
-    starts: &NewStarts,
+    new_places: &NewPlaces,
     slots: &[UnitPaths],
     bodies: &mut Vec<Body<'a>>,
 ) -> Result<(), Fault>
@@ -286,7 +274,7 @@ fn push_slots_body<'a>(
     requires offsets { AllHaveOffsets view.now slots.now }
     requires places { AllHavePlaces view.now slots.now }
     requires rooms { AllRoomsFit maps.now view.now slots.now }
-    ensures body { OnOk result (bodies.new.items ≡ bodies.old.items ++ one_body (bodies_known maps.now view.now (λ o. get nat_eq str.now o) (λ o. get nat_eq line_str.now o) (λ o. known_starts starts.now o) slots.now)) }
+    ensures body { OnOk result (bodies.new.items ≡ bodies.old.items ++ one_body (bodies_known maps.now view.now (places_known new_places.now Str) (places_known new_places.now LineStr) (places_known new_places.now Line) slots.now)) }
     ensures only { IfErr result (λ f. f ≡ NoMemory) }
 {
     if slots.is_empty() {
@@ -296,7 +284,7 @@ fn push_slots_body<'a>(
         })?;
         return Ok(());
     }
-    new_sections(alloc, elf, view, maps, str, line_str, starts, slots, bodies)?;
+    new_sections(alloc, elf, view, maps, new_places, slots, bodies)?;
     Ok(())
 }
 

@@ -14,12 +14,12 @@ ghost use Rattle.dw_base.specs.declared.fault.Fault.TheVariants.{NoMemory};
 ghost use Rattle.dw_patch.specs.Patching.{IsFree};
 ghost use Rattle.dw_find.specs.Fields.{AllApart, AreOffsetFields};
 ghost use Rattle.dw_rewrite.specs.Changes.{AreFieldsOf, AreFree, AreNoted, AreSet, IsSet, Knows, Remembers, texts_at};
-ghost use Rattle.dw_rewrite.specs.NewStarts.{known_starts};
+ghost use Rattle.dw_rewrite.specs.NewPlaces.{places_known};
 
-use crate::new_offsets::{new_offset, note_path};
+use crate::new_offsets::note_path;
+use crate::new_places::NewPlaces;
 use crate::sources::FieldSource;
-use crate::starts::NewStarts;
-use dw_base::Fault;
+use dw_base::{DebugSection, Fault};
 use dw_find::PathField;
 use dw_patch::{NewPlace, Patches};
 use dw_paths::Maps;
@@ -54,23 +54,25 @@ pub(crate) fn note_fields(
     Ok(())
 }
 
-/// Sets these fields of a section to the new offsets that are known for their old ones.
+/// Sets these fields of a section, which hold offsets into another, to the new places that are known of their old ones.
 #[tactic(auto, using(crate::proofs::FieldSetLaws::set_rules))]
 pub(crate) fn set_fields(
     source: &FieldSource,
     fields: &[PathField],
-    new_offsets: &HashMap<u64, u64>,
+    into: DebugSection,
+    new_places: &NewPlaces,
     patches: &mut Patches,
 ) -> Result<(), Fault>
-    requires paths { AreOffsetFields source.now.order source.now.table source.now.cells fields.now }
+    requires fields { AreFieldsOf source.now fields.now }
     requires size { patches.old.size ≡ length source.now.cells }
     requires apart { AllApart fields.now }
     requires free { AreFree patches.old.list fields.now }
-    ensures set { OnOk result (AreSet source.now (λ o. get nat_eq new_offsets.now o) fields.now patches.old patches.new) }
+    ensures set { OnOk result (AreSet source.now (places_known new_places.now into) fields.now patches.old patches.new) }
     ensures only { IfErr result (λ f. f ≡ NoMemory) }
 {
     for at in fields {
-        let new = new_offset(source, *at, new_offsets);
+        let old = source.offset(*at);
+        let new = new_places.get(into, old);
         set_known(source, *at, new, patches)?;
     }
     Ok(())
@@ -94,29 +96,6 @@ fn set_known(
     if let Some(place) = new {
         let number = source.number(field, place);
         patches.set(field.at, field.size, NewPlace::Offset(number))?;
-    }
-    Ok(())
-}
-
-/// Sets these fields of a section to the new starts of the line tables that started where they say.
-#[tactic(auto, using(crate::proofs::FieldSetLaws::start_rules))]
-pub(crate) fn set_starts(
-    source: &FieldSource,
-    fields: &[PathField],
-    starts: &NewStarts,
-    patches: &mut Patches,
-) -> Result<(), Fault>
-    requires fields { AreFieldsOf source.now fields.now }
-    requires size { patches.old.size ≡ length source.now.cells }
-    requires apart { AllApart fields.now }
-    requires free { AreFree patches.old.list fields.now }
-    ensures set { OnOk result (AreSet source.now (λ o. known_starts starts.now o) fields.now patches.old patches.new) }
-    ensures only { IfErr result (λ f. f ≡ NoMemory) }
-{
-    for at in fields {
-        let start = source.offset(*at);
-        let new = starts.get(start);
-        set_known(source, *at, new, patches)?;
     }
     Ok(())
 }

@@ -29,6 +29,7 @@ mod line_records;
 mod lines;
 mod loaded_sections;
 mod new_offsets;
+mod new_places;
 mod new_sections;
 mod records;
 mod refusal;

@@ -6,8 +6,7 @@
 //! line tables pays for none of it. Read first: `specs/LineOffsets.antt`.
 
 ghost use Rattle.std.specs.Bool.{OnFalse, OnTrue};
-ghost use Rattle.std.specs.HashMap.{get};
-ghost use Rattle.std.specs.Prelude.{◌≡◌, ◌⊎◌, ◌+◌, ◌++◌, ◌<◌, ◌≤◌, ◌^◌, length, nat_eq, IfErr, IfOk, OnOk};
+ghost use Rattle.std.specs.Prelude.{◌≡◌, ◌⊎◌, ◌+◌, ◌++◌, ◌<◌, ◌≤◌, ◌^◌, length, IfErr, IfOk, OnOk};
 ghost use Rattle.dw_base.specs.DebugData.{line_source};
 ghost use Rattle.dw_base.specs.DebugSections.{name_of};
 ghost use Rattle.dw_base.specs.Elf.{contents_of};
@@ -19,7 +18,7 @@ ghost use Rattle.dw_base.specs.RelocationSectionFails.{RelocationSectionsRead};
 ghost use Rattle.dw_base.specs.SectionRelocations.{relocation_section};
 ghost use Rattle.dw_base.specs.ViewData.{debug_data};
 ghost use Rattle.dw_base.specs.WrittenLines.{new_place};
-ghost use Rattle.dw_base.specs.declared.debug_sections.DebugSection.TheVariants.{Line};
+ghost use Rattle.dw_base.specs.declared.debug_sections.DebugSection.TheVariants.{Str, LineStr, Line};
 ghost use Rattle.dw_lines.specs.TableMoves.{PathsInOrder, new_end, offsets_from, runs_from};
 ghost use Rattle.dw_lines.specs.ViewSources.{view_source};
 ghost use Rattle.dw_lines.specs.ViewTables.{TablesFound};
@@ -29,18 +28,18 @@ ghost use Rattle.dw_meaning.specs.RelocationFails.{LeftRelocationsRead};
 ghost use Rattle.dw_patch.specs.RecordMoves.{PlacesFit, moved_table};
 ghost use Rattle.dw_rewrite.specs.LineOffsets.{AllMove, LinesFit, OffsetMisses, OffsetsInside, OffsetsMake, OffsetsRise, OffsetsSized, StartsKnown, held_lines, line_offsets, line_record, line_runs, said_fields};
 ghost use Rattle.dw_rewrite.specs.NewLines.{StandsIn};
+ghost use Rattle.dw_lines.specs.NewTexts.{texts_known};
 
 use crate::new_sections::Body;
 use crate::sources::FieldSource;
 use dw_base::{DebugSection, Fault, Kind, Refusal};
 use dw_find::PathField;
-use dw_lines::{FieldOffset, LineTable, Run};
+use dw_lines::{FieldOffset, LineTable, NewTexts, Run};
 use dw_patch::{Offsets, RelocSource};
 use dw_paths::Maps;
 use dw_view::{RelocationSources, View};
 use elf_layout::NewBody;
 use std::alloc::{AllocError, Global};
-use std::collections::HashMap;
 
 /// How line tables move when they are written anew.
 #[derive(Drop)]
@@ -60,8 +59,7 @@ pub(crate) fn push_line_record(
     view: &View,
     sources: &RelocationSources,
     maps: &Maps,
-    str: &HashMap<u64, u64>,
-    line_str: &HashMap<u64, u64>,
+    new_texts: &NewTexts,
     starts: &[u64],
     tables: &[LineTable],
     bodies: &mut Vec<Body>,
@@ -70,14 +68,14 @@ pub(crate) fn push_line_record(
     requires relocations { RelocationSectionsRead (contents_of sources.now) sources.now }
     requires left { LeftRelocationsRead (debug_data view.now) (moving_sections view.now) }
     requires tables { TablesFound view.now tables.now }
-    requires starts { StartsKnown maps.now (line_source (debug_data view.now)) (λ o. get nat_eq str.now o) (λ o. get nat_eq line_str.now o) tables.now starts.now }
-    ensures bodies { OnOk result (bodies.new.items ≡ bodies.old.items ++ line_record sources.now maps.now (line_source (debug_data view.now)) (λ o. get nat_eq str.now o) (λ o. get nat_eq line_str.now o) tables.now (section_named view.now (name_of Line))) }
-    ensures makes { OnOk result (OffsetsMake (line_source (debug_data view.now)).cells (line_offsets maps.now (line_source (debug_data view.now)) (λ o. get nat_eq str.now o) (λ o. get nat_eq line_str.now o) tables.now)) }
-    ensures refused { IfErr result (Blames (OffsetMisses (line_source (debug_data view.now)).number (line_source (debug_data view.now)).cells (line_offsets maps.now (line_source (debug_data view.now)) (λ o. get nat_eq str.now o) (λ o. get nat_eq line_str.now o) tables.now))) }
+    requires starts { StartsKnown maps.now (line_source (debug_data view.now)) (texts_known new_texts.now Str) (texts_known new_texts.now LineStr) tables.now starts.now }
+    ensures bodies { OnOk result (bodies.new.items ≡ bodies.old.items ++ line_record sources.now maps.now (line_source (debug_data view.now)) (texts_known new_texts.now Str) (texts_known new_texts.now LineStr) tables.now (section_named view.now (name_of Line))) }
+    ensures makes { OnOk result (OffsetsMake (line_source (debug_data view.now)).cells (line_offsets maps.now (line_source (debug_data view.now)) (texts_known new_texts.now Str) (texts_known new_texts.now LineStr) tables.now)) }
+    ensures refused { IfErr result (Blames (OffsetMisses (line_source (debug_data view.now)).number (line_source (debug_data view.now)).cells (line_offsets maps.now (line_source (debug_data view.now)) (texts_known new_texts.now Str) (texts_known new_texts.now LineStr) tables.now))) }
 {
     if let Some(section) = view.first(DebugSection::Line) {
         push_held_lines(
-            alloc, view, sources, maps, str, line_str, starts, tables, section, bodies,
+            alloc, view, sources, maps, new_texts, starts, tables, section, bodies,
         )?;
     }
     Ok(())
@@ -90,8 +88,7 @@ fn push_held_lines(
     view: &View,
     sources: &RelocationSources,
     maps: &Maps,
-    str: &HashMap<u64, u64>,
-    line_str: &HashMap<u64, u64>,
+    new_texts: &NewTexts,
     starts: &[u64],
     tables: &[LineTable],
     section: u32,
@@ -99,16 +96,16 @@ fn push_held_lines(
 ) -> Result<(), Fault>
     requires there { section < length view.now.sections }
     requires view { view.now ≡ view_of sources.now }
-    requires moves { AllMove maps.now (view_source view.now section) (λ o. get nat_eq str.now o) (λ o. get nat_eq line_str.now o) 0 0 tables.now starts.now }
-    requires inside { OffsetsInside (length (view_cells view.now section)) (line_offsets maps.now (view_source view.now section) (λ o. get nat_eq str.now o) (λ o. get nat_eq line_str.now o) tables.now) }
-    requires fit { LinesFit sources.now maps.now (view_source view.now section) (λ o. get nat_eq str.now o) (λ o. get nat_eq line_str.now o) tables.now section }
-    ensures bodies { OnOk result (bodies.new.items ≡ bodies.old.items ++ held_lines sources.now maps.now (view_source view.now section) (λ o. get nat_eq str.now o) (λ o. get nat_eq line_str.now o) tables.now (relocation_section sources.now section)) }
-    ensures makes { OnOk result (OffsetsMake (view_cells view.now section) (line_offsets maps.now (view_source view.now section) (λ o. get nat_eq str.now o) (λ o. get nat_eq line_str.now o) tables.now)) }
-    ensures refused { IfErr result (Blames (OffsetMisses section (view_cells view.now section) (line_offsets maps.now (view_source view.now section) (λ o. get nat_eq str.now o) (λ o. get nat_eq line_str.now o) tables.now))) }
+    requires moves { AllMove maps.now (view_source view.now section) (texts_known new_texts.now Str) (texts_known new_texts.now LineStr) 0 0 tables.now starts.now }
+    requires inside { OffsetsInside (length (view_cells view.now section)) (line_offsets maps.now (view_source view.now section) (texts_known new_texts.now Str) (texts_known new_texts.now LineStr) tables.now) }
+    requires fit { LinesFit sources.now maps.now (view_source view.now section) (texts_known new_texts.now Str) (texts_known new_texts.now LineStr) tables.now section }
+    ensures bodies { OnOk result (bodies.new.items ≡ bodies.old.items ++ held_lines sources.now maps.now (view_source view.now section) (texts_known new_texts.now Str) (texts_known new_texts.now LineStr) tables.now (relocation_section sources.now section)) }
+    ensures makes { OnOk result (OffsetsMake (view_cells view.now section) (line_offsets maps.now (view_source view.now section) (texts_known new_texts.now Str) (texts_known new_texts.now LineStr) tables.now)) }
+    ensures refused { IfErr result (Blames (OffsetMisses section (view_cells view.now section) (line_offsets maps.now (view_source view.now section) (texts_known new_texts.now Str) (texts_known new_texts.now LineStr) tables.now))) }
 {
     if let Some((holder, source)) = sources.of(section) {
         let body = moved_body(
-            alloc, view, maps, str, line_str, starts, tables, section, holder, &source,
+            alloc, view, maps, new_texts, starts, tables, section, holder, &source,
         )?;
         bodies.push(body)?;
     }
@@ -121,8 +118,7 @@ fn moved_body<'v>(
     alloc: Global,
     view: &View,
     maps: &Maps,
-    str: &HashMap<u64, u64>,
-    line_str: &HashMap<u64, u64>,
+    new_texts: &NewTexts,
     starts: &[u64],
     tables: &[LineTable],
     section: u32,
@@ -130,14 +126,14 @@ fn moved_body<'v>(
     source: &RelocSource,
 ) -> Result<Body<'v>, Fault>
     requires there { section < length view.now.sections }
-    requires moves { AllMove maps.now (view_source view.now section) (λ o. get nat_eq str.now o) (λ o. get nat_eq line_str.now o) 0 0 tables.now starts.now }
-    requires inside { OffsetsInside (length (view_cells view.now section)) (line_offsets maps.now (view_source view.now section) (λ o. get nat_eq str.now o) (λ o. get nat_eq line_str.now o) tables.now) }
-    requires fit { PlacesFit source.now (line_runs maps.now (view_source view.now section) (λ o. get nat_eq str.now o) (λ o. get nat_eq line_str.now o) tables.now) }
-    ensures body { IfOk result (λ b. b ≡ record { number = holder; bytes = moved_table source.now (line_runs maps.now (view_source view.now section) (λ o. get nat_eq str.now o) (λ o. get nat_eq line_str.now o) tables.now) (said_fields (line_offsets maps.now (view_source view.now section) (λ o. get nat_eq str.now o) (λ o. get nat_eq line_str.now o) tables.now)) }) }
-    ensures makes { OnOk result (OffsetsMake (view_cells view.now section) (line_offsets maps.now (view_source view.now section) (λ o. get nat_eq str.now o) (λ o. get nat_eq line_str.now o) tables.now)) }
-    ensures refused { IfErr result (Blames (OffsetMisses section (view_cells view.now section) (line_offsets maps.now (view_source view.now section) (λ o. get nat_eq str.now o) (λ o. get nat_eq line_str.now o) tables.now))) }
+    requires moves { AllMove maps.now (view_source view.now section) (texts_known new_texts.now Str) (texts_known new_texts.now LineStr) 0 0 tables.now starts.now }
+    requires inside { OffsetsInside (length (view_cells view.now section)) (line_offsets maps.now (view_source view.now section) (texts_known new_texts.now Str) (texts_known new_texts.now LineStr) tables.now) }
+    requires fit { PlacesFit source.now (line_runs maps.now (view_source view.now section) (texts_known new_texts.now Str) (texts_known new_texts.now LineStr) tables.now) }
+    ensures body { IfOk result (λ b. b ≡ record { number = holder; bytes = moved_table source.now (line_runs maps.now (view_source view.now section) (texts_known new_texts.now Str) (texts_known new_texts.now LineStr) tables.now) (said_fields (line_offsets maps.now (view_source view.now section) (texts_known new_texts.now Str) (texts_known new_texts.now LineStr) tables.now)) }) }
+    ensures makes { OnOk result (OffsetsMake (view_cells view.now section) (line_offsets maps.now (view_source view.now section) (texts_known new_texts.now Str) (texts_known new_texts.now LineStr) tables.now)) }
+    ensures refused { IfErr result (Blames (OffsetMisses section (view_cells view.now section) (line_offsets maps.now (view_source view.now section) (texts_known new_texts.now Str) (texts_known new_texts.now LineStr) tables.now))) }
 {
-    let moves = line_moves(alloc, view, maps, str, line_str, starts, tables, section)?;
+    let moves = line_moves(alloc, view, maps, new_texts, starts, tables, section)?;
     let lines = FieldSource::new(view, section, section, view.bytes(section));
     let offsets = said_offsets(alloc, &lines, section, moves.offsets.as_slice())?;
     let mut bytes = Vec::from_slice(alloc, source.table)?;
@@ -153,16 +149,15 @@ fn line_moves(
     alloc: Global,
     view: &View,
     maps: &Maps,
-    str: &HashMap<u64, u64>,
-    line_str: &HashMap<u64, u64>,
+    new_texts: &NewTexts,
     starts: &[u64],
     tables: &[LineTable],
     section: u32,
 ) -> Result<LineMoves, AllocError>
     requires there { section < length view.now.sections }
-    requires moves { AllMove maps.now (view_source view.now section) (λ o. get nat_eq str.now o) (λ o. get nat_eq line_str.now o) 0 0 tables.now starts.now }
-    ensures runs { IfOk result (λ l. l.runs.items ≡ line_runs maps.now (view_source view.now section) (λ o. get nat_eq str.now o) (λ o. get nat_eq line_str.now o) tables.now) }
-    ensures offsets { IfOk result (λ l. l.offsets.items ≡ line_offsets maps.now (view_source view.now section) (λ o. get nat_eq str.now o) (λ o. get nat_eq line_str.now o) tables.now) }
+    requires moves { AllMove maps.now (view_source view.now section) (texts_known new_texts.now Str) (texts_known new_texts.now LineStr) 0 0 tables.now starts.now }
+    ensures runs { IfOk result (λ l. l.runs.items ≡ line_runs maps.now (view_source view.now section) (texts_known new_texts.now Str) (texts_known new_texts.now LineStr) tables.now) }
+    ensures offsets { IfOk result (λ l. l.offsets.items ≡ line_offsets maps.now (view_source view.now section) (texts_known new_texts.now Str) (texts_known new_texts.now LineStr) tables.now) }
 {
     let mut runs = Vec::new(alloc);
     let mut offsets = Vec::new(alloc);
@@ -171,8 +166,7 @@ fn line_moves(
             alloc,
             view,
             maps,
-            str,
-            line_str,
+            new_texts,
             section,
             table,
             starts[i],
@@ -189,8 +183,7 @@ fn push_table(
     alloc: Global,
     view: &View,
     maps: &Maps,
-    str: &HashMap<u64, u64>,
-    line_str: &HashMap<u64, u64>,
+    new_texts: &NewTexts,
     section: u32,
     table: &LineTable,
     new: u64,
@@ -199,12 +192,12 @@ fn push_table(
 ) -> Result<(), AllocError>
     requires there { section < length view.now.sections }
     requires stands { StandsIn (view_source view.now section) table.now }
-    requires order { PathsInOrder (view_source view.now section) maps.now (new_place (view_source view.now section) (λ o. get nat_eq str.now o) (λ o. get nat_eq line_str.now o)) table.now }
-    requires fits { new_end new (table_stretches (view_source view.now section) maps.now (new_place (view_source view.now section) (λ o. get nat_eq str.now o) (λ o. get nat_eq line_str.now o)) table.now) < 2 ^ 63 }
-    ensures runs { OnOk result (runs.new.items ≡ runs.old.items ++ runs_from table.now.start new (table_stretches (view_source view.now section) maps.now (new_place (view_source view.now section) (λ o. get nat_eq str.now o) (λ o. get nat_eq line_str.now o)) table.now)) }
-    ensures offsets { OnOk result (offsets.new.items ≡ offsets.old.items ++ offsets_from table.now.start (table_stretches (view_source view.now section) maps.now (new_place (view_source view.now section) (λ o. get nat_eq str.now o) (λ o. get nat_eq line_str.now o)) table.now)) }
+    requires order { PathsInOrder (view_source view.now section) maps.now (new_place (view_source view.now section) (texts_known new_texts.now Str) (texts_known new_texts.now LineStr)) table.now }
+    requires fits { new_end new (table_stretches (view_source view.now section) maps.now (new_place (view_source view.now section) (texts_known new_texts.now Str) (texts_known new_texts.now LineStr)) table.now) < 2 ^ 63 }
+    ensures runs { OnOk result (runs.new.items ≡ runs.old.items ++ runs_from table.now.start new (table_stretches (view_source view.now section) maps.now (new_place (view_source view.now section) (texts_known new_texts.now Str) (texts_known new_texts.now LineStr)) table.now)) }
+    ensures offsets { OnOk result (offsets.new.items ≡ offsets.old.items ++ offsets_from table.now.start (table_stretches (view_source view.now section) maps.now (new_place (view_source view.now section) (texts_known new_texts.now Str) (texts_known new_texts.now LineStr)) table.now)) }
 {
-    table.push_moves(alloc, view, maps, str, line_str, new, runs, offsets)?;
+    table.push_moves(alloc, view, maps, new_texts, new, runs, offsets)?;
     Ok(())
 }
 

@@ -4,23 +4,23 @@
 //! table's refusals.
 //! Read first: `specs/NewLines.antt`.
 
-ghost use Rattle.std.specs.HashMap.{get};
-ghost use Rattle.std.specs.Prelude.{◌≡◌, ◌++◌, ◌<◌, length, nat_eq, IfErr, IfOk, OnOk};
+ghost use Rattle.std.specs.Prelude.{◌≡◌, ◌++◌, ◌<◌, length, IfErr, IfOk, OnOk};
 ghost use Rattle.dw_base.specs.DebugData.{line_source};
 ghost use Rattle.dw_base.specs.LineWriteFails.{CanWrite, WriteFails};
 ghost use Rattle.dw_base.specs.Refusals.{Blames};
 ghost use Rattle.dw_base.specs.ViewData.{debug_data};
 ghost use Rattle.dw_base.specs.WrittenLines.{new_place, written_table};
+ghost use Rattle.dw_base.specs.declared.debug_sections.DebugSection.TheVariants.{Str, LineStr};
 ghost use Rattle.dw_lines.specs.ViewSources.{view_source};
 ghost use Rattle.dw_lines.specs.ViewTables.{TablesFound};
 ghost use Rattle.dw_rewrite.specs.NewLines.{AllStandIn, LinesRefuse, LinesWritten, StandsIn};
+ghost use Rattle.dw_lines.specs.NewTexts.{texts_known};
 
 use dw_base::{DebugSection, Fault};
-use dw_lines::LineTable;
+use dw_lines::{LineTable, NewTexts};
 use dw_paths::Maps;
 use dw_view::View;
 use std::alloc::Global;
-use std::collections::HashMap;
 
 /// Line tables with mapped paths, one after another.
 #[derive(Drop)]
@@ -38,16 +38,15 @@ pub(crate) fn new_lines(
     alloc: Global,
     view: &View,
     maps: &Maps,
-    str: &HashMap<u64, u64>,
-    line_str: &HashMap<u64, u64>,
+    new_texts: &NewTexts,
     tables: &[LineTable],
 ) -> Result<NewLines, Fault>
     requires tables { TablesFound view.now tables.now }
-    ensures written { IfOk result (λ n. LinesWritten maps.now (line_source (debug_data view.now)) (λ o. get nat_eq str.now o) (λ o. get nat_eq line_str.now o) tables.now n.bytes.items n.starts.items) }
-    ensures refused { IfErr result (Blames (LinesRefuse maps.now (line_source (debug_data view.now)) (λ o. get nat_eq str.now o) (λ o. get nat_eq line_str.now o) tables.now)) }
+    ensures written { IfOk result (λ n. LinesWritten maps.now (line_source (debug_data view.now)) (texts_known new_texts.now Str) (texts_known new_texts.now LineStr) tables.now n.bytes.items n.starts.items) }
+    ensures refused { IfErr result (Blames (LinesRefuse maps.now (line_source (debug_data view.now)) (texts_known new_texts.now Str) (texts_known new_texts.now LineStr) tables.now)) }
 {
     match view.first(DebugSection::Line) {
-        Some(section) => written_tables(alloc, view, maps, str, line_str, section, tables),
+        Some(section) => written_tables(alloc, view, maps, new_texts, section, tables),
         None => Ok(NewLines {
             bytes: Vec::new(alloc),
             starts: Vec::new(alloc),
@@ -61,21 +60,20 @@ fn written_tables(
     alloc: Global,
     view: &View,
     maps: &Maps,
-    str: &HashMap<u64, u64>,
-    line_str: &HashMap<u64, u64>,
+    new_texts: &NewTexts,
     section: u32,
     tables: &[LineTable],
 ) -> Result<NewLines, Fault>
     requires there { section < length view.now.sections }
     requires stand { AllStandIn (view_source view.now section) tables.now }
-    ensures written { IfOk result (λ n. LinesWritten maps.now (view_source view.now section) (λ o. get nat_eq str.now o) (λ o. get nat_eq line_str.now o) tables.now n.bytes.items n.starts.items) }
-    ensures refused { IfErr result (Blames (LinesRefuse maps.now (view_source view.now section) (λ o. get nat_eq str.now o) (λ o. get nat_eq line_str.now o) tables.now)) }
+    ensures written { IfOk result (λ n. LinesWritten maps.now (view_source view.now section) (texts_known new_texts.now Str) (texts_known new_texts.now LineStr) tables.now n.bytes.items n.starts.items) }
+    ensures refused { IfErr result (Blames (LinesRefuse maps.now (view_source view.now section) (texts_known new_texts.now Str) (texts_known new_texts.now LineStr) tables.now)) }
 {
     let mut bytes = Vec::with_capacity(alloc, view.bytes(section).len())?;
     let mut starts = Vec::with_capacity(alloc, tables.len())?;
     for table in tables {
         starts.push(bytes.len() as u64)?;
-        write_table(alloc, view, maps, str, line_str, section, table, &mut bytes)?;
+        write_table(alloc, view, maps, new_texts, section, table, &mut bytes)?;
     }
     Ok(NewLines { bytes, starts })
 }
@@ -86,19 +84,18 @@ fn write_table(
     alloc: Global,
     view: &View,
     maps: &Maps,
-    str: &HashMap<u64, u64>,
-    line_str: &HashMap<u64, u64>,
+    new_texts: &NewTexts,
     section: u32,
     table: &LineTable,
     bytes: &mut Vec<u8>,
 ) -> Result<(), Fault>
     requires there { section < length view.now.sections }
     requires stands { StandsIn (view_source view.now section) table.now }
-    ensures bytes { OnOk result (bytes.new.items ≡ bytes.old.items ++ written_table (view_source view.now section) maps.now (new_place (view_source view.now section) (λ o. get nat_eq str.now o) (λ o. get nat_eq line_str.now o)) table.now) }
-    ensures can { OnOk result (CanWrite (view_source view.now section) maps.now (new_place (view_source view.now section) (λ o. get nat_eq str.now o) (λ o. get nat_eq line_str.now o)) table.now) }
-    ensures refused { IfErr result (Blames (WriteFails (view_source view.now section) maps.now (new_place (view_source view.now section) (λ o. get nat_eq str.now o) (λ o. get nat_eq line_str.now o)) table.now)) }
+    ensures bytes { OnOk result (bytes.new.items ≡ bytes.old.items ++ written_table (view_source view.now section) maps.now (new_place (view_source view.now section) (texts_known new_texts.now Str) (texts_known new_texts.now LineStr)) table.now) }
+    ensures can { OnOk result (CanWrite (view_source view.now section) maps.now (new_place (view_source view.now section) (texts_known new_texts.now Str) (texts_known new_texts.now LineStr)) table.now) }
+    ensures refused { IfErr result (Blames (WriteFails (view_source view.now section) maps.now (new_place (view_source view.now section) (texts_known new_texts.now Str) (texts_known new_texts.now LineStr)) table.now)) }
 {
-    let written = table.write_mapped(alloc, view, maps, str, line_str)?;
+    let written = table.write_mapped(alloc, view, maps, new_texts)?;
     bytes.extend_from_slice(&written.bytes)?;
     Ok(())
 }

@@ -59,19 +59,6 @@ pub(crate) fn note_path(
     Ok(())
 }
 
-/// The new offset that is known for the old one in a field.
-pub(crate) fn new_offset(
-    source: &FieldSource,
-    field: PathField,
-    new_offsets: &HashMap<u64, u64>,
-) -> Option<u64>
-    requires path { IsOffsetField source.now.order source.now.table source.now.cells field }
-    ensures value { result ≡ get nat_eq new_offsets.now (offset_at source.now field) }
-{
-    let offset = path_offset(source, field);
-    new_offsets.get(&offset).copied()
-}
-
 /// The offset that a field of a path holds.
 fn path_offset(source: &FieldSource, field: PathField) -> u64
     requires path { IsOffsetField source.now.order source.now.table source.now.cells field }

@@ -3,36 +3,36 @@
 //!
 //! Read first: `specs/NewTables.antt`.
 
-ghost use Rattle.std.specs.Prelude.{[], ◌≡◌, ◌++◌, ◌<◌, length, nat_eq, IfErr, IfOk, OnOk};
+ghost use Rattle.std.specs.Prelude.{[], ◌≡◌, ◌++◌, ◌<◌, length, IfErr, IfOk, OnOk};
 ghost use Rattle.std.specs.Bool.{OnTrue};
-ghost use Rattle.std.specs.HashMap.{get};
 ghost use Rattle.dw_meaning.specs.DataOutput.{Body as BodyOf};
 ghost use Rattle.dw_base.specs.FileViews.{section_bytes, view_of};
 ghost use Rattle.dw_base.specs.Refusals.{Blames};
+ghost use Rattle.dw_base.specs.declared.debug_sections.DebugSection.TheVariants.{Str, LineStr, Line};
 ghost use Rattle.dw_base.specs.declared.fault.Fault.TheVariants.{NoMemory};
-ghost use Rattle.dw_rewrite.specs.Changes.{AreFree, AreSet};
+ghost use Rattle.dw_rewrite.specs.Changes.{AreFieldsOf, AreFree, AreSet};
 ghost use Rattle.elf_layout.specs.Given.{body_bytes};
 ghost use Rattle.elf_layout.specs.Patched.{with_patches};
+ghost use Rattle.dw_find.specs.Fields.{AllApart};
 ghost use Rattle.dw_find.specs.InlineRooms.{Grows};
-ghost use Rattle.dw_rewrite.specs.NewStarts.{known_starts};
-ghost use Rattle.dw_find.specs.ViewFields.{AllHaveOffsets, AllHavePlaces, AllRoomsFit, HasOffsets, HasPlaces, as_table, fields_of, info_of};
-ghost use Rattle.dw_rewrite.specs.NewTables.{bodies_known, body_known, fields_known, source_in, starts_in};
+ghost use Rattle.dw_find.specs.ViewFields.{AllHaveOffsets, AllHavePlaces, AllRoomsFit, HasOffsets, HasPlaces, info_of};
+ghost use Rattle.dw_find.specs.UnitPaths.{fields_into};
+ghost use Rattle.dw_rewrite.specs.NewTables.{bodies_known, body_known, fields_known, source_into};
 ghost use Rattle.dw_rewrite.specs.UnitsAfter.{inlined};
+ghost use Rattle.dw_rewrite.specs.NewPlaces.{places_known};
 
-use crate::change::{set_fields, set_starts};
+use crate::change::set_fields;
 use crate::inline::map_rooms;
+use crate::new_places::NewPlaces;
 use crate::sources::FieldSource;
-use crate::starts::NewStarts;
-use crate::tables::{fields_of, text_source};
 use dw_base::{DebugSection, Fault};
-use dw_find::{TextsOf, UnitPaths};
+use dw_find::UnitPaths;
 use dw_patch::Patches;
 use dw_paths::Maps;
 use dw_view::View;
 use elf_file::ElfFile;
 use elf_layout::NewBody;
 use std::alloc::Global;
-use std::collections::HashMap;
 use std::marker::Model;
 
 /// A section and its new bytes.
@@ -58,9 +58,7 @@ pub(crate) fn new_sections<'a>(
     elf: &ElfFile<'a>,
     view: &View,
     maps: &Maps,
-    str: &HashMap<u64, u64>,
-    line_str: &HashMap<u64, u64>,
-    starts: &NewStarts,
+    new_places: &NewPlaces,
     paths: &[UnitPaths],
     bodies: &mut Vec<Body<'a>>,
 ) -> Result<(), Fault>
@@ -68,11 +66,11 @@ pub(crate) fn new_sections<'a>(
     requires offsets { AllHaveOffsets view.now paths.now }
     requires places { AllHavePlaces view.now paths.now }
     requires rooms { AllRoomsFit maps.now view.now paths.now }
-    ensures bodies { OnOk result (bodies.new.items ≡ bodies.old.items ++ bodies_known maps.now view.now (λ o. get nat_eq str.now o) (λ o. get nat_eq line_str.now o) (λ o. known_starts starts.now o) paths.now) }
+    ensures bodies { OnOk result (bodies.new.items ≡ bodies.old.items ++ bodies_known maps.now view.now (places_known new_places.now Str) (places_known new_places.now LineStr) (places_known new_places.now Line) paths.now) }
     ensures only { IfErr result (λ f. f ≡ NoMemory) }
 {
     for found in paths {
-        let body = new_section(alloc, elf, view, maps, str, line_str, starts, found)?;
+        let body = new_section(alloc, elf, view, maps, new_places, found)?;
         bodies.push(body)?;
     }
     Ok(())
@@ -85,18 +83,16 @@ fn new_section<'a>(
     elf: &ElfFile<'a>,
     view: &View,
     maps: &Maps,
-    str: &HashMap<u64, u64>,
-    line_str: &HashMap<u64, u64>,
-    starts: &NewStarts,
+    new_places: &NewPlaces,
     found: &UnitPaths,
 ) -> Result<Body<'a>, Fault>
     requires file { view.now ≡ view_of elf.now.bytes.now }
     requires offsets { HasOffsets view.now found.now }
     requires places { HasPlaces view.now found.now }
-    ensures body { IfOk result (λ b. b ≡ body_known maps.now view.now (λ o. get nat_eq str.now o) (λ o. get nat_eq line_str.now o) (λ o. known_starts starts.now o) found.now) }
+    ensures body { IfOk result (λ b. b ≡ body_known maps.now view.now (places_known new_places.now Str) (places_known new_places.now LineStr) (places_known new_places.now Line) found.now) }
     ensures refused { IfErr result (Blames (Grows maps.now found.now.number (info_of view.now found.now) found.now.inline)) }
 {
-    let patches = new_fields(alloc, view, str, line_str, starts, found)?;
+    let patches = new_fields(alloc, view, new_places, found)?;
     let old = old_bytes(elf, found.section);
     if has_no_rooms(found) {
         return Ok(patched_section(found.section, old, patches));
@@ -172,72 +168,55 @@ fn write_section(
 fn new_fields(
     alloc: Global,
     view: &View,
-    str: &HashMap<u64, u64>,
-    line_str: &HashMap<u64, u64>,
-    starts: &NewStarts,
+    new_places: &NewPlaces,
     found: &UnitPaths,
 ) -> Result<Patches, Fault>
     requires offsets { HasOffsets view.now found.now }
     requires places { HasPlaces view.now found.now }
-    ensures put { IfOk result (λ p. with_patches p.order (info_of view.now found.now) p.list ≡ fields_known view.now (λ o. get nat_eq str.now o) (λ o. get nat_eq line_str.now o) (λ o. known_starts starts.now o) found.now (info_of view.now found.now)) }
+    ensures put { IfOk result (λ p. with_patches p.order (info_of view.now found.now) p.list ≡ fields_known view.now (places_known new_places.now Str) (places_known new_places.now LineStr) (places_known new_places.now Line) found.now (info_of view.now found.now)) }
     ensures size { IfOk result (λ p. p.size ≡ length (info_of view.now found.now)) }
     ensures only { IfErr result (λ f. f ≡ NoMemory) }
 {
     let mut patches = Patches::new(alloc, view, found.section)?;
-    set_section(view, TextsOf::Str, found, str, &mut patches)?;
-    set_section(view, TextsOf::LineStr, found, line_str, &mut patches)?;
-    set_section_starts(view, found, starts, &mut patches)?;
+    set_section(view, DebugSection::Str, found, new_places, &mut patches)?;
+    set_section(view, DebugSection::LineStr, found, new_places, &mut patches)?;
+    set_section(view, DebugSection::Line, found, new_places, &mut patches)?;
     Ok(patches)
 }
 
-/// Sets the fields of a table's paths in a section to their new offsets.
+/// Sets the fields of a section that hold offsets into another to the new places that are known of the old ones.
 fn set_section(
     view: &View,
-    texts: TextsOf,
+    into: DebugSection,
     found: &UnitPaths,
-    new_offsets: &HashMap<u64, u64>,
+    new_places: &NewPlaces,
     patches: &mut Patches,
 ) -> Result<(), Fault>
-    requires offsets { HasOffsets view.now found.now }
-    requires places { HasPlaces view.now found.now }
+    requires there { found.now.number < length view.now.sections }
+    requires fields { AreFieldsOf (source_into view.now found.now.number into) (fields_into found.now into) }
     requires size { patches.old.size ≡ length (info_of view.now found.now) }
-    requires free { AreFree patches.old.list (fields_of (as_table texts) found.now) }
-    ensures set { OnOk result (AreSet (source_in view.now found.now.number (as_table texts)) (λ o. get nat_eq new_offsets.now o) (fields_of (as_table texts) found.now) patches.old patches.new) }
+    requires apart { AllApart (fields_into found.now into) }
+    requires free { AreFree patches.old.list (fields_into found.now into) }
+    ensures set { OnOk result (AreSet (source_into view.now found.now.number into) (places_known new_places.now into) (fields_into found.now into) patches.old patches.new) }
     ensures only { IfErr result (λ f. f ≡ NoMemory) }
 {
-    let source = text_source(view, texts, found.section);
-    let fields = fields_of(found, texts);
-    set_fields(&source, fields, new_offsets, patches)?;
+    let source = field_source(view, into, found.section);
+    set_fields(&source, found.fields(into), into, new_places, patches)?;
     Ok(())
 }
 
-/// Sets the fields of a section that say where line tables start to their new starts.
-fn set_section_starts(
-    view: &View,
-    found: &UnitPaths,
-    starts: &NewStarts,
-    patches: &mut Patches,
-) -> Result<(), Fault>
-    requires offsets { HasOffsets view.now found.now }
-    requires places { HasPlaces view.now found.now }
-    requires size { patches.old.size ≡ length (info_of view.now found.now) }
-    requires free { AreFree patches.old.list found.now.starts }
-    ensures set { OnOk result (AreSet (starts_in view.now found.now.number) (λ o. known_starts starts.now o) found.now.starts patches.old patches.new) }
-    ensures only { IfErr result (λ f. f ≡ NoMemory) }
-{
-    let source = start_source(view, found.section);
-    set_starts(&source, found.starts.as_slice(), starts, patches)?;
-    Ok(())
-}
-
-/// Where the fields of the section of a number hold offsets into the line tables.
-#[tactic(auto, using(crate::proofs::GrowthLaws::start_rules))]
-pub(crate) fn start_source<'v, 'f>(view: &'v View<'f>, section: u32) -> FieldSource<'v, 'f, 'v>
+/// Where the fields of the section of a number hold offsets into a section of debug data.
+#[tactic(auto, using(crate::proofs::GrowthLaws::into_rules))]
+pub(crate) fn field_source<'v, 'f>(
+    view: &'v View<'f>,
+    into: DebugSection,
+    section: u32,
+) -> FieldSource<'v, 'f, 'v>
     requires there { section < length view.now.sections }
-    ensures { result ≡ starts_in view.now section }
+    ensures { result ≡ source_into view.now section into }
 {
-    match view.first(DebugSection::Line) {
-        Some(lines) => FieldSource::new(view, section, lines, view.bytes(lines)),
+    match view.first(into) {
+        Some(number) => FieldSource::new(view, section, number, view.bytes(number)),
         None => FieldSource::new(view, section, 0, b""),
     }
 }

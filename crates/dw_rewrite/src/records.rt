@@ -3,32 +3,29 @@
 //!
 //! Read first: `specs/NewOffsets.antt` and `specs/OffsetAddends.antt`.
 
-ghost use Rattle.std.specs.Prelude.{[], ◌≡◌, ◌++◌, nat_eq, IfErr, IfOk, None, OnOk};
-ghost use Rattle.std.specs.HashMap.{get};
+ghost use Rattle.std.specs.Prelude.{[], ◌≡◌, ◌++◌, ◌<◌, length, IfErr, IfOk, None, OnOk};
 ghost use Rattle.dw_base.specs.FileViews.{view_of};
 ghost use Rattle.dw_base.specs.Refusals.{Blames};
 ghost use Rattle.dw_base.specs.SectionRelocations.{relocation_section};
-ghost use Rattle.dw_find.specs.Fields.{AreOffsetFields};
-ghost use Rattle.dw_find.specs.ViewFields.{AllHaveOffsets, AllHavePlaces, HasOffsets, HasPlaces, as_table, fields_of};
+ghost use Rattle.dw_base.specs.declared.debug_sections.DebugSection.TheVariants.{Str, LineStr, Line};
+ghost use Rattle.dw_find.specs.ViewFields.{AllHaveOffsets, AllHavePlaces, HasOffsets, HasPlaces};
 ghost use Rattle.dw_patch.specs.RecordMoves.{PlacesFit, moved_table, patch_for};
 ghost use Rattle.dw_rewrite.specs.Changes.{AreFieldsOf, IsFieldOf};
 ghost use Rattle.dw_rewrite.specs.NewOffsets.{AllPlacesFit, AreAbsent, NoneTogether, offset_by, offsets_in, offsets_known, record_body, records_known};
-ghost use Rattle.dw_rewrite.specs.NewStarts.{known_starts};
-ghost use Rattle.dw_rewrite.specs.NewTables.{source_in, starts_in};
+ghost use Rattle.dw_find.specs.UnitPaths.{fields_into};
+ghost use Rattle.dw_rewrite.specs.NewTables.{source_into};
 ghost use Rattle.dw_rewrite.specs.OffsetAddends.{AllMake, AllMiss, FieldMakes, FieldMisses, FieldsMake, FieldsMiss, SectionMakes, SectionMisses};
+ghost use Rattle.dw_rewrite.specs.NewPlaces.{places_known};
 
-use crate::new_offsets::new_offset;
-use crate::new_sections::{Body, start_source};
+use crate::new_places::NewPlaces;
+use crate::new_sections::{Body, field_source};
 use crate::sources::FieldSource;
-use crate::starts::NewStarts;
-use crate::tables::{fields_of, text_source};
-use dw_base::{Fault, Kind, Refusal};
-use dw_find::{PathField, TextsOf, UnitPaths};
+use dw_base::{DebugSection, Fault, Kind, Refusal};
+use dw_find::{PathField, UnitPaths};
 use dw_patch::{Offsets, RelocSource};
 use dw_view::{RelocationSources, View};
 use elf_layout::NewBody;
 use std::alloc::Global;
-use std::collections::HashMap;
 
 /// Appends the sections that hold relocations of these sections, with their records as they are when the sections'
 /// fields say their new offsets. Refused as `TooWide`, at the field, where the addend of a field's relocation can't
@@ -38,9 +35,7 @@ pub(crate) fn push_records(
     alloc: Global,
     view: &View,
     sources: &RelocationSources,
-    str: &HashMap<u64, u64>,
-    line_str: &HashMap<u64, u64>,
-    starts: &NewStarts,
+    new_places: &NewPlaces,
     paths: &[UnitPaths],
     bodies: &mut Vec<Body>,
 ) -> Result<(), Fault>
@@ -48,12 +43,12 @@ pub(crate) fn push_records(
     requires offsets { AllHaveOffsets view.now paths.now }
     requires places { AllHavePlaces view.now paths.now }
     requires fit { AllPlacesFit sources.now }
-    ensures bodies { OnOk result (bodies.new.items ≡ bodies.old.items ++ records_known sources.now view.now (λ o. get nat_eq str.now o) (λ o. get nat_eq line_str.now o) (λ o. known_starts starts.now o) paths.now) }
-    ensures makes { OnOk result (AllMake view.now (λ o. get nat_eq str.now o) (λ o. get nat_eq line_str.now o) (λ o. known_starts starts.now o) paths.now) }
-    ensures refused { IfErr result (Blames (AllMiss view.now (λ o. get nat_eq str.now o) (λ o. get nat_eq line_str.now o) (λ o. known_starts starts.now o) paths.now)) }
+    ensures bodies { OnOk result (bodies.new.items ≡ bodies.old.items ++ records_known sources.now view.now (places_known new_places.now Str) (places_known new_places.now LineStr) (places_known new_places.now Line) paths.now) }
+    ensures makes { OnOk result (AllMake view.now (places_known new_places.now Str) (places_known new_places.now LineStr) (places_known new_places.now Line) paths.now) }
+    ensures refused { IfErr result (Blames (AllMiss view.now (places_known new_places.now Str) (places_known new_places.now LineStr) (places_known new_places.now Line) paths.now)) }
 {
     for found in paths {
-        push_record(alloc, view, sources, str, line_str, starts, found, bodies)?;
+        push_record(alloc, view, sources, new_places, found, bodies)?;
     }
     Ok(())
 }
@@ -64,9 +59,7 @@ fn push_record(
     alloc: Global,
     view: &View,
     sources: &RelocationSources,
-    str: &HashMap<u64, u64>,
-    line_str: &HashMap<u64, u64>,
-    starts: &NewStarts,
+    new_places: &NewPlaces,
     found: &UnitPaths,
     bodies: &mut Vec<Body>,
 ) -> Result<(), Fault>
@@ -74,12 +67,12 @@ fn push_record(
     requires offsets { HasOffsets view.now found.now }
     requires places { HasPlaces view.now found.now }
     requires fit { AllPlacesFit sources.now }
-    ensures body { OnOk result (bodies.new.items ≡ bodies.old.items ++ record_body sources.now (offsets_in view.now (λ o. get nat_eq str.now o) (λ o. get nat_eq line_str.now o) (λ o. known_starts starts.now o) found.now) (relocation_section sources.now found.now.number)) }
-    ensures makes { OnOk result (SectionMakes view.now (λ o. get nat_eq str.now o) (λ o. get nat_eq line_str.now o) (λ o. known_starts starts.now o) found.now) }
-    ensures refused { IfErr result (Blames (SectionMisses view.now (λ o. get nat_eq str.now o) (λ o. get nat_eq line_str.now o) (λ o. known_starts starts.now o) found.now)) }
+    ensures body { OnOk result (bodies.new.items ≡ bodies.old.items ++ record_body sources.now (offsets_in view.now (places_known new_places.now Str) (places_known new_places.now LineStr) (places_known new_places.now Line) found.now) (relocation_section sources.now found.now.number)) }
+    ensures makes { OnOk result (SectionMakes view.now (places_known new_places.now Str) (places_known new_places.now LineStr) (places_known new_places.now Line) found.now) }
+    ensures refused { IfErr result (Blames (SectionMisses view.now (places_known new_places.now Str) (places_known new_places.now LineStr) (places_known new_places.now Line) found.now)) }
 {
     if let Some((holder, source)) = sources.of(found.section) {
-        let body = records_body(alloc, view, str, line_str, starts, found, holder, &source)?;
+        let body = records_body(alloc, view, new_places, found, holder, &source)?;
         bodies.push(body)?;
     }
     Ok(())
@@ -91,9 +84,7 @@ fn push_record(
 fn records_body<'v>(
     alloc: Global,
     view: &View,
-    str: &HashMap<u64, u64>,
-    line_str: &HashMap<u64, u64>,
-    starts: &NewStarts,
+    new_places: &NewPlaces,
     found: &UnitPaths,
     holder: u32,
     source: &RelocSource,
@@ -101,11 +92,11 @@ fn records_body<'v>(
     requires offsets { HasOffsets view.now found.now }
     requires places { HasPlaces view.now found.now }
     requires fit { PlacesFit source.now [] }
-    ensures body { IfOk result (λ b. b ≡ record { number = holder; bytes = moved_table source.now [] (offsets_in view.now (λ o. get nat_eq str.now o) (λ o. get nat_eq line_str.now o) (λ o. known_starts starts.now o) found.now) }) }
-    ensures makes { OnOk result (SectionMakes view.now (λ o. get nat_eq str.now o) (λ o. get nat_eq line_str.now o) (λ o. known_starts starts.now o) found.now) }
-    ensures refused { IfErr result (Blames (SectionMisses view.now (λ o. get nat_eq str.now o) (λ o. get nat_eq line_str.now o) (λ o. known_starts starts.now o) found.now)) }
+    ensures body { IfOk result (λ b. b ≡ record { number = holder; bytes = moved_table source.now [] (offsets_in view.now (places_known new_places.now Str) (places_known new_places.now LineStr) (places_known new_places.now Line) found.now) }) }
+    ensures makes { OnOk result (SectionMakes view.now (places_known new_places.now Str) (places_known new_places.now LineStr) (places_known new_places.now Line) found.now) }
+    ensures refused { IfErr result (Blames (SectionMisses view.now (places_known new_places.now Str) (places_known new_places.now LineStr) (places_known new_places.now Line) found.now)) }
 {
-    let offsets = section_offsets(alloc, view, str, line_str, starts, found)?;
+    let offsets = section_offsets(alloc, view, new_places, found)?;
     let mut bytes = Vec::from_slice(alloc, source.table)?;
     offsets.move_records(source, &[], &mut bytes);
     Ok(Body {
@@ -119,117 +110,65 @@ fn records_body<'v>(
 fn section_offsets(
     alloc: Global,
     view: &View,
-    str: &HashMap<u64, u64>,
-    line_str: &HashMap<u64, u64>,
-    starts: &NewStarts,
+    new_places: &NewPlaces,
     found: &UnitPaths,
 ) -> Result<Offsets, Fault>
     requires offsets { HasOffsets view.now found.now }
     requires places { HasPlaces view.now found.now }
-    ensures offsets { IfOk result (λ o. o ≡ offsets_in view.now (λ o. get nat_eq str.now o) (λ o. get nat_eq line_str.now o) (λ o. known_starts starts.now o) found.now) }
-    ensures makes { OnOk result (SectionMakes view.now (λ o. get nat_eq str.now o) (λ o. get nat_eq line_str.now o) (λ o. known_starts starts.now o) found.now) }
-    ensures refused { IfErr result (Blames (SectionMisses view.now (λ o. get nat_eq str.now o) (λ o. get nat_eq line_str.now o) (λ o. known_starts starts.now o) found.now)) }
+    ensures offsets { IfOk result (λ o. o ≡ offsets_in view.now (places_known new_places.now Str) (places_known new_places.now LineStr) (places_known new_places.now Line) found.now) }
+    ensures makes { OnOk result (SectionMakes view.now (places_known new_places.now Str) (places_known new_places.now LineStr) (places_known new_places.now Line) found.now) }
+    ensures refused { IfErr result (Blames (SectionMisses view.now (places_known new_places.now Str) (places_known new_places.now LineStr) (places_known new_places.now Line) found.now)) }
 {
     let mut offsets = Offsets::new(alloc);
-    add_section(view, TextsOf::Str, found, str, &mut offsets)?;
-    add_section(view, TextsOf::LineStr, found, line_str, &mut offsets)?;
-    add_section_starts(view, found, starts, &mut offsets)?;
+    add_section(view, DebugSection::Str, found, new_places, &mut offsets)?;
+    add_section(view, DebugSection::LineStr, found, new_places, &mut offsets)?;
+    add_section(view, DebugSection::Line, found, new_places, &mut offsets)?;
     Ok(offsets)
 }
 
-/// Adds the fields of a table's paths in a section, with their new offsets.
+/// Adds the fields of a section that hold offsets into another, with the new places that are known of the old ones.
 fn add_section(
     view: &View,
-    texts: TextsOf,
+    into: DebugSection,
     found: &UnitPaths,
-    new_offsets: &HashMap<u64, u64>,
+    new_places: &NewPlaces,
     offsets: &mut Offsets,
 ) -> Result<(), Fault>
-    requires fields { HasOffsets view.now found.now }
-    requires apart { NoneTogether (fields_of (as_table texts) found.now) }
-    requires absent { AreAbsent offsets.old (fields_of (as_table texts) found.now) }
-    ensures added { OnOk result (offsets.new ≡ offsets.old ++ offsets_known (source_in view.now found.now.number (as_table texts)) (λ o. get nat_eq new_offsets.now o) (fields_of (as_table texts) found.now)) }
-    ensures makes { OnOk result (FieldsMake (source_in view.now found.now.number (as_table texts)) (λ o. get nat_eq new_offsets.now o) (fields_of (as_table texts) found.now)) }
-    ensures refused { IfErr result (Blames (FieldsMiss (source_in view.now found.now.number (as_table texts)) (λ o. get nat_eq new_offsets.now o) found.now.number (fields_of (as_table texts) found.now))) }
+    requires there { found.now.number < length view.now.sections }
+    requires fields { AreFieldsOf (source_into view.now found.now.number into) (fields_into found.now into) }
+    requires apart { NoneTogether (fields_into found.now into) }
+    requires absent { AreAbsent offsets.old (fields_into found.now into) }
+    ensures added { OnOk result (offsets.new ≡ offsets.old ++ offsets_known (source_into view.now found.now.number into) (places_known new_places.now into) (fields_into found.now into)) }
+    ensures makes { OnOk result (FieldsMake (source_into view.now found.now.number into) (places_known new_places.now into) (fields_into found.now into)) }
+    ensures refused { IfErr result (Blames (FieldsMiss (source_into view.now found.now.number into) (places_known new_places.now into) found.now.number (fields_into found.now into))) }
 {
-    let source = text_source(view, texts, found.section);
-    add_fields(
-        &source,
-        found.section,
-        fields_of(found, texts),
-        new_offsets,
-        offsets,
-    )?;
+    let source = field_source(view, into, found.section);
+    let fields = found.fields(into);
+    add_fields(&source, found.section, fields, into, new_places, offsets)?;
     Ok(())
 }
 
-/// Adds the fields of a section that say where line tables start, with their new starts.
-fn add_section_starts(
-    view: &View,
-    found: &UnitPaths,
-    starts: &NewStarts,
-    offsets: &mut Offsets,
-) -> Result<(), Fault>
-    requires places { HasPlaces view.now found.now }
-    requires apart { NoneTogether found.now.starts }
-    requires absent { AreAbsent offsets.old found.now.starts }
-    ensures added { OnOk result (offsets.new ≡ offsets.old ++ offsets_known (starts_in view.now found.now.number) (λ o. known_starts starts.now o) found.now.starts) }
-    ensures makes { OnOk result (FieldsMake (starts_in view.now found.now.number) (λ o. known_starts starts.now o) found.now.starts) }
-    ensures refused { IfErr result (Blames (FieldsMiss (starts_in view.now found.now.number) (λ o. known_starts starts.now o) found.now.number found.now.starts)) }
-{
-    let source = start_source(view, found.section);
-    add_starts(
-        &source,
-        found.section,
-        found.starts.as_slice(),
-        starts,
-        offsets,
-    )?;
-    Ok(())
-}
-
-/// Adds these fields of a section with the new offsets that are known for their old ones.
+/// Adds these fields of a section, which hold offsets into another, with the new places that are known of the old ones.
 #[tactic(auto, using(crate::proofs::OffsetAddLaws::field_rules))]
 fn add_fields(
     source: &FieldSource,
     section: u32,
     fields: &[PathField],
-    new_offsets: &HashMap<u64, u64>,
-    offsets: &mut Offsets,
-) -> Result<(), Fault>
-    requires paths { AreOffsetFields source.now.order source.now.table source.now.cells fields.now }
-    requires apart { NoneTogether fields.now }
-    requires absent { AreAbsent offsets.old fields.now }
-    ensures added { OnOk result (offsets.new ≡ offsets.old ++ offsets_known source.now (λ o. get nat_eq new_offsets.now o) fields.now) }
-    ensures makes { OnOk result (FieldsMake source.now (λ o. get nat_eq new_offsets.now o) fields.now) }
-    ensures refused { IfErr result (Blames (FieldsMiss source.now (λ o. get nat_eq new_offsets.now o) section fields.now)) }
-{
-    for at in fields {
-        let new = new_offset(source, *at, new_offsets);
-        add_known(source, section, *at, new, offsets)?;
-    }
-    Ok(())
-}
-
-/// Adds these fields of a section with the new starts of the line tables that started where they say.
-#[tactic(auto, using(crate::proofs::OffsetAddLaws::start_rules))]
-fn add_starts(
-    source: &FieldSource,
-    section: u32,
-    fields: &[PathField],
-    starts: &NewStarts,
+    into: DebugSection,
+    new_places: &NewPlaces,
     offsets: &mut Offsets,
 ) -> Result<(), Fault>
     requires fields { AreFieldsOf source.now fields.now }
     requires apart { NoneTogether fields.now }
     requires absent { AreAbsent offsets.old fields.now }
-    ensures added { OnOk result (offsets.new ≡ offsets.old ++ offsets_known source.now (λ o. known_starts starts.now o) fields.now) }
-    ensures makes { OnOk result (FieldsMake source.now (λ o. known_starts starts.now o) fields.now) }
-    ensures refused { IfErr result (Blames (FieldsMiss source.now (λ o. known_starts starts.now o) section fields.now)) }
+    ensures added { OnOk result (offsets.new ≡ offsets.old ++ offsets_known source.now (places_known new_places.now into) fields.now) }
+    ensures makes { OnOk result (FieldsMake source.now (places_known new_places.now into) fields.now) }
+    ensures refused { IfErr result (Blames (FieldsMiss source.now (places_known new_places.now into) section fields.now)) }
 {
     for at in fields {
-        let start = source.offset(*at);
-        add_known(source, section, *at, starts.get(start), offsets)?;
+        let old = source.offset(*at);
+        let new = new_places.get(into, old);
+        add_known(source, section, *at, new, offsets)?;
     }
     Ok(())
 }

@@ -12,7 +12,7 @@ ghost use Rattle.dw_rewrite.specs.NewTables.{GrownBy, Growing, LongTable, TableM
 
 use crate::change::note_fields;
 use crate::sources::FieldSource;
-use dw_base::{Fault, Refusal};
+use dw_base::{DebugSection, Fault, Refusal};
 use dw_find::{PathField, TextsOf, UnitPaths, table_number, table_texts};
 use dw_paths::Maps;
 use dw_strings::Pool;
@@ -25,8 +25,8 @@ pub(crate) fn fields_of(paths: &UnitPaths, texts: TextsOf) -> &[PathField]
     ensures { result.now ≡ fields_of (as_table texts) paths.now }
 {
     match texts {
-        TextsOf::Str => &paths.str,
-        TextsOf::LineStr => &paths.line_str,
+        TextsOf::Str => paths.fields(DebugSection::Str),
+        TextsOf::LineStr => paths.fields(DebugSection::LineStr),
     }
 }
 

@@ -2,7 +2,7 @@
 
 use crate::dw_lines_samples::{DEFINING, NEW, OLD, PLAIN, WIDE, file_with};
 use dw_base::{DebugSection, Order};
-use dw_lines::{Fault, Kind, LineTable, Refusal, WrittenTable};
+use dw_lines::{Fault, Kind, LineTable, NewTexts, Refusal, WrittenTable};
 use dw_paths::Maps;
 use dw_view::View;
 use elf_file::ElfFile;
@@ -115,9 +115,8 @@ fn written_of(
     let Some(maps) = Maps::new(alloc, b"/build/p", b"/usr/src/debug/p")? else {
         return Err(Fault::NoMemory);
     };
-    let str = known(alloc, str)?;
-    let line_str = known(alloc, line_str)?;
-    table.write_mapped(alloc, &view, &maps, &str, &line_str)
+    let texts = NewTexts::new(known(alloc, str)?, known(alloc, line_str)?);
+    table.write_mapped(alloc, &view, &maps, &texts)
 }
 
 #[test]

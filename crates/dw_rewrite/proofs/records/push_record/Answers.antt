@@ -1,10 +1,9 @@
 -- Whether another section holds the relocations of the section.
 use Rattle.std.proofs.Common.{ap, refl}
-use Rattle.std.specs.HashMap.{get}
-use Rattle.std.specs.Prelude.{nat_eq}
 use Rattle.dw_find.specs.UnitPaths.{UnitPaths}
-use Rattle.dw_rewrite.specs.NewStarts.{known_starts}
 use Rattle.dw_rewrite.proofs.RecordPushLaws.{none-makes, places-fit, section-there}
+use Rattle.dw_base.specs.declared.debug_sections.DebugSection.TheVariants.{Str, LineStr, Line}
+use Rattle.dw_rewrite.specs.NewPlaces.{places_known}
 use Rattle.dw_rewrite.proofs.records.push_record.Goals as goal
 
 pub records_body-requires-clause-fit : goal.records_body-requires-clause-fit
@@ -15,5 +14,5 @@ records_body-requires-clause-fit c =
 
 pub returns-in_default-clause-makes : goal.returns-in_default-clause-makes
 returns-in_default-clause-makes c =
-    none-makes c.args.sources.now c.args.view.now (λ o. get nat_eq c.args.str.now o) (λ o. get nat_eq c.args.line_str.now o) (λ o. known_starts c.args.starts.now o) c.args.found.now
+    none-makes c.args.sources.now c.args.view.now (places_known c.args.new_places.now Str) (places_known c.args.new_places.now LineStr) (places_known c.args.new_places.now Line) c.args.found.now
     c.found.inside.section c.of.result (ap (λ (u : UnitPaths). u.number) c.found.view_is) c.requires.places c.requires.view c.of.ensures c.in_default.is
