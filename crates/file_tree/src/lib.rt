@@ -25,6 +25,7 @@ mod mem_sink;
 mod mem_tree;
 mod node;
 mod os_changes;
+mod os_folders;
 mod os_looks;
 mod os_sink;
 mod os_stores;

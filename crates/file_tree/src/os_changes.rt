@@ -3,13 +3,17 @@
 //!
 //! This layer promises: they are safe and return. What the system does isn't proved.
 use crate::node::Node;
-use crate::os_looks::{is_node, what_stands};
+use crate::os_folders::Folders;
+use crate::os_looks::{Owner, is_node, what_stands};
 use crate::os_stores::Unstored;
 use std::fs::{OpenFile, OpenOptions, Permissions};
 use std::io::{ErrorKind, Write};
-use std::os::unix::fs::{OpenOptionsExt, PermissionsExt};
+use std::os::unix::fs::{MetadataExt, OpenOptionsExt, PermissionsExt, lchown, symlink};
 use std::rt::Files;
 use std::{fs, io};
+
+/// The bits of a mode by which a program runs as its file's owner or group.
+const SET_ID_BITS: u32 = 0o6000;
 
 /// What a change finds at a path.
 #[derive(Clone, Copy)]
@@ -35,49 +39,9 @@ fn occupant_of<R: Files>(rt: &R, path: &str) -> io::Result<Occupant> {
     }
 }
 
-/// The answer where a path holds what no change may take away.
-fn in_the_way() -> io::Result<()> {
-    Err(io::Error::from(ErrorKind::AlreadyExists))
-}
-
-/// Makes the folder, if it isn't there.
-fn make_folder<R: Files + AllocGlobal>(
-    rt: &R,
-    folder: &str,
-    unstored: &mut Unstored<R>,
-) -> io::Result<()> {
-    unstored.note_name(rt.alloc(), folder)?;
-    match fs::create_dir(rt, folder) {
-        Ok(()) => Ok(()),
-        Err(e) => match e.kind() {
-            ErrorKind::AlreadyExists => Ok(()),
-            _ => Err(e),
-        },
-    }
-}
-
-/// Makes the folders in which the path lies, those that aren't there.
-fn make_folders<R: Files + AllocGlobal>(
-    rt: &R,
-    path: &str,
-    unstored: &mut Unstored<R>,
-) -> io::Result<()> {
-    let parent = match path.rsplit_once('/') {
-        None => return Ok(()),
-        Some((parent, _)) => parent,
-    };
-    if fs::metadata(rt, parent).is_ok_and(|found| found.is_dir()) {
-        return Ok(());
-    }
-    let mut folder = String::new(rt.alloc());
-    for part in parent.split('/') {
-        folder.push_str(part)?;
-        if !part.is_empty() {
-            make_folder(rt, folder.as_str(), unstored)?;
-        }
-        folder.push_str("/")?;
-    }
-    Ok(())
+/// The error where a path holds what no change may take away.
+fn in_the_way() -> io::Error {
+    io::Error::from(ErrorKind::AlreadyExists)
 }
 
 /// Takes away the file or the link at the path, if there is one. Where anything else is there, it fails.
@@ -85,86 +49,172 @@ fn clear_path<R: Files>(rt: &R, path: &str) -> io::Result<()> {
     match occupant_of(rt, path)? {
         Occupant::Nothing => Ok(()),
         Occupant::Node => fs::remove_file(rt, path),
-        Occupant::Other => in_the_way(),
+        Occupant::Other => Err(in_the_way()),
     }
 }
 
-/// Makes the folders in which the path lies, and takes away the file or the link at the path.
-fn make_way<R: Files + AllocGlobal>(
-    rt: &R,
-    path: &str,
-    unstored: &mut Unstored<R>,
-) -> io::Result<()> {
-    make_folders(rt, path, unstored)?;
-    clear_path(rt, path)
+/// Whether the file belongs to this owner.
+fn belongs_to(file: &impl OpenFile, owner: Owner) -> io::Result<bool> {
+    let found = file.metadata()?;
+    Ok(found.uid() == owner.user && found.gid() == owner.group)
 }
 
-/// Writes a new file of these pieces, with exactly this mode. It isn't stored yet.
-fn write_file<R: Files>(rt: &R, path: &str, pieces: &[&[u8]], mode: u32) -> io::Result<R::File> {
+/// Gives the file to the owner: it fails where the system doesn't let one.
+fn give_to<R: Files>(rt: &R, path: &str, file: &R::File, owner: Owner) -> io::Result<()> {
+    if belongs_to(file, owner)? {
+        return Ok(());
+    }
+    lchown(rt, path, Some(owner.user), Some(owner.group))?;
+    if belongs_to(file, owner)? {
+        Ok(())
+    } else {
+        Err(io::Error::from(ErrorKind::PermissionDenied))
+    }
+}
+
+/// Sets exactly this mode. A file that is to run as its owner or its group is given to the owner before.
+fn set_mode<R: Files>(
+    rt: &R,
+    path: &str,
+    file: &R::File,
+    mode: u32,
+    owner: Option<Owner>,
+) -> io::Result<()> {
+    if mode & SET_ID_BITS != 0 {
+        if let Some(owner) = owner {
+            give_to(rt, path, file, owner)?;
+        }
+    }
+    file.set_permissions(Permissions::from_mode(mode))
+}
+
+/// Writes the pieces to a new file, one behind another.
+fn write_pieces(file: &mut impl Write, pieces: &[&[u8]]) -> io::Result<()> {
+    for piece in pieces {
+        file.write_all(piece)?;
+    }
+    Ok(())
+}
+
+/// Fills the new file with these pieces and sets its mode.
+fn fill_file<R: Files>(
+    rt: &R,
+    path: &str,
+    file: &mut R::File,
+    pieces: &[&[u8]],
+    mode: u32,
+    owner: Option<Owner>,
+) -> io::Result<()> {
+    write_pieces(file, pieces)?;
+    set_mode(rt, path, file, mode, owner)
+}
+
+/// Makes a new file of these pieces, with exactly this mode. It isn't stored yet. Where that fails, there is none.
+fn make_file<R: Files>(
+    rt: &R,
+    path: &str,
+    pieces: &[&[u8]],
+    mode: u32,
+    owner: Option<Owner>,
+) -> io::Result<R::File> {
     let mut file = OpenOptions::new()
         .write(true)
         .create_new(true)
         .mode(0o600)
         .open(rt, path)?;
-    for piece in pieces {
-        file.write_all(piece)?;
-    }
-    file.set_permissions(Permissions::from_mode(mode))?;
-    Ok(file)
-}
-
-/// Sets the path to the node.
-pub(crate) fn put_at<R: Files + AllocGlobal>(
-    rt: &R,
-    path: &str,
-    node: &Node,
-    unstored: &mut Unstored<R>,
-) -> io::Result<()> {
-    match node {
-        Node::File { bytes, mode } => put_file_at(rt, path, &[bytes.as_slice()], *mode, unstored),
-        Node::Link { target } => {
-            make_way(rt, path, unstored)?;
-            std::os::unix::fs::symlink(rt, target.as_str(), path)
+    match fill_file(rt, path, &mut file, pieces, mode, owner) {
+        Ok(()) => Ok(file),
+        Err(e) => {
+            let _ = fs::remove_file(rt, path);
+            Err(e)
         }
     }
 }
 
-/// Sets the path to a file of these pieces.
-pub(crate) fn put_file_at<R: Files + AllocGlobal>(
+/// Sets the path to the node, in a folder that is there.
+pub(crate) fn put_at<R: Files>(
+    rt: &R,
+    path: &str,
+    node: &Node,
+    owner: Option<Owner>,
+    unstored: &mut Unstored<R>,
+) -> io::Result<()> {
+    match node {
+        Node::File { bytes, mode } => {
+            put_file_at(rt, path, &[bytes.as_slice()], *mode, owner, unstored)
+        }
+        Node::Link { target } => {
+            clear_path(rt, path)?;
+            symlink(rt, target.as_str(), path)
+        }
+    }
+}
+
+/// Sets the path to a file of these pieces, in a folder that is there.
+pub(crate) fn put_file_at<R: Files>(
     rt: &R,
     path: &str,
     pieces: &[&[u8]],
     mode: u32,
+    owner: Option<Owner>,
     unstored: &mut Unstored<R>,
 ) -> io::Result<()> {
-    make_way(rt, path, unstored)?;
-    unstored.add_file(write_file(rt, path, pieces, mode)?)
+    clear_path(rt, path)?;
+    unstored.add_file(make_file(rt, path, pieces, mode, owner)?)
 }
 
-/// Moves what is at the one path to the other; where no file or link is there, nothing is to do. Where
+/// Gets ready for a put at the path: makes the folders in which it lies, and notes that its name changes.
+pub(crate) fn ready_to_put<R: Files + AllocGlobal>(
+    rt: &R,
+    path: &str,
+    folders: &mut Folders,
+    unstored: &mut Unstored<R>,
+) -> io::Result<()> {
+    folders.make_for(rt, path, unstored)?;
+    unstored.note_name(rt.alloc(), path)?;
+    Ok(())
+}
+
+/// Whether a file or a link is at the path. It fails where the path lies below the root and a link is on the way to it.
+fn holds_node<R: Files + AllocGlobal>(
+    rt: &R,
+    path: &str,
+    folders: &mut Folders,
+) -> io::Result<bool> {
+    if folders.is_below_root(path) {
+        folders.find(rt, path)?;
+    }
+    Ok(matches!(occupant_of(rt, path)?, Occupant::Node))
+}
+
+/// Gets ready to move what is at the one path to the other; whether a file or a link is there to be moved. Where
 /// anything but a file or a link is at the other, it fails.
-pub(crate) fn rename_at<R: Files + AllocGlobal>(
+pub(crate) fn ready_to_move<R: Files + AllocGlobal>(
     rt: &R,
     from: &str,
     to: &str,
+    folders: &mut Folders,
     unstored: &mut Unstored<R>,
-) -> io::Result<()> {
-    let to_move = matches!(occupant_of(rt, from)?, Occupant::Node);
-    if !to_move {
-        return Ok(());
+) -> io::Result<bool> {
+    unstored.note_name(rt.alloc(), from)?;
+    if !holds_node(rt, from, folders)? {
+        return Ok(false);
     }
+    ready_to_put(rt, to, folders, unstored)?;
     let is_blocked = matches!(occupant_of(rt, to)?, Occupant::Other);
     if is_blocked {
-        return in_the_way();
+        return Err(in_the_way());
     }
-    make_folders(rt, to, unstored)?;
-    fs::rename(rt, from, to)
+    Ok(true)
 }
 
-/// Takes the file or link at the path away; where there is none, nothing is to do.
-pub(crate) fn remove_at<R: Files>(rt: &R, path: &str) -> io::Result<()> {
-    match occupant_of(rt, path)? {
-        Occupant::Node => fs::remove_file(rt, path),
-        Occupant::Nothing | Occupant::Other => Ok(()),
-    }
+/// Gets ready to take away what is at the path; whether a file or a link is there.
+pub(crate) fn ready_to_remove<R: Files + AllocGlobal>(
+    rt: &R,
+    path: &str,
+    folders: &mut Folders,
+    unstored: &mut Unstored<R>,
+) -> io::Result<bool> {
+    unstored.note_name(rt.alloc(), path)?;
+    holds_node(rt, path, folders)
 }

@@ -1,5 +1,5 @@
 //! What a read or a list of the real file system finds, for `OsTree`. Neither follows a link at the
-//! end of a path.
+//! end of a path, nor below the root one on the way.
 //!
 //! This layer promises: they are safe and return, and what they find is within the limits. What the
 //! system does isn't proved.
@@ -7,17 +7,25 @@ ghost use Rattle.std.specs.Prelude.{IfOk, IsTrue};
 ghost use Rattle.file_tree.specs.Causes.{IsWithin, IsListed, AreInOrder};
 
 use crate::node::{Found, Listed};
+use crate::os_folders::Folders;
 use crate::os_stores::Unstored;
 use crate::text::{Blob, Paths, Text};
 use std::cmp::Ordering;
 use std::fs::Metadata;
 use std::io::{ErrorKind, Read};
-use std::os::unix::fs::PermissionsExt;
+use std::os::unix::fs::{MetadataExt, PermissionsExt};
 use std::rt::Files;
 use std::{fs, io};
 
 /// The 12 bits of a mode that a chmod sets.
 const MODE_BITS: u32 = 0o7777;
+
+/// Who owns a file.
+#[derive(Clone, Copy)]
+pub(crate) struct Owner {
+    pub(crate) user: u32,
+    pub(crate) group: u32,
+}
 
 /// What stands at the path itself, if anything does.
 pub(crate) fn what_stands<R: Files>(rt: &R, path: &str) -> io::Result<Option<Metadata>> {
@@ -35,12 +43,50 @@ pub(crate) fn is_node(found: &Metadata) -> bool {
     found.is_file() || found.is_symlink()
 }
 
-/// Reads a file that has at most `limit` bytes.
+/// What a read meets at a path below the root. What can't become a file is no answer there: what is
+/// neither a file, a link nor a folder, and a name that is too long, also where its folder isn't there yet.
+fn stands_below_root<R: Files + AllocGlobal>(
+    rt: &R,
+    path: &str,
+    folders: &mut Folders,
+) -> io::Result<Option<Metadata>> {
+    let folder = folders.find(rt, path)?;
+    match what_stands(rt, path)? {
+        None => {
+            if folder.is_none() {
+                folders.try_long_names(rt, path)?;
+            }
+            Ok(None)
+        }
+        Some(found) => {
+            if is_node(&found) || found.is_dir() {
+                Ok(Some(found))
+            } else {
+                Err(io::Error::from(ErrorKind::AlreadyExists))
+            }
+        }
+    }
+}
+
+/// What a read meets at any other path. No file has a name that is too long.
+fn stands_elsewhere<R: Files>(rt: &R, path: &str) -> io::Result<Option<Metadata>> {
+    match what_stands(rt, path) {
+        Ok(found) => Ok(found),
+        Err(e) => match e.kind() {
+            ErrorKind::InvalidFilename => Ok(None),
+            _ => Err(e),
+        },
+    }
+}
+
+/// Reads a file that has at most `limit` bytes. Its owner is kept where it is given whole; with a limit of
+/// 0 it is only looked at.
 fn read_file<R: Files + AllocGlobal>(
     rt: &R,
     path: &str,
     found: &Metadata,
     limit: u64,
+    owner: &mut Option<Owner>,
 ) -> io::Result<Found>
     ensures { IfOk result (IsWithin limit) }
 {
@@ -57,6 +103,12 @@ fn read_file<R: Files + AllocGlobal>(
         let size = bytes.len() as u64;
         return Ok(Found::TooLarge { size });
     }
+    if limit > 0 {
+        *owner = Some(Owner {
+            user: found.uid(),
+            group: found.gid(),
+        });
+    }
     let mode = found.permissions().mode() & MODE_BITS;
     Ok(Found::File {
         bytes: Blob::new(bytes),
@@ -64,47 +116,93 @@ fn read_file<R: Files + AllocGlobal>(
     })
 }
 
-/// What is at the path.
-pub(crate) fn read_at<R: Files + AllocGlobal>(rt: &R, path: &str, limit: u64) -> io::Result<Found>
+/// What is at the path where this stands.
+fn read_found<R: Files + AllocGlobal>(
+    rt: &R,
+    path: &str,
+    found: &Metadata,
+    limit: u64,
+    owner: &mut Option<Owner>,
+) -> io::Result<Found>
     ensures { IfOk result (IsWithin limit) }
 {
-    match what_stands(rt, path)? {
+    if found.is_dir() {
+        Ok(Found::Folder)
+    } else if found.is_symlink() {
+        let target = fs::read_link(rt, path)?;
+        let target = Text::copy_of(rt.alloc(), target.as_str())?;
+        Ok(Found::Link { target })
+    } else if found.is_file() {
+        read_file(rt, path, found, limit, owner)
+    } else {
+        Ok(Found::Absent)
+    }
+}
+
+/// What is at the path.
+pub(crate) fn read_at<R: Files + AllocGlobal>(
+    rt: &R,
+    path: &str,
+    limit: u64,
+    folders: &mut Folders,
+    owner: &mut Option<Owner>,
+) -> io::Result<Found>
+    ensures { IfOk result (IsWithin limit) }
+{
+    let stands = if folders.is_below_root(path) {
+        stands_below_root(rt, path, folders)?
+    } else {
+        stands_elsewhere(rt, path)?
+    };
+    match stands {
         None => Ok(Found::Absent),
         Some(found) => {
-            if found.is_dir() {
-                Ok(Found::Folder)
-            } else if found.is_symlink() {
-                let target = fs::read_link(rt, path)?;
-                let target = Text::copy_of(rt.alloc(), target.as_str())?;
-                Ok(Found::Link { target })
-            } else if found.is_file() {
-                read_file(rt, path, &found, limit)
-            } else {
-                Ok(Found::Absent)
+            if is_node(&found) {
+                folders.note_read(rt, path)?;
             }
+            read_found(rt, path, &found, limit, owner)
         }
     }
 }
 
-/// Adds what lies in the folder: files and links to the paths, folders to those that are to be listed.
+/// Adds what lies in the folder: files and links to the paths, folders to those that are to be listed,
+/// which are met by that.
 fn list_folder<R: Files + AllocGlobal + Clone + Drop>(
     rt: &R,
     folder: &str,
     paths: &mut Vec<String>,
-    folders: &mut Vec<String>,
+    to_list: &mut Vec<String>,
+    folders: &mut Folders,
 ) -> io::Result<()> {
     for entry in fs::read_dir(rt, folder)? {
         let entry = entry?;
         let name = entry.file_name();
         let path = format!(in rt.alloc(); "{folder}/{name}")?;
-        let kind = entry.file_type()?;
-        if kind.is_dir() {
-            folders.push(path)?;
-        } else if kind.is_file() || kind.is_symlink() {
+        let found = entry.metadata()?;
+        if found.is_dir() {
+            folders.know(rt.alloc(), path.as_str(), &found, true)?;
+            to_list.push(path)?;
+        } else if is_node(&found) {
             paths.push(path)?;
         }
     }
     Ok(())
+}
+
+/// The folder alone, if it is there: the first that a list of it walks.
+fn first_to_list<R: Files + AllocGlobal>(
+    rt: &R,
+    folder: &str,
+    folders: &mut Folders,
+    unstored: &mut Unstored<R>,
+) -> io::Result<Vec<String>> {
+    let mut to_list = Vec::new(rt.alloc());
+    folders.find(rt, folder)?;
+    if what_stands(rt, folder)?.is_some_and(|found| found.is_dir()) {
+        folders.make(rt, folder, unstored)?;
+        to_list.push(String::from_str(rt.alloc(), folder)?)?;
+    }
+    Ok(to_list)
 }
 
 /// All paths below the folder, up to some more than the limit. Each folder that is walked is noted: a
@@ -113,27 +211,20 @@ fn paths_below<R: Files + AllocGlobal + Clone + Drop>(
     rt: &R,
     folder: &str,
     limit: u64,
+    folders: &mut Folders,
     unstored: &mut Unstored<R>,
 ) -> io::Result<Vec<String>> {
     let mut paths = Vec::new(rt.alloc());
-    let mut folders = Vec::new(rt.alloc());
-    match what_stands(rt, folder)? {
-        Some(found) => {
-            if found.is_dir() {
-                folders.push(String::from_str(rt.alloc(), folder)?)?;
-            }
-        }
-        None => {}
-    }
+    let mut to_list = first_to_list(rt, folder, folders, unstored)?;
     for _ in 0..u64::MAX {
         if paths.len() as u64 > limit {
             break;
         }
-        match folders.pop() {
+        match to_list.pop() {
             None => break,
             Some(next) => {
-                unstored.note_folder(rt.alloc(), next.as_str())?;
-                list_folder(rt, next.as_str(), &mut paths, &mut folders)?;
+                unstored.note_seen(rt.alloc(), next.as_str())?;
+                list_folder(rt, next.as_str(), &mut paths, &mut to_list, folders)?;
             }
         }
     }
@@ -161,11 +252,13 @@ pub(crate) fn list_at<R: Files + AllocGlobal + Clone + Drop>(
     rt: &R,
     folder: &str,
     limit: u64,
+    folders: &mut Folders,
     unstored: &mut Unstored<R>,
 ) -> io::Result<Listed>
     ensures { IfOk result (IsListed limit) }
 {
-    let mut paths = paths_below(rt, folder, limit, unstored)?;
+    folders.take_root(rt.alloc(), folder)?;
+    let mut paths = paths_below(rt, folder, limit, folders, unstored)?;
     paths.sort_unstable();
     paths.dedup();
     let paths = Paths::new(paths);

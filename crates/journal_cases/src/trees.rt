@@ -2,6 +2,8 @@
 use file_tree::*;
 use std::alloc::{AllocError, Global};
 use std::io::ErrorKind;
+use std::os::unix::fs::MetadataExt;
+use std::os::unix::net::UnixListener;
 use std::process::Abort;
 use std::test::Fail;
 use std::{fs, io};
@@ -242,6 +244,199 @@ fn the_real_file_system_answers_alike(rt: HostRuntime) -> Result<(), Fail> {
     fs::create_dir(&rt, "tree_test/noted")?;
     try_noting(&rt, &rt, &mut tree, &NOTED_BY_A_LIST)?;
     fs::remove_dir_all(&rt, "tree_test")?;
+    Ok(())
+}
+
+/// Makes the folder anew, with the file `a` in the folder `in` of it.
+fn make_place(files: &HostRuntime, place: &str) -> Result<(), Fail> {
+    let alloc = files.alloc();
+    let _ = fs::remove_dir_all(files, place);
+    let inner = format!(in alloc; "{place}/in")?;
+    fs::create_dir_all(files, inner.as_str())?;
+    let path = format!(in alloc; "{place}/in/a")?;
+    fs::write(files, path.as_str(), b"first")?;
+    Ok(())
+}
+
+/// Calls on a folder and a link to it: a file that was read or put under one spelling isn't put under another.
+const SPELLED: [(Step, &str); 12] = [
+    (Step::Read("spelled_test/in/a", 9), "file 644 first"),
+    (Step::Put("spelled_test/by/a", 0o644, "lost"), "failed"),
+    (Step::Read("spelled_test/by/a", 9), "file 644 first"),
+    (Step::Put("spelled_test/by/b", 0o600, "second"), "ok"),
+    (
+        Step::Pieces("spelled_test/in/b", 0o600, "lo", "st"),
+        "failed",
+    ),
+    (
+        Step::Rename("spelled_test/in/a", "spelled_test/in/b"),
+        "failed",
+    ),
+    (Step::Read("spelled_test/in/b", 9), "file 600 second"),
+    (Step::Put("spelled_test/in/same", 0o640, "third"), "ok"),
+    (Step::Read("spelled_test/in/a", 9), "file 644 first"),
+    (Step::Read("spelled_test/in/same", 9), "file 640 third"),
+    (Step::Put("spelled_test/in/same", 0o640, "again"), "ok"),
+    (Step::Settle, "ok"),
+];
+
+#[test]
+fn a_file_is_put_under_one_spelling_and_a_hard_link_is_another_file(
+    rt: HostRuntime,
+) -> Result<(), Fail> {
+    make_place(&rt, "spelled_test")?;
+    std::os::unix::fs::symlink(&rt, "in", "spelled_test/by")?;
+    fs::hard_link(&rt, "spelled_test/in/a", "spelled_test/in/same")?;
+    let mut tree = OsTree::new(&rt);
+    try_steps(&rt, rt.alloc(), &mut tree, &SPELLED)?;
+    fs::remove_dir_all(&rt, "spelled_test")?;
+    Ok(())
+}
+
+/// Calls below a folder that was listed, where a link is on the way.
+const LINKED: [(Step, &str); 10] = [
+    (
+        Step::List("linked_test", 9),
+        "paths linked_test/by linked_test/in/a",
+    ),
+    (Step::Read("linked_test/by", 9), "link in"),
+    (Step::Read("linked_test/by/a", 9), "failed"),
+    (Step::Read("linked_test/by/none", 0), "failed"),
+    (Step::Put("linked_test/by/b", 0o600, "put"), "failed"),
+    (
+        Step::Rename("linked_test/in/a", "linked_test/by/b"),
+        "failed",
+    ),
+    (
+        Step::Rename("linked_test/by/a", "linked_test/in/b"),
+        "failed",
+    ),
+    (Step::Remove("linked_test/by/a"), "failed"),
+    (Step::List("linked_test/by", 9), "paths"),
+    (
+        Step::List("linked_test", 9),
+        "paths linked_test/by linked_test/in/a",
+    ),
+];
+
+#[test]
+fn no_link_on_the_way_is_followed_below_the_folder_of_the_first_list(
+    rt: HostRuntime,
+) -> Result<(), Fail> {
+    make_place(&rt, "linked_test")?;
+    std::os::unix::fs::symlink(&rt, "in", "linked_test/by")?;
+    let mut tree = OsTree::new(&rt);
+    try_steps(
+        &rt,
+        rt.alloc(),
+        &mut tree,
+        &[(Step::Read("linked_test/by/a", 9), "file 644 first")],
+    )?;
+    let mut tree = OsTree::new(&rt);
+    try_steps(&rt, rt.alloc(), &mut tree, &LINKED)?;
+    fs::remove_dir_all(&rt, "linked_test")?;
+    Ok(())
+}
+
+/// Looks at a name of 256 bytes and at a socket where nothing was listed.
+const UNLISTED: [(Step, &str); 3] = [
+    (
+        Step::Read(
+            "barred_test/in/nnnnnnnnnnnnnnnnnnnnnnnnnnnnnnnnnnnnnnnnnnnnnnnnnnnnnnnnnnnnnnnnnnnnnnnnnnnnnnnnnnnnnnnnnnnnnnnnnnnnnnnnnnnnnnnnnnnnnnnnnnnnnnnnnnnnnnnnnnnnnnnnnnnnnnnnnnnnnnnnnnnnnnnnnnnnnnnnnnnnnnnnnnnnnnnnnnnnnnnnnnnnnnnnnnnnnnnnnnnnnnnnnnnnnnnnnnnnnnnnnnnnnnnnnnnnnnnn",
+            0,
+        ),
+        "absent",
+    ),
+    (
+        Step::Read(
+            "barred_test/none/nnnnnnnnnnnnnnnnnnnnnnnnnnnnnnnnnnnnnnnnnnnnnnnnnnnnnnnnnnnnnnnnnnnnnnnnnnnnnnnnnnnnnnnnnnnnnnnnnnnnnnnnnnnnnnnnnnnnnnnnnnnnnnnnnnnnnnnnnnnnnnnnnnnnnnnnnnnnnnnnnnnnnnnnnnnnnnnnnnnnnnnnnnnnnnnnnnnnnnnnnnnnnnnnnnnnnnnnnnnnnnnnnnnnnnnnnnnnnnnnnnnnnnnnnnnnnnnn",
+            0,
+        ),
+        "absent",
+    ),
+    (Step::Read("barred_test/socket", 0), "absent"),
+];
+
+/// The same below a folder that was listed.
+const LISTED: [(Step, &str); 6] = [
+    (Step::List("barred_test", 9), "paths barred_test/in/a"),
+    (
+        Step::Read(
+            "barred_test/in/nnnnnnnnnnnnnnnnnnnnnnnnnnnnnnnnnnnnnnnnnnnnnnnnnnnnnnnnnnnnnnnnnnnnnnnnnnnnnnnnnnnnnnnnnnnnnnnnnnnnnnnnnnnnnnnnnnnnnnnnnnnnnnnnnnnnnnnnnnnnnnnnnnnnnnnnnnnnnnnnnnnnnnnnnnnnnnnnnnnnnnnnnnnnnnnnnnnnnnnnnnnnnnnnnnnnnnnnnnnnnnnnnnnnnnnnnnnnnnnnnnnnnnnnnnnnnnnn",
+            0,
+        ),
+        "failed",
+    ),
+    (
+        Step::Read(
+            "barred_test/none/nnnnnnnnnnnnnnnnnnnnnnnnnnnnnnnnnnnnnnnnnnnnnnnnnnnnnnnnnnnnnnnnnnnnnnnnnnnnnnnnnnnnnnnnnnnnnnnnnnnnnnnnnnnnnnnnnnnnnnnnnnnnnnnnnnnnnnnnnnnnnnnnnnnnnnnnnnnnnnnnnnnnnnnnnnnnnnnnnnnnnnnnnnnnnnnnnnnnnnnnnnnnnnnnnnnnnnnnnnnnnnnnnnnnnnnnnnnnnnnnnnnnnnnnnnnnnnnn",
+            0,
+        ),
+        "failed",
+    ),
+    (
+        Step::Read(
+            "barred_test/none/nnnnnnnnnnnnnnnnnnnnnnnnnnnnnnnnnnnnnnnnnnnnnnnnnnnnnnnnnnnnnnnnnnnnnnnnnnnnnnnnnnnnnnnnnnnnnnnnnnnnnnnnnnnnnnnnnnnnnnnnnnnnnnnnnnnnnnnnnnnnnnnnnnnnnnnnnnnnnnnnnnnnnnnnnnnnnnnnnnnnnnnnnnnnnnnnnnnnnnnnnnnnnnnnnnnnnnnnnnnnnnnnnnnnnnnnnnnnnnnnnnnnnnnnnnnnnnn",
+            0,
+        ),
+        "absent",
+    ),
+    (Step::Read("barred_test/socket", 0), "failed"),
+    (Step::Read("barred_test/in/b", 0), "absent"),
+];
+
+#[test]
+fn what_can_be_no_file_is_a_fault_below_the_folder_of_the_first_list(
+    rt: HostRuntime,
+) -> Result<(), Fail> {
+    make_place(&rt, "barred_test")?;
+    let socket = UnixListener::bind(&rt, "barred_test/socket")?;
+    let mut tree = OsTree::new(&rt);
+    try_steps(&rt, rt.alloc(), &mut tree, &UNLISTED)?;
+    let mut tree = OsTree::new(&rt);
+    try_steps(&rt, rt.alloc(), &mut tree, &LISTED)?;
+    drop(socket);
+    fs::remove_dir_all(&rt, "barred_test")?;
+    Ok(())
+}
+
+/// Puts of files with the mode of one that was read, with and without a bit by which it runs as its owner or group.
+const OWNED: [(Step, &str); 5] = [
+    (Step::Put("owned_test/before", 0o4755, "put"), "ok"),
+    (Step::Read("owned_test/in/a", 9), "file 644 first"),
+    (Step::Put("owned_test/user", 0o4755, "put"), "ok"),
+    (Step::Put("owned_test/group", 0o2711, "put"), "ok"),
+    (Step::Put("owned_test/plain", 0o755, "put"), "ok"),
+];
+
+/// Who owns the file, and its mode.
+fn owner_text(files: &HostRuntime, path: &str) -> Result<String, Fail> {
+    let found = fs::symlink_metadata(files, path)?;
+    let (user, group, mode) = (found.uid(), found.gid(), found.mode() & 0o7777);
+    Ok(format!(in files.alloc(); "{user} {group} {mode:o}")?)
+}
+
+#[test]
+fn a_file_that_runs_as_its_owner_takes_the_owner_of_the_file_that_was_read(
+    rt: HostRuntime,
+) -> Result<(), Fail> {
+    make_place(&rt, "owned_test")?;
+    // Only the superuser gives a file away.
+    if std::os::unix::fs::lchown(&rt, "owned_test/in/a", Some(1234), Some(5678)).is_ok() {
+        let mut tree = OsTree::new(&rt);
+        try_steps(&rt, rt.alloc(), &mut tree, &OWNED)?;
+        assert_eq!(rt; owner_text(&rt, "owned_test/before")?.as_str(), "0 0 4755");
+        assert_eq!(rt;
+            owner_text(&rt, "owned_test/user")?.as_str(),
+            "1234 5678 4755"
+        );
+        assert_eq!(rt;
+            owner_text(&rt, "owned_test/group")?.as_str(),
+            "1234 5678 2711"
+        );
+        assert_eq!(rt; owner_text(&rt, "owned_test/plain")?.as_str(), "0 0 755");
+    }
+    fs::remove_dir_all(&rt, "owned_test")?;
     Ok(())
 }
 
