@@ -3,7 +3,7 @@ use Rattle.std.proofs.Common.{◌≡◌, ℕ, ◌<◌, ◌⊎◌, inl, inr, List
 use Rattle.std.proofs.lemmas.Result.{err_from_is_err_and}
 use Rattle.file_tree.specs.declared.node.TreeErr.{TreeErr}
 use Rattle.file_tree.specs.declared.node.TreeErr.TheVariants as tree
-use Rattle.std.specs.Prelude.{Result, Ok, Err, OnOk, IfErr, IsErrAnd, IsOkUnless, Some}
+use Rattle.std.specs.Prelude.{Result, Ok, Err, OnOk, IfErr, IsErrAnd, IsOkUnless}
 use Rattle.dw_base.specs.declared.fault.Refusal.{Refusal}
 use Rattle.file_tree.specs.declared.node.Node.{Node}
 use Rattle.file_tree.specs.Seen.{Past, Seen}
@@ -17,7 +17,7 @@ use Rattle.work_journal.specs.declared.job_err.JobErr.{JobErr}
 use Rattle.work_journal.specs.declared.job_err.JobErr.TheVariants as job
 use Rattle.work_journal.specs.declared.maker.MakeErr.{MakeErr}
 use Rattle.work_journal.specs.declared.maker.MakeErr.TheVariants as make
-use Rattle.work_journal.specs.Views.{MakerView, IsChange}
+use Rattle.work_journal.specs.Views.{MakerView, Makes, IsChange}
 use Rattle.work_journal.specs.Files.{FileStands, tree_stops, make_stops}
 use Rattle.work_journal.specs.Blames.{JobBlames, MakeBlames, RunBlames, OfJob, run_stops, is_mild, is_mild_run, other_file}
 use Rattle.work_journal.proofs.JobErrLaws.{make_is_no_fault}
@@ -40,13 +40,13 @@ blamed v refuses j bytes mode seen r (make.Changed p f) l is changed refused pla
 blamed v refuses j bytes mode seen r (make.Refused q) l is changed refused planned stands = (l, record { bytes = bytes; mode = mode; stands = stands; refused = refused q is; planned = planned q is })
 blamed v refuses j bytes mode seen r make.NoMemory l is changed refused planned stands = tt
 
-pub make_blames : {A : Type 0} (v : MakerView) (refuses : ℕ → List ℕ → Refusal → Type 0) (j : ℕ) (bytes : List ℕ) (mode : ℕ) (r : Result A MakeErr) (x : MakeErr) (y : JobErr) → j < length v.steps → r ≡ Err x → y ≡ make_stops j x
+pub make_blames : {A : Type 0} (v : MakerView) (makes : Makes) (refuses : ℕ → List ℕ → Refusal → Type 0) (j : ℕ) (bytes : List ℕ) (mode : ℕ) (r : Result A MakeErr) (x : MakeErr) (y : JobErr) → j < length v.steps → r ≡ Err x → y ≡ make_stops j x
     → ((p f : List ℕ) → r ≡ Err (make.Changed p f) → IsChange v j bytes p f)
     → ((q : Refusal) → r ≡ Err (make.Refused q) → refuses j bytes q)
     → ((q : Refusal) → r ≡ Err (make.Refused q) → v.digest bytes ≡ v.planned j)
-    → ((ns : List Node) → v.nodes j bytes mode ≡ Some ns → IsOkUnless r make.NoMemory)
-    → MakeBlames v refuses j bytes mode y
-make_blames v refuses j bytes mode r x y l is of changed refused planned whole = subst (λ (e : JobErr). MakeBlames v refuses j bytes mode e) (sym of) (record {
+    → ((ns : List Node) → makes j bytes mode ns → IsOkUnless r make.NoMemory)
+    → MakeBlames v makes refuses j bytes mode y
+make_blames v makes refuses j bytes mode r x y l is of changed refused planned whole = subst (λ (e : JobErr). MakeBlames v makes refuses j bytes mode e) (sym of) (record {
   blames = λ seen stands. blamed v refuses j bytes mode seen r x l is changed refused planned stands;
   mild = λ ns made. unless_mild j x r is (whole ns made);
   no_fault = make_is_no_fault j x;

@@ -12,7 +12,7 @@ use Rattle.work_texts.specs.declared.journal_err.JournalErr.{JournalErr}
 use Rattle.work_texts.specs.declared.journal_err.JournalErr.TheVariants as run
 use Rattle.work_journal.specs.declared.job_err.JobErr.{JobErr}
 use Rattle.work_journal.specs.declared.job_err.JobErr.TheVariants as job
-use Rattle.work_journal.specs.Views.{MakerView, IsChange}
+use Rattle.work_journal.specs.Views.{MakerView, Makes, IsChange}
 use Rattle.dw_base.specs.Layout.{file_limit}
 use Rattle.work_journal.specs.Files.{FileStands}
 
@@ -63,11 +63,11 @@ JobBlames v refuses seen job.Tree = ⊤
 JobBlames v refuses seen job.NoMemory = ⊤
 
 -- why nodes aren't made of these bytes
-pub record MakeBlames (v : MakerView) (refuses : ℕ → List ℕ → Refusal → Type 0) (j : ℕ) (bytes : List ℕ) (mode : ℕ) (e : JobErr) : Type 0 where
+pub record MakeBlames (v : MakerView) (makes : Makes) (refuses : ℕ → List ℕ → Refusal → Type 0) (j : ℕ) (bytes : List ℕ) (mode : ℕ) (e : JobErr) : Type 0 where
   -- where they stand at the job's source
   pub blames : (seen : Seen) → FileStands seen (v.source j) bytes mode → JobBlames v refuses seen e
   -- where nodes are made of them
-  pub mild : (ns : List Node) → v.nodes j bytes mode ≡ Some ns → IsTrue (is_mild e)
+  pub mild : (ns : List Node) → makes j bytes mode ns → IsTrue (is_mild e)
   pub no_fault : e ≢ job.Tree
 
 -- the error names a job that is there

@@ -11,7 +11,7 @@ pub returns-in_err-texts-clause-ran : goal.returns-in_err-texts-clause-ran
 returns-in_err-texts-clause-ran g c = finish_no_text _ _ _ _ _ _ _ (c.in_err-texts.was) c.from_residual.ensures.1 c.end_nodes.ensures.memory
 
 pub returns-clause-mild : goal.returns-clause-mild
-returns-clause-mild g c = λ w given wants tells k. c.finish_over.ensures.mild w given (run_by _ _ _ _ _ _ c.text_node-plan.ensures.node c.in_ok-texts.ensures.nodes wants) tells k
+returns-clause-mild g c = λ w given wants tells k. c.finish_over.ensures.mild w given (run_by _ _ _ _ _ _ _ c.text_node-plan.ensures.node c.in_ok-texts.ensures.nodes wants) tells k
 
 pub returns-clause-ran : goal.returns-clause-ran
-returns-clause-ran g c = finish_given _ _ _ _ _ _ _ (λ w wants. run_by _ _ _ _ _ _ c.text_node-plan.ensures.node c.in_ok-texts.ensures.nodes wants) c.finish_over.ensures.ran
+returns-clause-ran g c = finish_given _ _ _ _ _ _ _ (λ w wants. run_by _ _ _ _ _ _ _ c.text_node-plan.ensures.node c.in_ok-texts.ensures.nodes wants) c.finish_over.ensures.ran

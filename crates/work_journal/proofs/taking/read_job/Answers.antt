@@ -36,7 +36,7 @@ returns g c = record {
   found = tt;
   stood = tt;
   blame = (c.requires.there, no_file c.planned.ensures.digest (none_stands (g.T.Tree.seen c.args.desk.now.tree.now) (g.T.Tree.seen c.read.new.self.tree.now) _ _ _ (c.as_str.ensures.value ∙ c.in_ok-path.ensures.path) c.in_ok-bytes.ensures.told c.read.ensures.now c.in_default.not-File));
-  mild = λ w given wanted tells k free. absurd (file_met w _ _ (g.T.Tree.seen c.args.desk.now.tree.now) _ _ _ wanted c.requires.there tells k free (c.as_str.ensures.value ∙ c.in_ok-path.ensures.path) c.in_ok-bytes.ensures.told c.in_default.not-File);
+  mild = λ w given wanted tells k free. absurd (file_met w _ _ _ (g.T.Tree.seen c.args.desk.now.tree.now) _ _ _ wanted c.requires.there tells k free (c.as_str.ensures.value ∙ c.in_ok-path.ensures.path) c.in_ok-bytes.ensures.told c.in_default.not-File);
   came = came_answered _ _ _ _ _ _ _ _ _ _ (c.in_ok-bytes.was) (λ e. cc)
       (came_reads _ _ _ _ _ _ _ _ c.read.ensures.core c.read.ensures.done c.read.ensures.failed c.read.ensures.cause c.read.ensures.tells);
 }
