@@ -12,7 +12,7 @@ use Rattle.file_tree.specs.declared.node.Found.{Found}
 use Rattle.file_tree.specs.Causes.{Stood}
 use Rattle.file_tree.specs.Seen.{Seen, now_of, map_now}
 use Rattle.work_journal.specs.declared.job_err.JobErr.{JobErr}
-use Rattle.work_journal.specs.Blames.{is_file, NoFileStands, JobBlames, MakeBlames, is_mild}
+use Rattle.work_journal.specs.Blames.{is_file, NoFileStands, JobBlames, IsOfJob, MakeBlames, is_mild}
 use Rattle.file_tree.specs.Images.{State, state_of}
 use Rattle.file_tree.proofs.ImageLaws.{state_now}
 use Rattle.journal_core.specs.Names.{target}
@@ -59,11 +59,11 @@ pub made_by : (makes : Makes) (j : ℕ) (a b : List ℕ) (m n : ℕ) (ns : List 
 made_by makes j a b m n ns ea en made = subst (λ (k : ℕ). makes j b k ns) en (subst (λ (x : List ℕ). makes j x m ns) ea made)
 
 -- a maker that has made nodes since wants the same files
-file_since : (w : Wanted) (v : MakerView) (first now : Makes) (j : ℕ) → ((i : ℕ) (b : List ℕ) (m : ℕ) (ns : List Node) → first i b m ns → now i b m ns) → IsFile w v first j → IsFile w v now j
-file_since w v first now j more f = record { bytes = f.bytes; mode = f.mode; there = f.there; few = f.few; nodes = f.nodes; made = more j f.bytes f.mode f.nodes f.made; are_nodes = f.are_nodes; source = f.source }
+file_since : (w : Wanted) (v : MakerView) (was now : Makes) (j : ℕ) → ((i : ℕ) (b : List ℕ) (m : ℕ) (ns : List Node) → was i b m ns → now i b m ns) → IsFile w v was j → IsFile w v now j
+file_since w v was now j more f = record { bytes = f.bytes; mode = f.mode; there = f.there; few = f.few; nodes = f.nodes; made = more j f.bytes f.mode f.nodes f.made; are_nodes = f.are_nodes; source = f.source }
 
-pub wanted_since : (w : Wanted) (v u : MakerView) (first now : Makes) → u ≡ v → ((i : ℕ) (b : List ℕ) (m : ℕ) (ns : List Node) → first i b m ns → now i b m ns) → IsWanted w v first → IsWanted w u now
-wanted_since w v u first now same more a = subst (λ (x : MakerView). IsWanted w x now) (sym same) (record { steps_are = a.steps_are; made = a.made; files = λ j l. file_since w v first now j more (a.files j l) })
+pub wanted_since : (w : Wanted) (v u : MakerView) (was now : Makes) → u ≡ v → ((i : ℕ) (b : List ℕ) (m : ℕ) (ns : List Node) → was i b m ns → now i b m ns) → IsWanted w v was → IsWanted w u now
+wanted_since w v u was now same more a = subst (λ (x : MakerView). IsWanted w x now) (sym same) (record { steps_are = a.steps_are; made = a.made; files = λ j l. file_since w v was now j more (a.files j l) })
 
 -- the planned file is there
 pub file_is_there : (w : Wanted) (v : MakerView) (makes : Makes) (c : CoreState) (seen : Seen) (j : ℕ) (f : IsFile w v makes j) → Keeps w c (state_of seen.past)
@@ -135,3 +135,7 @@ made_mild w v makes refuses c seen j bytes mode (Err e) wanted l tells k free st
 pub made_blames : {A : Type 0} (v : MakerView) (makes : Makes) (refuses : ℕ → List ℕ → Refusal → Type 0) (seen : Seen) (j : ℕ) (bytes : List ℕ) (mode : ℕ) (r : Result A JobErr) → FileStands seen (v.source j) bytes mode → IfErr r (MakeBlames v makes refuses j bytes mode) → IfErr r (JobBlames v refuses seen)
 made_blames v makes refuses seen j bytes mode (Ok a) stands h = tt
 made_blames v makes refuses seen j bytes mode (Err e) stands h = h.blames seen stands
+
+pub made_of_job : {A : Type 0} (v : MakerView) (makes : Makes) (refuses : ℕ → List ℕ → Refusal → Type 0) (j : ℕ) (bytes : List ℕ) (mode : ℕ) (r : Result A JobErr) → IfErr r (MakeBlames v makes refuses j bytes mode) → IfErr r (IsOfJob j)
+made_of_job v makes refuses j bytes mode (Ok a) h = tt
+made_of_job v makes refuses j bytes mode (Err e) h = h.of_job

@@ -19,7 +19,7 @@ ghost use Rattle.journal_core.specs.Calls.{is_uncommitted};
 ghost use Rattle.journal_core.specs.Table.{state_of as state_at};
 ghost use Rattle.work_journal.specs.Wanted.{Wanted};
 ghost use Rattle.work_journal.specs.Keeps.{Keeps};
-ghost use Rattle.work_journal.specs.Blames.{JobBlames, is_mild};
+ghost use Rattle.work_journal.specs.Blames.{JobBlames, JobStood, IsOfJob, is_mild};
 ghost use Rattle.file_tree.specs.Images.{state_of};
 ghost use Rattle.work_journal.specs.Rounds.{IsMending, IsBegun, IsRound, IsMoving, AreCalm, AreLater, AreDone, rounds_of, settles_so_far, settles_of_one, IsCounted};
 
@@ -106,6 +106,8 @@ fn take_one<T: Tree, M: Maker>(
     ensures later { IfOk result (λ s. AreLater (core_of desk.old.core) (core_of desk.new.core) (job + 1)) }
     ensures met { IfOk result (λ s. IsTrue (is_uncommitted (state_at (core_of desk.old.core) job)) → HasPlanned (M.view maker.old) (T.seen desk.old.tree.now) job) }
     ensures blame { IfErr result (JobBlames (M.view maker.old) (M.refuses maker.old) (T.seen desk.new.tree.now)) }
+    ensures stands { IfErr result (JobStood (M.view maker.old) (M.refuses maker.old) (core_of desk.old.core) (T.seen desk.old.tree.now)) }
+    ensures of_job { IfErr result (IsOfJob job) }
     ensures mild { (w : Wanted) → IsGiven w work.now → IsWanted w (M.view maker.old) (M.makes maker.old) → (T.seen desk.old.tree.now).tells ≡ true → Keeps w (core_of desk.old.core) (state_of (T.seen desk.old.tree.now).past) → IfErr result (λ e. IsTrue (is_mild e)) }
     ensures came { Came tree_fault (IsHit work.now (M.view maker.old) (λ j. j < job + 1)) (settles_of_one round result) work.now (λ w. IsWanted w (M.view maker.old) (M.makes maker.old)) (core_of desk.old.core) (T.seen desk.old.tree.now) (core_of desk.new.core) (T.seen desk.new.tree.now) result }
 {
@@ -146,6 +148,7 @@ fn take_all<T: Tree, M: Maker>(
     ensures round { IfOk result (λ r. IsRound (M.view maker.old) (core_of desk.new.core) r (length (M.view maker.old).steps) in_flight) }
     ensures met { IfOk result (λ r. AreSourcesApart work.now (M.view maker.old) → ArePlanned (M.view maker.old) (core_of desk.old.core) (T.seen desk.old.tree.now) (length (M.view maker.old).steps)) }
     ensures blame { IfErr result (JobBlames (M.view maker.old) (M.refuses maker.old) (T.seen desk.new.tree.now)) }
+    ensures stands { AreSourcesApart work.now (M.view maker.old) → IfErr result (JobStood (M.view maker.old) (M.refuses maker.old) (core_of desk.old.core) (T.seen desk.old.tree.now)) }
     ensures mild { (w : Wanted) → IsGiven w work.now → IsWanted w (M.view maker.old) (M.makes maker.old) → (T.seen desk.old.tree.now).tells ≡ true → Keeps w (core_of desk.old.core) (state_of (T.seen desk.old.tree.now).past) → IfErr result (λ e. IsTrue (is_mild e)) }
     ensures came { Came tree_fault (IsHit work.now (M.view maker.old) (λ j. ⊤)) (settles_so_far (length (M.view maker.old).steps) in_flight result) work.now (λ w. IsWanted w (M.view maker.old) (M.makes maker.old)) (core_of desk.old.core) (T.seen desk.old.tree.now) (core_of desk.new.core) (T.seen desk.new.tree.now) result }
 {
@@ -175,6 +178,7 @@ pub(crate) fn run_all<T: Tree, M: Maker>(
     ensures done { OnOk result (AreDone (M.view maker.old) (core_of desk.new.core)) }
     ensures met { OnOk result (AreSourcesApart work.now (M.view maker.old) → ArePlanned (M.view maker.old) (core_of desk.old.core) (T.seen desk.old.tree.now) (length (M.view maker.old).steps)) }
     ensures blame { IfErr result (JobBlames (M.view maker.old) (M.refuses maker.old) (T.seen desk.new.tree.now)) }
+    ensures stands { AreSourcesApart work.now (M.view maker.old) → IfErr result (JobStood (M.view maker.old) (M.refuses maker.old) (core_of desk.old.core) (T.seen desk.old.tree.now)) }
     ensures mild { (w : Wanted) → IsGiven w work.now → IsWanted w (M.view maker.old) (M.makes maker.old) → (T.seen desk.old.tree.now).tells ≡ true → Keeps w (core_of desk.old.core) (state_of (T.seen desk.old.tree.now).past) → IfErr result (λ e. IsTrue (is_mild e)) }
     ensures came { Came tree_fault (IsHit work.now (M.view maker.old) (λ j. ⊤)) (rounds_of (length (M.view maker.old).steps) in_flight) work.now (λ w. IsWanted w (M.view maker.old) (M.makes maker.old)) (core_of desk.old.core) (T.seen desk.old.tree.now) (core_of desk.new.core) (T.seen desk.new.tree.now) result }
 {

@@ -16,7 +16,7 @@ ghost use Rattle.work_journal.specs.Runs.{Came, IsGiven};
 ghost use Rattle.work_journal.specs.Planned.{HasPlanned};
 ghost use Rattle.work_journal.specs.Wanted.{Wanted};
 ghost use Rattle.work_journal.specs.Keeps.{Keeps};
-ghost use Rattle.work_journal.specs.Blames.{JobBlames, MakeBlames, is_mild};
+ghost use Rattle.work_journal.specs.Blames.{JobBlames, JobStood, IsOfJob, MakeBlames, is_mild};
 ghost use Rattle.journal_core.specs.Calls.{is_uncommitted};
 ghost use Rattle.file_tree.specs.Images.{state_of};
 
@@ -43,6 +43,8 @@ fn read_job<T: Tree, M: Maker>(
     ensures found { IfOk result (λ p. FileStands (T.seen desk.new.tree.now) ((M.view maker.now).source job) p.0 p.1) }
     ensures stood { IfOk result (λ p. FileStands (T.seen desk.old.tree.now) ((M.view maker.now).source job) p.0 p.1) }
     ensures blame { IfErr result (JobBlames (M.view maker.now) (M.refuses maker.now) (T.seen desk.new.tree.now)) }
+    ensures stands { IfErr result (JobBlames (M.view maker.now) (M.refuses maker.now) (T.seen desk.old.tree.now)) }
+    ensures of_job { IfErr result (IsOfJob job) }
     ensures mild { (w : Wanted) → IsGiven w work.now → IsWanted w (M.view maker.now) (M.makes maker.now) → (T.seen desk.old.tree.now).tells ≡ true → Keeps w (core_of desk.old.core) (state_of (T.seen desk.old.tree.now).past) → IsTrue (is_uncommitted (job_state (core_of desk.old.core) job)) → IfErr result (λ e. IsTrue (is_mild e)) }
     ensures came { Came tree_fault (InWork work.now) 0 work.now (λ w. ⊤) (core_of desk.old.core) (T.seen desk.old.tree.now) (core_of desk.new.core) (T.seen desk.new.tree.now) result }
 {
@@ -97,6 +99,8 @@ pub(crate) fn take_job<T: Tree, M: Maker>(
     ensures core { OnOk result (core_of desk.new.core ≡ with_state (core_of desk.old.core) job Staged) }
     ensures met { OnOk result (HasPlanned (M.view maker.old) (T.seen desk.old.tree.now) job) }
     ensures blame { IfErr result (JobBlames (M.view maker.old) (M.refuses maker.old) (T.seen desk.new.tree.now)) }
+    ensures stands { IfErr result (JobStood (M.view maker.old) (M.refuses maker.old) (core_of desk.old.core) (T.seen desk.old.tree.now)) }
+    ensures of_job { IfErr result (IsOfJob job) }
     ensures mild { (w : Wanted) → IsGiven w work.now → IsWanted w (M.view maker.old) (M.makes maker.old) → (T.seen desk.old.tree.now).tells ≡ true → Keeps w (core_of desk.old.core) (state_of (T.seen desk.old.tree.now).past) → IfErr result (λ e. IsTrue (is_mild e)) }
     ensures came { Came tree_fault (InWork work.now) 0 work.now (λ w. IsWanted w (M.view maker.old) (M.makes maker.old)) (core_of desk.old.core) (T.seen desk.old.tree.now) (core_of desk.new.core) (T.seen desk.new.tree.now) result }
 {

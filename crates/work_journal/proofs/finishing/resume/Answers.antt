@@ -17,3 +17,6 @@ returns-clause-mild g c = λ w given wants tells k. c.jobs_and_texts.ensures.mil
 
 pub returns-clause-came : goal.returns-clause-came
 returns-clause-came g c = came_given run.Tree _ _ _ _ _ _ _ _ (λ w given tells wants k. jobs_by _ _ _ _ _ c.in_ok-texts.ensures.nodes wants) c.jobs_and_texts.ensures.came
+
+pub returns-in_err-texts-clause-stays : goal.returns-in_err-texts-clause-stays
+returns-in_err-texts-clause-stays g c = λ apart. mild_blames _ _ _ _ (no_text_mild _ _ _ (c.in_err-texts.was) c.from_residual.ensures.1 c.end_nodes.ensures.memory)

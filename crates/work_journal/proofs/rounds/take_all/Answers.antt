@@ -9,9 +9,9 @@ use Rattle.work_journal.proofs.JobErrLaws.{came_took, came_then_job, keeps_then,
 use Rattle.work_journal.proofs.FileLaws.{wanted_since}
 use Rattle.work_journal.proofs.RoundLaws.{round_begins, taken_most, settles_next, settles_end, broke_all}
 use Rattle.work_journal.specs.Blames.{is_mild}
-use Rattle.work_journal.proofs.BlameLaws.{err_passed, blames_since}
+use Rattle.work_journal.proofs.BlameLaws.{err_passed, blames_since, stood_since}
 use Rattle.work_journal.specs.Planned.{HasPlanned, ArePlanned}
-use Rattle.work_journal.proofs.PlannedLaws.{later_same, later_then, none_planned, planned_next}
+use Rattle.work_journal.proofs.PlannedLaws.{stood_first, later_same, later_then, none_planned, planned_next}
 use Rattle.work_journal.proofs.rounds.take_all.Goals as goal
 
 pub loop-job-init : goal.loop-job-init
@@ -71,3 +71,8 @@ returns-in_err-round-clause-mild g c = λ w given wanted tells k. err_passed _ _
 
 pub returns-clause-met : goal.returns-clause-met
 returns-clause-met g c = λ apart. subst (λ (n : ℕ). ArePlanned (g.M.Maker.view c.args.maker.now) (core_of c.args.desk.now.core) (g.T.Tree.seen c.args.desk.now.tree.now) n) (omega arith) (c.loop-job.invariant.met apart)
+
+pub returns-in_err-round-clause-stands : goal.returns-in_err-round-clause-stands
+returns-in_err-round-clause-stands g c = λ apart. err_passed _ _ _ _ (c.in_err-round.was) c.from_residual.ensures.1
+    (stood_first c.args.work.now _ _ _ _ _ _ _ c.loop-job.job _ apart c.loop-job.invariant.later c.loop-job.invariant.came.tells c.loop-job.invariant.came.spares c.take_one.ensures.of_job
+    (stood_since _ _ _ _ (core_of c.loop-job.desk.core) _ _ c.loop-job.invariant.same_view c.loop-job.invariant.same_refusals c.take_one.ensures.stands))
