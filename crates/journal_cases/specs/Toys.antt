@@ -5,7 +5,7 @@ use Rattle.std.proofs.lemmas.List.{length-replicate, get_or-replicate}
 use Rattle.std.specs.Fmt.{decimal}
 use Rattle.file_tree.specs.declared.node.Node.{Node}
 use Rattle.file_tree.specs.declared.node.Node.TheVariants as node
-use Rattle.work_journal.specs.Views.{MakerView, IsMaker}
+use Rattle.work_journal.specs.Views.{MakerView, Makes, IsMaker}
 
 abbrev pub toy_source : ℕ → List ℕ
 toy_source j = codes "r/" ++ decimal j
@@ -31,8 +31,10 @@ toy_view jobs first = record {
   target = λ j k. if k == 0 then toy_debug j else toy_source j;
   planned = λ j. replicate 20 first;
   digest = toy_digest;
-  nodes = λ j bytes mode. toy_nodes first bytes mode;
 }
+
+abbrev pub toy_makes : ℕ → Makes
+toy_makes first j bytes mode ns = toy_nodes first bytes mode ≡ Some ns
 
 -- ### It is fit
 
@@ -58,10 +60,14 @@ same_length : (b : Bool) (made ns : List Node) → cond b (Some made) None ≡ S
 same_length true made ns e = sym (ap (λ (o : Option (List Node)). length (nodes_in o)) e)
 same_length false made ns e = absurd (subst IsNone e tt)
 
-pub toy_fits : (n first : ℕ) → IsMaker (toy_view n first)
+same_nodes : (o : Option (List Node)) (ns ms : List Node) → o ≡ Some ns → o ≡ Some ms → ns ≡ ms
+same_nodes o ns ms e f = ap nodes_in (sym e ∙ f)
+
+pub toy_fits : (n first : ℕ) → IsMaker (toy_view n first) (toy_makes first)
 toy_fits n first = record {
   some = λ j l. subst (λ (k : ℕ). 0 < k) (sym (steps_at n j l)) (lit< tt);
   most = λ j l. subst (λ (k : ℕ). k ≤ 4) (sym (steps_at n j l)) (lit≤ tt);
   of_planned = λ j bytes mode ns e. ap (λ (x : ℕ). replicate 20 x) (first_is (get_or bytes 0 0) first (get_or bytes 0 0 == first) _ ns refl e);
   one_each = λ j bytes mode ns l e. same_length (get_or bytes 0 0 == first) _ ns e ∙ sym (steps_at n j l);
+  one = λ j bytes mode ns ms e f. same_nodes (toy_nodes first bytes mode) ns ms e f;
 }

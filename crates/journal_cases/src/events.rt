@@ -31,8 +31,8 @@ fn a_job_is_moved_while_another_is_staged(rt: HostRuntime) -> Result<(), Fail> {
     let mut core = Core::resumed([4, 2].to_vec(rt.alloc())?, states)?;
     assert_eq!(rt; core.phase(), Phase::Running);
     assert_eq!(rt; core.job(0), JobState::Going { moved: 2 });
-    for (event, allowed) in RESUMED {
-        assert_eq!(rt; core.step(event), allowed);
+    for (row, (event, allowed)) in RESUMED.into_iter().enumerate() {
+        assert_eq!(rt; core.step(event), allowed, "row {row}");
     }
     Ok(())
 }
@@ -41,9 +41,9 @@ fn a_job_is_moved_while_another_is_staged(rt: HostRuntime) -> Result<(), Fail> {
 fn a_finished_run_is_only_cleared(rt: HostRuntime) {
     let mut core = Core::closed(rt.alloc());
     assert_eq!(rt; core.phase(), Phase::Closed);
-    for event in EVERY {
+    for (row, event) in EVERY.into_iter().enumerate() {
         let allowed = event == Event::Clear || event == Event::Settle;
-        assert_eq!(rt; core.step(event), allowed);
+        assert_eq!(rt; core.step(event), allowed, "row {row}");
     }
 }
 
@@ -101,13 +101,13 @@ const WAY: [Event; 19] = [
 #[test]
 fn only_the_next_event_of_the_way_is_allowed(rt: HostRuntime) -> Result<(), Fail> {
     for (before, next) in WAY.iter().enumerate() {
-        for event in EVERY {
+        for (row, event) in EVERY.into_iter().enumerate() {
             let mut core = Core::new(rt.alloc(), [2].to_vec(rt.alloc())?)?;
             for come in WAY.iter().take(before) {
-                assert!(rt; core.step(*come));
+                assert!(rt; core.step(*come), "before {before}");
             }
             let allowed = event == *next || event == Event::Settle;
-            assert_eq!(rt; core.step(event), allowed);
+            assert_eq!(rt; core.step(event), allowed, "row {row} after {before}");
         }
     }
     Ok(())

@@ -170,11 +170,11 @@ fn stop_and_start(
     };
     tree.stop_after(calls);
     let ended = start(alloc, &mut tree, &mut maker, in_flight)?;
-    assert!(rt; !ended);
+    assert!(rt; !ended, "stopped after {calls}, {kept} kept");
     let mut left = tree.stopped(kept, b"torn")?;
     let ended = start(alloc, &mut left, &mut maker, next)?;
-    assert!(rt; ended);
-    assert!(rt; are_same(&left, whole));
+    assert!(rt; ended, "started after {calls}, {kept} kept");
+    assert!(rt; are_same(&left, whole), "after {calls}, {kept} kept");
     Ok(())
 }
 
@@ -237,10 +237,10 @@ fn fail_and_start(rt: &impl Abort, alloc: Global, call: u64, whole: &MemTree) ->
     };
     tree.fail_calls(vec![in alloc; call; 1]?);
     let ended = start(alloc, &mut tree, &mut maker, 2)?;
-    assert!(rt; !ended);
+    assert!(rt; !ended, "call {call} failed");
     let ended = start(alloc, &mut tree, &mut maker, 3)?;
-    assert!(rt; ended);
-    assert!(rt; are_same(&tree, whole));
+    assert!(rt; ended, "started after call {call}");
+    assert!(rt; are_same(&tree, whole), "after call {call}");
     Ok(())
 }
 
@@ -285,9 +285,10 @@ fn left_alone(rt: &impl Abort, alloc: Global, path: &str, text: &[u8]) -> Result
         jobs: 1,
         first: b'f',
     };
+    let len = text.len();
     let ended = start(alloc, &mut tree, &mut maker, 1)?;
-    assert!(rt; !ended);
-    assert!(rt; are_same(&tree, &before));
+    assert!(rt; !ended, "{path} of {len} bytes");
+    assert!(rt; are_same(&tree, &before), "{path} of {len} bytes");
     Ok(())
 }
 

@@ -44,9 +44,11 @@ fn nodes_of(alloc: Global, bytes: &[u8], mode: u32) -> Result<Vec<Node>, AllocEr
 
 #[tactic(auto, using(crate::proofs::ToyLaws::toy_made))]
 impl Maker for Toy {
-    ghost use Rattle.journal_cases.specs.Toys.{toy_view, toy_fits};
+    ghost use Rattle.journal_cases.specs.Toys.{toy_view, toy_makes, toy_fits};
 
     ghost view = { λ m. toy_view m.jobs m.first };
+
+    ghost makes = { λ m. toy_makes m.first };
 
     ghost refuses = { λ m j bytes r. ⊥ };
 

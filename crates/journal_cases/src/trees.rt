@@ -118,7 +118,7 @@ fn try_steps<T: Tree>(
 ) -> Result<(), AllocError> {
     for i in 0..steps.len() {
         let given = answer(alloc, tree, &steps[i].0)?;
-        assert_eq!(rt; given.as_str(), steps[i].1);
+        assert_eq!(rt; given.as_str(), steps[i].1, "row {i}");
     }
     Ok(())
 }
@@ -539,7 +539,7 @@ fn a_stop_keeps_a_first_part_of_the_changes(rt: HostRuntime) -> Result<(), Fail>
         let mut tree = MemTree::new(alloc, Vec::new(alloc))?;
         try_steps(&rt, alloc, &mut tree, &PENDING)?;
         let mut left = tree.stopped(kept, b"torn")?;
-        assert_eq!(rt; left.calls().len(), 0);
+        assert_eq!(rt; left.calls().len(), 0, "{kept} kept");
         let seen = [
             (Step::List("r", 9), paths),
             (Step::Read("r/b", 9), at_target),

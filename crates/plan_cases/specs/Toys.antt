@@ -1,5 +1,5 @@
 -- A small judge of files, for tests: a file says by its first three bytes what becomes of it.
-use Rattle.std.proofs.Common.{◌≡◌, ◌<◌, ℕ, zero, suc, Bool, true, false, ◌||◌, List, [], ◌∷◌, ◌++◌, get_or, refl, ap, subst, lit<}
+use Rattle.std.proofs.Common.{◌≡◌, ◌<◌, ℕ, zero, suc, Bool, true, false, ◌||◌, List, [], ◌∷◌, ◌++◌, get_or, refl, sym, ◌∙◌, ap, subst, lit<}
 use Rattle.std.specs.Prelude.{◌==◌, if◌then◌else◌, Option, Some, None, IsTrue}
 use Rattle.hex.specs.Hex.{IsBytes}
 use Rattle.work_texts.specs.Rules.{may_have_id}
@@ -27,9 +27,9 @@ toy_verdict bytes = toy_said (get_or bytes 0 0) (get_or bytes 1 0) (get_or bytes
 -- an edited file has one byte more, and of the two files that it is split into each has another one
 abbrev pub toy_view : JudgeView
 toy_view = record {
-  verdict = λ bytes name. toy_verdict bytes;
-  edited = λ bytes. Some (bytes ++ 101 ∷ []);
-  pair = λ bytes name. Some (record { stripped = bytes ++ 115 ∷ []; debug = bytes ++ name });
+  says = λ bytes name verdict. toy_verdict bytes ≡ Some verdict;
+  edits = λ bytes file. file ≡ bytes ++ 101 ∷ [];
+  pairs = λ bytes name pair. pair ≡ record { stripped = bytes ++ 115 ∷ []; debug = bytes ++ name };
 }
 
 -- ### It is a judge
@@ -77,4 +77,9 @@ said-by false false true bytes name c i verdict is = absurd (subst IsUnsaid is t
 said-by false false false bytes name c i verdict is = subst (Made toy_view bytes name) (ap verdict_in is) made.not_made
 
 pub toy_makes : IsJudge toy_view
-toy_makes = record { makes = λ bytes name verdict is. said-by (get_or bytes 0 0 == 69) (get_or bytes 0 0 == 83) (get_or bytes 0 0 == 82) bytes name (get_or bytes 1 0) (get_or bytes 2 0) verdict is }
+toy_makes = record {
+  makes = λ bytes name verdict is. said-by (get_or bytes 0 0 == 69) (get_or bytes 0 0 == 83) (get_or bytes 0 0 == 82) bytes name (get_or bytes 1 0) (get_or bytes 2 0) verdict is;
+  one_verdict = λ bytes name x y a b. ap verdict_in (sym a ∙ b);
+  one_file = λ bytes x y a b. a ∙ sym b;
+  one_pair = λ bytes name x y a b. a ∙ sym b;
+}

@@ -155,82 +155,6 @@ fn maker_of(alloc: Global, table: &[(&str, &[u8])]) -> Result<RootMaker<Toy>, Fa
     Ok(RootMaker::new(alloc, "r", plan, Toy {})?)
 }
 
-/// Where the node of a step of the second job comes to stand.
-fn second_target(alloc: Global, maker: &RootMaker<Toy>, step: u8) -> Result<String, Fail> {
-    if maker.jobs() != 2 {
-        return Err(Fail::from("not two jobs"));
-    }
-    if step >= maker.steps(1) {
-        return Err(Fail::from("no such step"));
-    }
-    Ok(maker.target(alloc, 1, step)?)
-}
-
-/// Whether a step of the second job has this target.
-fn has_target(alloc: Global, maker: &RootMaker<Toy>, step: u8, wanted: &str) -> Result<bool, Fail> {
-    let target = second_target(alloc, maker, step)?;
-    Ok(target.as_str() == wanted)
-}
-
-/// The targets of the second of two equal files.
-const TARGETS: &[(u8, &str)] = &[
-    (0, "r/usr/lib/debug/usr/bin/b.debug"),
-    (1, "r/usr/lib/debug/.build-id/ab/01.1"),
-    (2, "r/usr/lib/debug/.build-id/ab/01.1.debug"),
-    (3, "r/usr/bin/b"),
-];
-
-#[test]
-fn equal_files_have_links_of_their_own(rt: HostRuntime) -> Result<(), Fail> {
-    let alloc = rt.alloc();
-    let maker = maker_of(alloc, TWINS)?;
-    for (step, wanted) in TARGETS {
-        assert!(rt; has_target(alloc, &maker, *step, wanted)?);
-    }
-    Ok(())
-}
-
-#[test]
-fn equal_files_are_both_reported(rt: HostRuntime) -> Result<(), Fail> {
-    let alloc = rt.alloc();
-    let plan = made_plan(alloc, files(alloc, TWINS)?, false)?;
-    let report = b"split 2, edited 0, left 0, skipped 0, links 4, sources 1\n";
-    assert_eq!(rt; plan.report.as_slice(), report.as_slice());
-    Ok(())
-}
-
-/// A file with a build-id.
-const ONE: &[(&str, &[u8])] = &[("r/usr/bin/a", b"Sx\x01")];
-
-/// What the lists of its job say: sources, debug files, and links.
-const LISTS: &[(usize, &[u8])] = &[
-    (0, b"x\0"),
-    (1, b"/usr/lib/debug/usr/bin/a.debug\0"),
-    (
-        2,
-        b"/usr/lib/debug/.build-id/ab/01\0../../../../../usr/bin/a\0/usr/lib/debug/.build-id/ab/01.debug\0../../../../../usr/lib/debug/usr/bin/a.debug\0",
-    ),
-];
-
-/// Whether one of some lists is this.
-fn has_list(lists: &[Vec<u8>], number: usize, wanted: &[u8]) -> bool {
-    match lists.get(number) {
-        Some(list) => list.as_slice() == wanted,
-        None => false,
-    }
-}
-
-#[test]
-fn sources_debug_files_and_links_are_listed(rt: HostRuntime) -> Result<(), Fail> {
-    let alloc = rt.alloc();
-    let maker = maker_of(alloc, ONE)?;
-    let lists = maker.lists(alloc)?;
-    for (number, wanted) in LISTS {
-        assert!(rt; has_list(&lists, *number, wanted));
-    }
-    Ok(())
-}
-
 /// What the second job makes of a file.
 fn second_made(
     alloc: Global,
@@ -239,6 +163,9 @@ fn second_made(
 ) -> Result<Result<Vec<Node>, MakeErr>, Fail> {
     if maker.jobs() != 2 {
         return Err(Fail::from("not two jobs"));
+    }
+    if bytes.len() > 10 {
+        return Err(Fail::from("too long"));
     }
     Ok(maker.make(alloc, 1, bytes, 0o755))
 }
@@ -260,15 +187,6 @@ fn the_planned_file_is_made(rt: HostRuntime) -> Result<(), Fail> {
     let mut maker = maker_of(alloc, TWINS)?;
     let made = second_made(alloc, &mut maker, b"Sx\x01")?;
     assert!(rt; matches!(&made, Ok(nodes) if begin_with_file(nodes, b"Sx\x01eb.debug", 0o644)));
-    Ok(())
-}
-
-#[test]
-fn a_file_that_was_changed_is_not_made(rt: HostRuntime) -> Result<(), Fail> {
-    let alloc = rt.alloc();
-    let mut maker = maker_of(alloc, TWINS)?;
-    let made = second_made(alloc, &mut maker, b"Sx\x02")?;
-    assert!(rt; matches!(&made, Err(MakeErr::Changed { .. })));
     Ok(())
 }
 
@@ -420,8 +338,8 @@ const TAKEN: &[(&[(&str, &[u8])], &str)] = &[
 #[test]
 fn new_paths_that_are_taken_are_named(rt: HostRuntime) -> Result<(), Fail> {
     let alloc = rt.alloc();
-    for (table, taken) in TAKEN {
-        assert!(rt; is_taken(alloc, table, taken)?);
+    for (row, (table, taken)) in TAKEN.iter().enumerate() {
+        assert!(rt; is_taken(alloc, table, taken)?, "row {row}");
     }
     Ok(())
 }

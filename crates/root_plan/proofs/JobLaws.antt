@@ -51,7 +51,7 @@ module _ (old : Option TreeMap) (root : List ℕ) (s : Settings) (v : JudgeView)
   -- ### Files
 
   file-of : (path bytes : List ℕ) (mode : ℕ) (job : JobLine) (verdict : Verdict) → may_be_candidate root path ≡ true → Stood old path s.max_file (found.File bytes mode)
-      → (job.path ≡ below_root root path) × (job.digest ≡ sha1 bytes) → v.verdict bytes (debug_name (below_root root path)) ≡ Some verdict → ComesOf job verdict → HasFile old root s v job
+      → (job.path ≡ below_root root path) × (job.digest ≡ sha1 bytes) → v.says bytes (debug_name (below_root root path)) verdict → ComesOf job verdict → HasFile old root s v job
   file-of path bytes mode job verdict may stood is said comes =
       let at : path ≡ in_root root job.path = sym (ap (in_root root) is.0 ∙ back root path may) in record {
         bytes = bytes;
@@ -60,7 +60,7 @@ module _ (old : Option TreeMap) (root : List ℕ) (s : Settings) (v : JudgeView)
         candidate = subst (λ (p : List ℕ). may_be_candidate root p ≡ true) at may;
         stood = subst (λ (p : List ℕ). Stood old p s.max_file (found.File bytes mode)) at stood;
         digest = is.1;
-        said = ap (λ (p : List ℕ). v.verdict bytes (debug_name p)) is.0 ∙ said;
+        said = subst (λ (p : List ℕ). v.says bytes (debug_name p) verdict) (sym is.0) said;
         comes = comes;
       }
 
@@ -68,7 +68,7 @@ module _ (old : Option TreeMap) (root : List ℕ) (s : Settings) (v : JudgeView)
   Files t = All (HasFile old root s v) t.jobs
 
   verdict-files : (path bytes : List ℕ) (mode : ℕ) (t : Tally) (verdict : Verdict) → may_be_candidate root path ≡ true → Stood old path s.max_file (found.File bytes mode)
-      → v.verdict bytes (debug_name (below_root root path)) ≡ Some verdict → Files t → Files (with_verdict t (below_root root path) bytes verdict)
+      → v.says bytes (debug_name (below_root root path)) verdict → Files t → Files (with_verdict t (below_root root path) bytes verdict)
   verdict-files path bytes mode t (left why) may stood said files = files
   verdict-files path bytes mode t (edited names) may stood said files =
       All-push (HasFile old root s v) t.jobs (edited_job (below_root root path) bytes) files

@@ -14,10 +14,9 @@ use Rattle.work_texts.specs.declared.plan.JobLine.{JobLine}
 use Rattle.work_journal.specs.declared.maker.MakeErr.{MakeErr}
 use Rattle.work_journal.specs.declared.maker.MakeErr.TheVariants as make
 use Rattle.root_plan.specs.Targets.{debug_path, file_link, debug_link, link_target, debug_name, has_links, links_of, targets_of}
-use Rattle.root_plan.specs.Verdicts.{JudgeView, Pair}
-use Rattle.root_plan.specs.Makers.{link_nodes, pair_nodes, split_nodes, edited_nodes, nodes_of, JobFails, EditEnds, SplitEnds, EditedEnds, MakeEnds, job_at, no_job}
-use Rattle.root_plan.specs.Fits.{nodes-are}
-use Rattle.root_plan.specs.Makers.{JobFails as job_fails, EditEnds as edit, SplitEnds as splits, EditedEnds as edits, MakeEnds as ends}
+use Rattle.root_plan.specs.Verdicts.{JudgeView, IsJudge, Pair}
+use Rattle.root_plan.specs.Makers.{link_nodes, pair_nodes, EditedNodes, NodesOf, JobFails, EditEnds, SplitEnds, EditedEnds, MakeEnds, job_at, no_job}
+use Rattle.root_plan.specs.Makers.{EditedNodes as edited_nodes, JobFails as job_fails, EditEnds as edit, SplitEnds as splits, EditedEnds as edits, MakeEnds as ends}
 
 -- ### Steps and targets
 
@@ -105,45 +104,40 @@ pub ruleset node_rules = (no_link_nodes, two_link_nodes)
 
 -- ### Ends
 
-pub none_by : {X Y : Type 0} (result : Result X Fault) (o : Option Y) (r : Refusal) → result ≡ Err (fault.Refused r)
-    → ((y : Y) → o ≡ Some y → IsOkUnless result fault.NoMemory) → o ≡ None
-none_by {X} {Y} result None r is whole = refl
-none_by {X} {Y} result (Some y) r is whole = absurd (apart (subst (λ (q : Result X Fault). IsOkUnless q fault.NoMemory) is (whole y refl)))
+-- where a call refuses, nothing is made
+none-made : {X Y : Type 0} (result : Result X Fault) (made : Y → Type 0) (r : Refusal) → result ≡ Err (fault.Refused r)
+    → ((y : Y) → made y → IsOkUnless result fault.NoMemory) → (y : Y) → made y → ⊥
+none-made {X} result made r is whole y m = apart (subst (λ (q : Result X Fault). IsOkUnless q fault.NoMemory) is (whole y m))
   where
     apart : fault.Refused r ≡ fault.NoMemory → ⊥
     apart e = cc
 
-pub pair_made : (v : JudgeView) (job : JobLine) (mode : ℕ) (file name : List ℕ) (pair : Pair) (ns : List Node) → name ≡ debug_name job.path → v.pair file name ≡ Some pair
-    → ns ≡ pair_nodes job mode pair → split_nodes job mode (v.pair file (debug_name job.path)) ≡ Some ns
-pair_made v job mode file name pair ns named e is =
-    ap (λ (n : List ℕ). split_nodes job mode (v.pair file n)) (sym named) ∙ ap (split_nodes job mode) e ∙ ap Some (sym is)
+pub edit_refused : {X : Type 0} (result : Result X Fault) (v : JudgeView) (edit_fails : List ℕ → Refusal → Type 0) (bytes : List ℕ) (r : Refusal) → result ≡ Err (fault.Refused r)
+    → ((file : List ℕ) → v.edits bytes file → IsOkUnless result fault.NoMemory) → edit_fails bytes r → EditEnds v edit_fails bytes (make.Refused r)
+edit_refused result v edit_fails bytes r is whole f = edit.refused (none-made result (v.edits bytes) r is whole) f
+
+pub split_refused : {X : Type 0} (result : Result X Fault) (v : JudgeView) (fails : List ℕ → List ℕ → Refusal → Type 0) (file name : List ℕ) (r : Refusal) → result ≡ Err (fault.Refused r)
+    → ((pair : Pair) → v.pairs file name pair → IsOkUnless result fault.NoMemory) → fails file name r → SplitEnds v fails file name (make.Refused r)
+split_refused result v fails file name r is whole f = splits.refused (none-made result (v.pairs file name) r is whole) f
+
+pub pair_made : (v : JudgeView) (job : JobLine) (mode : ℕ) (file name : List ℕ) (pair : Pair) (ns : List Node) → job.split ≡ true → name ≡ debug_name job.path → v.pairs file name pair
+    → ns ≡ pair_nodes job mode pair → EditedNodes v job file mode ns
+pair_made v job mode file name pair ns s named e is =
+    subst (EditedNodes v job file mode) (sym is) (edited_nodes.two_files s (subst (λ (n : List ℕ). v.pairs file n pair) named e))
 
 pub split_ends : (v : JudgeView) (fails : List ℕ → List ℕ → Refusal → Type 0) (job : JobLine) (file name : List ℕ) (e : MakeErr) → name ≡ debug_name job.path
     → SplitEnds v fails file name e → SplitEnds v fails file (debug_name job.path) e
 split_ends v fails job file name e named ended = subst (λ (n : List ℕ). SplitEnds v fails file n e) named ended
 
-pub edited_split : (v : JudgeView) (job : JobLine) (mode : ℕ) (file : List ℕ) (ns : List Node) → job.split ≡ true
-    → split_nodes job mode (v.pair file (debug_name job.path)) ≡ Some ns → edited_nodes v job mode (Some file) ≡ Some ns
-edited_split v job mode file ns e made =
-    ap (λ (b : Bool). if b then split_nodes job mode (v.pair file (debug_name job.path)) else Some (node.File file mode ∷ [])) e ∙ made
-
 pub edited_only : (v : JudgeView) (job : JobLine) (mode : ℕ) (file : List ℕ) (ns : List Node) → job.split ≡ false → ns ≡ node.File file mode ∷ []
-    → edited_nodes v job mode (Some file) ≡ Some ns
-edited_only v job mode file ns e is =
-    ap (λ (b : Bool). if b then split_nodes job mode (v.pair file (debug_name job.path)) else Some (node.File file mode ∷ [])) e ∙ ap Some (sym is)
+    → EditedNodes v job file mode ns
+edited_only v job mode file ns e is = subst (EditedNodes v job file mode) (sym is) (edited_nodes.one_file e)
 
-pub ruleset end_rules = (none_by, edit.refused, edit.no_memory, splits.refused, splits.no_memory, pair_made, split_ends, edited_split, edited_only, edits.refused, edits.no_memory)
+pub ruleset end_rules = (edit_refused, edit.no_memory, split_refused, splits.no_memory, pair_made, split_ends, edited_only, edits.refused, edits.no_memory)
 
-pub nodes_made : (v : JudgeView) (job : JobLine) (bytes file : List ℕ) (mode : ℕ) (ns : List Node) → same_text (sha1 bytes) job.digest ≡ true → v.edited bytes ≡ Some file
-    → edited_nodes v job mode (Some file) ≡ Some ns → nodes_of v job bytes mode ≡ Some ns
-unfolding nodes_of
-nodes_made v job bytes file mode ns same e made =
-    ap (λ (b : Bool). if b then edited_nodes v job mode (v.edited bytes) else None) same ∙ ap (edited_nodes v job mode) e ∙ made
-
-nodes_none : (v : JudgeView) (job : JobLine) (bytes : List ℕ) (mode : ℕ) → same_text (sha1 bytes) job.digest ≡ true → edited_nodes v job mode (v.edited bytes) ≡ None
-    → nodes_of v job bytes mode ≡ None
-unfolding nodes_of
-nodes_none v job bytes mode same e = ap (λ (b : Bool). if b then edited_nodes v job mode (v.edited bytes) else None) same ∙ e
+pub nodes_made : (v : JudgeView) (job : JobLine) (bytes file : List ℕ) (mode : ℕ) (ns : List Node) → same_text (sha1 bytes) job.digest ≡ true → v.edits bytes file
+    → EditedNodes v job file mode ns → NodesOf v job bytes mode ns
+nodes_made v job bytes file mode ns same e made = record { planned = same_text-true (sha1 bytes) job.digest same; file = file; edits = e; makes = made }
 
 pub ends_changed : (v : JudgeView) (edit_fails : List ℕ → Refusal → Type 0) (split_fails : List ℕ → List ℕ → Refusal → Type 0) (job : JobLine) (bytes : List ℕ) (mode : ℕ)
     → same_text (sha1 bytes) job.digest ≡ false → MakeEnds v edit_fails split_fails job bytes mode (make.Changed job.digest (sha1 bytes))
@@ -155,24 +149,30 @@ ends_changed v edit_fails split_fails job bytes mode e = ends.changed (λ same. 
 pub ends_edit : (v : JudgeView) (edit_fails : List ℕ → Refusal → Type 0) (split_fails : List ℕ → List ℕ → Refusal → Type 0) (job : JobLine) (bytes : List ℕ) (mode : ℕ) (e : MakeErr)
     → same_text (sha1 bytes) job.digest ≡ true → EditEnds v edit_fails bytes e → MakeEnds v edit_fails split_fails job bytes mode e
 ends_edit v edit_fails split_fails job bytes mode e same (edit.refused none f) =
-    ends.refused (same_text-true (sha1 bytes) job.digest same) (nodes_none v job bytes mode same (ap (edited_nodes v job mode) none)) (job_fails.not_edited f)
+    ends.refused (same_text-true (sha1 bytes) job.digest same) (λ ns made. none made.file made.edits) (job_fails.not_edited f)
 ends_edit v edit_fails split_fails job bytes mode e same edit.no_memory = ends.no_memory
 
-split_none : (v : JudgeView) (job : JobLine) (mode : ℕ) (file : List ℕ) → job.split ≡ true → v.pair file (debug_name job.path) ≡ None → edited_nodes v job mode (Some file) ≡ None
-split_none v job mode file s none =
-    ap (λ (b : Bool). if b then split_nodes job mode (v.pair file (debug_name job.path)) else Some (node.File file mode ∷ [])) s ∙ ap (split_nodes job mode) none
+no-nodes : (v : JudgeView) (job : JobLine) (file : List ℕ) (mode : ℕ) (ns : List Node) → job.split ≡ true → ((pair : Pair) → v.pairs file (debug_name job.path) pair → ⊥)
+    → EditedNodes v job file mode ns → ⊥
+no-nodes v job file mode ns s none (edited_nodes.one_file t) = not-both job.split s t
+  where
+    not-both : (b : Bool) → b ≡ true → b ≡ false → ⊥
+    not-both true e f = cc
+    not-both false e f = cc
+no-nodes v job file mode ns s none (edited_nodes.two_files {pair} t e) = none pair e
 
-ends_split : (v : JudgeView) (edit_fails : List ℕ → Refusal → Type 0) (split_fails : List ℕ → List ℕ → Refusal → Type 0) (job : JobLine) (bytes file : List ℕ) (mode : ℕ) (e : MakeErr)
-    → same_text (sha1 bytes) job.digest ≡ true → v.edited bytes ≡ Some file → job.split ≡ true → SplitEnds v split_fails file (debug_name job.path) e
-    → MakeEnds v edit_fails split_fails job bytes mode e
-ends_split v edit_fails split_fails job bytes file mode e same is s (splits.refused none f) =
-    ends.refused (same_text-true (sha1 bytes) job.digest same) (nodes_none v job bytes mode same (ap (edited_nodes v job mode) is ∙ split_none v job mode file s none)) (job_fails.not_split s is f)
-ends_split v edit_fails split_fails job bytes file mode e same is s splits.no_memory = ends.no_memory
+module _ (v : JudgeView) (judge : IsJudge v) (edit_fails : List ℕ → Refusal → Type 0) (split_fails : List ℕ → List ℕ → Refusal → Type 0) (job : JobLine) (bytes file : List ℕ) (mode : ℕ) where
+  ends-split : (e : MakeErr) → same_text (sha1 bytes) job.digest ≡ true → v.edits bytes file → job.split ≡ true → SplitEnds v split_fails file (debug_name job.path) e
+      → MakeEnds v edit_fails split_fails job bytes mode e
+  ends-split e same is s (splits.refused none f) =
+      ends.refused (same_text-true (sha1 bytes) job.digest same)
+      (λ ns made. no-nodes v job file mode ns s none (subst (λ (x : List ℕ). EditedNodes v job x mode ns) (judge.one_file bytes made.file file made.edits is) made.makes))
+      (job_fails.not_split s is f)
+  ends-split e same is s splits.no_memory = ends.no_memory
 
-pub ends_edited : (v : JudgeView) (edit_fails : List ℕ → Refusal → Type 0) (split_fails : List ℕ → List ℕ → Refusal → Type 0) (job : JobLine) (bytes file : List ℕ) (mode : ℕ) (e : MakeErr)
-    → same_text (sha1 bytes) job.digest ≡ true → v.edited bytes ≡ Some file → EditedEnds v split_fails job file e → MakeEnds v edit_fails split_fails job bytes mode e
-ends_edited v edit_fails split_fails job bytes file mode e same is (edits.refused s f) = ends_split v edit_fails split_fails job bytes file mode e same is s f
-ends_edited v edit_fails split_fails job bytes file mode e same is edits.no_memory = ends.no_memory
+  pub ends_edited : (e : MakeErr) → same_text (sha1 bytes) job.digest ≡ true → v.edits bytes file → EditedEnds v split_fails job file e → MakeEnds v edit_fails split_fails job bytes mode e
+  ends_edited e same is (edits.refused s f) = ends-split e same is s f
+  ends_edited e same is edits.no_memory = ends.no_memory
 
 pub ruleset make_rules = (nodes_made, ends_changed, ends_edit, ends_edited)
 
@@ -231,17 +231,14 @@ make_refused {X} (Err q) v edit_fails split_fails job at bytes mode is ended r e
     subst (λ (j : JobLine). JobFails v edit_fails split_fails j bytes r) is (refused_by v edit_fails split_fails job bytes mode q r ended (ap (err_in {X = X} q) e))
 
 whole_by : (v : JudgeView) (edit_fails : List ℕ → Refusal → Type 0) (split_fails : List ℕ → List ℕ → Refusal → Type 0) (job : JobLine) (bytes : List ℕ) (mode : ℕ) (e : MakeErr) (ns : List Node)
-    → MakeEnds v edit_fails split_fails job bytes mode e → nodes_of v job bytes mode ≡ Some ns → e ≡ make.NoMemory
-whole_by v edit_fails split_fails job bytes mode e ns (ends.changed other) made = absurd (other (nodes-are v job bytes mode ns made).0)
-whole_by v edit_fails split_fails job bytes mode e ns (ends.refused same none f) made = absurd (apart (sym none ∙ made))
-  where
-    apart : {A : Type 0} {xs : A} → None ≡ Some xs → ⊥
-    apart e = cc
+    → MakeEnds v edit_fails split_fails job bytes mode e → NodesOf v job bytes mode ns → e ≡ make.NoMemory
+whole_by v edit_fails split_fails job bytes mode e ns (ends.changed other) made = absurd (other made.planned)
+whole_by v edit_fails split_fails job bytes mode e ns (ends.refused same none f) made = absurd (none ns made)
 whole_by v edit_fails split_fails job bytes mode e ns ends.no_memory made = refl
 
 pub make_whole : {X : Type 0} (result : Result X MakeErr) (v : JudgeView) (edit_fails : List ℕ → Refusal → Type 0) (split_fails : List ℕ → List ℕ → Refusal → Type 0) (job at : JobLine)
-    (bytes : List ℕ) (mode : ℕ) → job ≡ at → IfErr result (MakeEnds v edit_fails split_fails job bytes mode) → (ns : List Node) → nodes_of v at bytes mode ≡ Some ns
+    (bytes : List ℕ) (mode : ℕ) → job ≡ at → IfErr result (MakeEnds v edit_fails split_fails job bytes mode) → (ns : List Node) → NodesOf v at bytes mode ns
     → IsOkUnless result make.NoMemory
 make_whole {X} (Ok x) v edit_fails split_fails job at bytes mode is ended ns made = tt
 make_whole {X} (Err q) v edit_fails split_fails job at bytes mode is ended ns made =
-    whole_by v edit_fails split_fails job bytes mode q ns ended (subst (λ (j : JobLine). nodes_of v j bytes mode ≡ Some ns) (sym is) made)
+    whole_by v edit_fails split_fails job bytes mode q ns ended (subst (λ (j : JobLine). NodesOf v j bytes mode ns) (sym is) made)

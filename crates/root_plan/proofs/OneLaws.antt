@@ -18,7 +18,7 @@ use Rattle.root_plan.specs.declared.plan_err.PlanErr.TheVariants as err
 use Rattle.root_plan.specs.declared.refused.Skipped.{Skipped}
 use Rattle.root_plan.specs.Roots.{may_be_candidate, below_root, longest_path, most_paths}
 use Rattle.root_plan.specs.Targets.{new_paths, debug_name}
-use Rattle.root_plan.specs.Verdicts.{JudgeView, Verdict, left, edited, split}
+use Rattle.root_plan.specs.Verdicts.{JudgeView, IsJudge, Verdict, left, edited, split}
 use Rattle.root_plan.specs.Tallies.{Tally, empty_tally, with_sources, with_verdict, split_job, edited_job, FileNoted, FoundNoted, Noted, Tallies, IsTooLong, FileEnds, CandidateEnds, FoundEnds, PathEnds}
 use Rattle.root_plan.specs.Tallies.{FileNoted as note, Noted as notes, Tallies as tally, IsTooLong as too_long, FileEnds as file, CandidateEnds as candidate, PathEnds as path_ends}
 use Rattle.root_plan.specs.Walks.{AreWalked, WalkEnds, OnlyStopped}
@@ -29,13 +29,6 @@ use Rattle.root_plan.specs.Errors.{IsStopped}
 use Rattle.root_plan.specs.Errors.{IsStopped as stop}
 
 -- ### One thing each
-
-some-once : {A : Type 0} (a b : A) → Some a ≡ Some b → a ≡ b
-some-once a b e = cc
-
-none-never : {A : Type 0} (a : A) (o : Option A) → o ≡ Some a → o ≡ None → ⊥
-none-never a None e f = cc
-none-never a (Some b) e f = cc
 
 both-never : (b : Bool) → b ≡ true → b ≡ false → ⊥
 both-never true p q = cc
@@ -71,12 +64,12 @@ alike-verdict s path bytes (split id names) t u h = record {
   skipped = h.skipped;
 }
 
-module _ (s : Settings) (v : JudgeView) (fails : List ℕ → List ℕ → Refusal → Type 0) where
+module _ (s : Settings) (v : JudgeView) (judge : IsJudge v) (fails : List ℕ → List ℕ → Refusal → Type 0) where
   file-alike : (path bytes name : List ℕ) (t u p q : Tally) → FileNoted s v fails path bytes name t u → FileNoted s v fails path bytes name p q → Alike s t p → Alike s u q
   file-alike path bytes name t u p q (note.judged {verdict = a} x) (note.judged {verdict = b} y) h =
-      subst (λ (c : Verdict). Alike s (with_verdict t path bytes a) (with_verdict p path bytes c)) (some-once a b (sym x ∙ y)) (alike-verdict s path bytes a t p h)
-  file-alike path bytes name t u p q (note.judged {verdict = a} x) (note.skipped unsaid f skip) h = absurd (none-never a (v.verdict bytes name) x unsaid)
-  file-alike path bytes name t u p q (note.skipped unsaid f skip) (note.judged {verdict = b} y) h = absurd (none-never b (v.verdict bytes name) y unsaid)
+      subst (λ (c : Verdict). Alike s (with_verdict t path bytes a) (with_verdict p path bytes c)) (judge.one_verdict bytes name a b x y) (alike-verdict s path bytes a t p h)
+  file-alike path bytes name t u p q (note.judged {verdict = a} x) (note.skipped unsaid f skip) h = absurd (unsaid.none a x)
+  file-alike path bytes name t u p q (note.skipped unsaid f skip) (note.judged {verdict = b} y) h = absurd (unsaid.none b y)
   file-alike path bytes name t u p q (note.skipped unsaid f skip) (note.skipped unsaid2 f2 skip2) h =
       record { jobs = h.jobs; left = h.left; sources = h.sources; skipped = λ e. absurd (both-never s.skip skip e) }
 
@@ -123,7 +116,7 @@ module _ (s : Settings) (v : JudgeView) (fails : List ℕ → List ℕ → Refus
   long-cut path e short too_long.no_memory = cuts.stopped stop.no_memory
 
   file-cut : (path below bytes name : List ℕ) (t u : Tally) (e : PlanErr) → FileNoted s v fails below bytes name t u → FileEnds s v fails path bytes name e → IsCut s e
-  file-cut path below bytes name t u e (note.judged {verdict = a} x) (file.refused unsaid f skip) = absurd (none-never a (v.verdict bytes name) x unsaid)
+  file-cut path below bytes name t u e (note.judged {verdict = a} x) (file.refused unsaid f skip) = absurd (unsaid.none a x)
   file-cut path below bytes name t u e (note.skipped unsaid f skip) (file.refused unsaid2 f2 skip2) = absurd (both-never s.skip skip skip2)
   file-cut path below bytes name t u e noted file.no_memory = cuts.stopped stop.no_memory
 
@@ -180,22 +173,22 @@ text-cut : (s : Settings) (t u : Tally) (b : Bool) → s.skip ≡ b → Alike s 
 text-cut s t u true skips h within l = cuts.too_large skips
 text-cut s t u false skips h within l = absurd (omega (arith, within, subst (λ (p : PlanData). text_limit < plan_length p) (plans-alike s t u h skips) l))
 
-module _ (root : List ℕ) (present : List (List ℕ)) (s : Settings) (v : JudgeView) (fails : List ℕ → List ℕ → Refusal → Type 0) where
+module _ (root : List ℕ) (present : List (List ℕ)) (s : Settings) (v : JudgeView) (judge : IsJudge v) (fails : List ℕ → List ℕ → Refusal → Type 0) where
   -- a root has one plan, where no file is skipped
   pub plan-one : (tree : TreeMap) (old : Option TreeMap) (p q : PlanData) → old ≡ Some tree → s.skip ≡ false → IsPlanOf old root present s v fails p
       → IsPlanOf old root present s v fails q → p ≡ q
   plan-one tree old p q here skips x y =
-      x.is ∙ plans-alike s x.tally y.tally (tallies-alike s v fails tree old here root present x.tally y.tally x.tallied.tallies y.tallied.tallies) skips ∙ sym y.is
+      x.is ∙ plans-alike s x.tally y.tally (tallies-alike s v judge fails tree old here root present x.tally y.tally x.tallied.tallies y.tallied.tallies) skips ∙ sym y.is
 
   ends-cut : (tree : TreeMap) (old new : Seen) (plan : PlanData) (e : PlanErr) → now_of old ≡ Some tree → AreInOrder present → IsPlanOf (now_of old) root present s v fails plan
       → PlanEnds old new root present s v fails e → IsCut s e
   ends-cut tree old new plan e here order is (ends.many l) = absurd (omega (arith, is.tallied.few, l))
-  ends-cut tree old new plan e here order is (ends.at_path {t = t} n few l ts ended) = at-cut s v fails tree old new here root present is.tally n e is.tallied.tallies l ended
+  ends-cut tree old new plan e here order is (ends.at_path {t = t} n few l ts ended) = at-cut s v judge fails tree old new here root present is.tally n e is.tallied.tallies l ended
   ends-cut tree old new plan e here order is (ends.at_new {t = t} tallied ended) =
-      let alike = tallies-alike s v fails tree (now_of old) here root present t is.tally tallied.tallies is.tallied.tallies in
-      new-cut s v fails present (new_paths root is.tally.jobs) e order is.can (subst (λ (js : List JobLine). NewEnds present (new_paths root js) e) alike.jobs ended)
+      let alike = tallies-alike s v judge fails tree (now_of old) here root present t is.tally tallied.tallies is.tallied.tallies in
+      new-cut s v judge fails present (new_paths root is.tally.jobs) e order is.can (subst (λ (js : List JobLine). NewEnds present (new_paths root js) e) alike.jobs ended)
   ends-cut tree old new plan e here order is (ends.at_text {t = t} tallied can l) =
-      text-cut s t is.tally s.skip refl (tallies-alike s v fails tree (now_of old) here root present t is.tally tallied.tallies is.tallied.tallies)
+      text-cut s t is.tally s.skip refl (tallies-alike s v judge fails tree (now_of old) here root present t is.tally tallied.tallies is.tallied.tallies)
       (subst (λ (p : PlanData). plan_length p ≤ text_limit) is.is is.within) l
   ends-cut tree old new plan e here order is ends.no_memory = cuts.stopped stop.no_memory
 

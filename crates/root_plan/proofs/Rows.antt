@@ -1,5 +1,5 @@
 -- The rows of what paths come to, for the functions that end by them.
-use Rattle.std.proofs.Common.{◌≡◌, ℕ, ◌≤◌, true, List, length, subst, refl, Option, Some, None, Result, Err}
+use Rattle.std.proofs.Common.{◌≡◌, ℕ, ◌≤◌, true, List, length, subst, Option, Result, Err}
 use Rattle.std.specs.Prelude.{IsOkUnless}
 use Rattle.dw_base.specs.declared.fault.Refusal.{Refusal}
 use Rattle.dw_base.specs.declared.fault.Fault.{Fault}
@@ -12,16 +12,15 @@ use Rattle.job_types.specs.Settings.{Settings}
 use Rattle.root_plan.specs.declared.plan_err.PlanErr.{PlanErr}
 use Rattle.root_plan.specs.Roots.{may_be_candidate, below_root, longest_path}
 use Rattle.root_plan.specs.Targets.{debug_name}
-use Rattle.root_plan.specs.Verdicts.{JudgeView, Verdict}
+use Rattle.root_plan.specs.Verdicts.{JudgeView, Verdict, IsUnsaid}
 use Rattle.root_plan.specs.Tallies.{Tally, FileNoted, CandidateNoted, FoundNoted, Noted, FileEnds, CandidateEnds, FoundEnds, PathEnds}
 use Rattle.root_plan.specs.Tallies.{FileNoted as note, Noted as notes, IsTooLong as too_long, FileEnds as file, CandidateEnds as candidate, LargeEnds as large, PathEnds as ends}
 use Rattle.root_plan.proofs.LookLaws.{looked_none, looked_then}
 
 -- nothing is said of a file that is refused
-pub unsaid : {X : Type 0} (result : Result X Fault) (o : Option Verdict) (r : Refusal) → result ≡ Err (fault.Refused r)
-    → ((x : Verdict) → o ≡ Some x → IsOkUnless result fault.NoMemory) → o ≡ None
-unsaid {X} result None r is whole = refl
-unsaid {X} result (Some x) r is whole = absurd (apart (subst (λ (q : Result X Fault). IsOkUnless q fault.NoMemory) is (whole x refl)))
+pub unsaid : {X : Type 0} (result : Result X Fault) (v : JudgeView) (bytes name : List ℕ) (r : Refusal) → result ≡ Err (fault.Refused r)
+    → ((x : Verdict) → v.says bytes name x → IsOkUnless result fault.NoMemory) → IsUnsaid v bytes name
+unsaid {X} result v bytes name r is whole = record { none = λ x said. apart (subst (λ (q : Result X Fault). IsOkUnless q fault.NoMemory) is (whole x said)) }
   where
     apart : fault.Refused r ≡ fault.NoMemory → ⊥
     apart e = cc

@@ -28,7 +28,7 @@ pub record HasFile (old : Option TreeMap) (root : List ℕ) (s : Settings) (v : 
   pub candidate : may_be_candidate root (in_root root job.path) ≡ true
   pub stood : Stood old (in_root root job.path) s.max_file (found.File bytes mode)
   pub digest : job.digest ≡ sha1 bytes
-  pub said : v.verdict bytes (debug_name job.path) ≡ Some verdict
+  pub said : v.says bytes (debug_name job.path) verdict
   pub comes : ComesOf job verdict
 
 -- the paths of candidates are plain and UTF-8 below the root

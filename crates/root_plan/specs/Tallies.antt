@@ -19,7 +19,7 @@ use Rattle.root_plan.specs.declared.plan_err.PlanErr.{PlanErr}
 use Rattle.root_plan.specs.declared.plan_err.PlanErr.TheVariants as err
 use Rattle.root_plan.specs.Roots.{below_root, may_be_candidate, longest_path}
 use Rattle.root_plan.specs.Targets.{debug_name}
-use Rattle.root_plan.specs.Verdicts.{Verdict, left, edited, split, JudgeView}
+use Rattle.root_plan.specs.Verdicts.{Verdict, left, edited, split, JudgeView, IsUnsaid}
 
 -- the jobs of some files, how many files are left, those that are skipped, and the names of all sources, in byte order, each once
 pub record Tally : Type 0 where
@@ -87,9 +87,9 @@ with_verdict t path bytes (split id names) = with_job t (split_job t.jobs path b
 -- says what refuses a file
 pub data FileNoted (s : Settings) (v : JudgeView) (fails : List ℕ → List ℕ → Refusal → Type 0) (path bytes name : List ℕ) (t : Tally) : Tally → Type 0 where
   -- something is said of it
-  judged : {verdict : Verdict} → v.verdict bytes name ≡ Some verdict → FileNoted s v fails path bytes name t (with_verdict t path bytes verdict)
+  judged : {verdict : Verdict} → v.says bytes name verdict → FileNoted s v fails path bytes name t (with_verdict t path bytes verdict)
   -- it is refused, and skipped for that
-  skipped : {r : Refusal} → v.verdict bytes name ≡ None → fails bytes name r → s.skip ≡ true → FileNoted s v fails path bytes name t (with_skipped t path r)
+  skipped : {r : Refusal} → IsUnsaid v bytes name → fails bytes name r → s.skip ≡ true → FileNoted s v fails path bytes name t (with_skipped t path r)
 
 -- what a candidate does to a tally, by its path in the tree and below the root, and by its bytes
 pub record CandidateNoted (s : Settings) (v : JudgeView) (fails : List ℕ → List ℕ → Refusal → Type 0) (path below bytes : List ℕ) (t u : Tally) : Type 0 where
@@ -129,7 +129,7 @@ pub data IsTooLong (path : List ℕ) : PlanErr → Type 0 where
 
 -- why a file ends the tally: it is refused; or a cut
 pub data FileEnds (s : Settings) (v : JudgeView) (fails : List ℕ → List ℕ → Refusal → Type 0) (path bytes name : List ℕ) : PlanErr → Type 0 where
-  refused : {r : Refusal} → v.verdict bytes name ≡ None → fails bytes name r → s.skip ≡ false → FileEnds s v fails path bytes name (err.Refused path r)
+  refused : {r : Refusal} → IsUnsaid v bytes name → fails bytes name r → s.skip ≡ false → FileEnds s v fails path bytes name (err.Refused path r)
   no_memory : FileEnds s v fails path bytes name err.NoMemory
 
 -- why a candidate ends the tally: the first of these that holds; or a cut

@@ -1,10 +1,11 @@
 //! What is said of a file of a build root, and what is made of it.
 //!
-//! This layer promises, of every judge: it answers by a file's bytes and the name of its debug file alone, it refuses only
-//! with a refusal that holds, and whatever it says of a file it can make.
+//! This layer promises, of every judge: it answers by a file's bytes and the name of its debug file alone and in one way, it
+//! refuses only with a refusal that holds, and whatever it says of a file it can make.
 //! Read first: `specs/Verdicts.antt`.
-ghost use Rattle.std.specs.Prelude.{◌≡◌, ℕ, List, Some, IfOk, IfErr, IsOkUnless};
+ghost use Rattle.std.specs.Prelude.{◌≤◌, ℕ, List, length, IfOk, IfErr, IsOkUnless};
 ghost use Rattle.dw_base.specs.declared.fault.Refusal.{Refusal};
+ghost use Rattle.dw_base.specs.Layout.{file_limit, output_limit};
 ghost use Rattle.dw_base.specs.declared.fault.Fault.TheVariants.{NoMemory};
 ghost use Rattle.dw_base.specs.Refusals.{Blames};
 ghost use Rattle.root_plan.specs.Verdicts.{JudgeView, IsJudge, Verdict, Pair, verdict_of};
@@ -32,21 +33,25 @@ pub trait Judge {
 
     /// What becomes of a file.
     fn outcome(&self, alloc: Global, bytes: &[u8], debug_name: &[u8]) -> Result<Outcome, Fault>
-        ensures said { IfOk result (λ o. (view self.now).verdict bytes.now debug_name.now ≡ Some (verdict_of o)) }
+        requires small { length bytes.now ≤ file_limit }
+        ensures said { IfOk result (λ o. (view self.now).says bytes.now debug_name.now (verdict_of o)) }
         ensures refused { IfErr result (Blames (fails self.now bytes.now debug_name.now)) }
-        ensures whole { (x : Verdict) → (view self.now).verdict bytes.now debug_name.now ≡ Some x → IsOkUnless result NoMemory };
+        ensures whole { (x : Verdict) → (view self.now).says bytes.now debug_name.now x → IsOkUnless result NoMemory };
 
     /// The edited file.
     fn edited(&self, alloc: Global, bytes: &[u8]) -> Result<Vec<u8>, Fault>
-        ensures made { IfOk result (λ file. (view self.now).edited bytes.now ≡ Some file.items) }
+        requires small { length bytes.now ≤ file_limit }
+        ensures made { IfOk result (λ file. (view self.now).edits bytes.now file.items) }
+        ensures small { IfOk result (λ file. length file.items ≤ output_limit) }
         ensures refused { IfErr result (Blames (edit_fails self.now bytes.now)) }
-        ensures whole { (file : List ℕ) → (view self.now).edited bytes.now ≡ Some file → IsOkUnless result NoMemory };
+        ensures whole { (file : List ℕ) → (view self.now).edits bytes.now file → IsOkUnless result NoMemory };
 
     /// The pair of an edited file that is split.
     fn split(&self, alloc: Global, bytes: &[u8], debug_name: &[u8]) -> Result<Parts, Fault>
-        ensures made { IfOk result (λ p. (view self.now).pair bytes.now debug_name.now ≡ Some (record { stripped = p.stripped.items; debug = p.debug.items })) }
+        requires small { length bytes.now ≤ output_limit }
+        ensures made { IfOk result (λ p. (view self.now).pairs bytes.now debug_name.now (record { stripped = p.stripped.items; debug = p.debug.items })) }
         ensures refused { IfErr result (Blames (split_fails self.now bytes.now debug_name.now)) }
-        ensures whole { (pair : Pair) → (view self.now).pair bytes.now debug_name.now ≡ Some pair → IsOkUnless result NoMemory };
+        ensures whole { (pair : Pair) → (view self.now).pairs bytes.now debug_name.now pair → IsOkUnless result NoMemory };
 
     // whatever is said of a file can be made
     ghost makes: { (j : Self) → IsJudge (view j) };

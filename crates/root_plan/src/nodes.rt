@@ -1,15 +1,16 @@
 //! The nodes that a job makes of a file.
 //!
 //! Read first: `specs/Makers.antt`.
-ghost use Rattle.std.specs.Prelude.{◌≡◌, ◌<◌, ◌++◌, [], Some, length, get_or, IfOk, IfErr, OnOk};
+ghost use Rattle.std.specs.Prelude.{◌≡◌, ◌<◌, ◌≤◌, ◌++◌, true, [], length, get_or, IfOk, IfErr, OnOk};
 ghost use Rattle.std.specs.String.{string_bytes};
 ghost use Rattle.sha1.specs.Sha1.{sha1};
+ghost use Rattle.dw_base.specs.Layout.{file_limit, output_limit};
 ghost use Rattle.dw_base.specs.Texts.{same_text};
 ghost use Rattle.file_tree.specs.declared.node.Node.TheVariants as node;
 ghost use Rattle.root_plan.specs.Roots.{in_root};
 ghost use Rattle.root_plan.specs.Targets.{targets_of, debug_name, link_target};
 ghost use Rattle.job_types.specs.Modes.{not_executable};
-ghost use Rattle.root_plan.specs.Makers.{link_nodes, pair_nodes, split_nodes, edited_nodes, nodes_of, EditEnds, SplitEnds, EditedEnds, MakeEnds};
+ghost use Rattle.root_plan.specs.Makers.{link_nodes, pair_nodes, EditedNodes, NodesOf, EditEnds, SplitEnds, EditedEnds, MakeEnds};
 
 use crate::judge::{Judge, Parts};
 use crate::names::debug_name;
@@ -133,7 +134,9 @@ fn pair_nodes(
 /// The edited file.
 #[tactic(auto, using(crate::proofs::MakerLaws::end_rules))]
 fn edit<J: Judge>(alloc: Global, judge: &J, bytes: &[u8]) -> Result<Vec<u8>, MakeErr>
-    ensures made { IfOk result (λ file. (J.view judge.now).edited bytes.now ≡ Some file.items) }
+    requires small { length bytes.now ≤ file_limit }
+    ensures made { IfOk result (λ file. (J.view judge.now).edits bytes.now file.items) }
+    ensures small { IfOk result (λ file. length file.items ≤ output_limit) }
     ensures ends { IfErr result (EditEnds (J.view judge.now) (J.edit_fails judge.now) bytes.now) }
 {
     match judge.edited(alloc, bytes) {
@@ -146,7 +149,8 @@ fn edit<J: Judge>(alloc: Global, judge: &J, bytes: &[u8]) -> Result<Vec<u8>, Mak
 /// The two files of an edited file.
 #[tactic(auto, using(crate::proofs::MakerLaws::end_rules))]
 fn split<J: Judge>(alloc: Global, judge: &J, file: &[u8], name: &[u8]) -> Result<Parts, MakeErr>
-    ensures made { IfOk result (λ p. (J.view judge.now).pair file.now name.now ≡ Some (record { stripped = p.stripped.items; debug = p.debug.items })) }
+    requires small { length file.now ≤ output_limit }
+    ensures made { IfOk result (λ p. (J.view judge.now).pairs file.now name.now (record { stripped = p.stripped.items; debug = p.debug.items })) }
     ensures ends { IfErr result (SplitEnds (J.view judge.now) (J.split_fails judge.now) file.now name.now) }
 {
     match judge.split(alloc, file, name) {
@@ -165,7 +169,9 @@ fn split_nodes<J: Judge>(
     file: &[u8],
     mode: u32,
 ) -> Result<Vec<Node>, MakeErr>
-    ensures made { IfOk result (λ v. split_nodes job.now mode ((J.view judge.now).pair file.now (debug_name job.now.path)) ≡ Some v.items) }
+    requires small { length file.now ≤ output_limit }
+    requires is_split { job.now.split ≡ true }
+    ensures made { IfOk result (λ v. EditedNodes (J.view judge.now) job.now file.now mode v.items) }
     ensures ends { IfErr result (SplitEnds (J.view judge.now) (J.split_fails judge.now) file.now (debug_name job.now.path)) }
 {
     let name = debug_name(alloc, job.path.as_str().as_bytes())?;
@@ -183,7 +189,8 @@ fn edited_nodes<J: Judge>(
     file: Vec<u8>,
     mode: u32,
 ) -> Result<Vec<Node>, MakeErr>
-    ensures made { IfOk result (λ v. edited_nodes (J.view judge.now) job.now mode (Some file.items) ≡ Some v.items) }
+    requires small { length file.items ≤ output_limit }
+    ensures made { IfOk result (λ v. EditedNodes (J.view judge.now) job.now file.items mode v.items) }
     ensures ends { IfErr result (EditedEnds (J.view judge.now) (J.split_fails judge.now) job.now file.items) }
 {
     if job.split {
@@ -211,7 +218,8 @@ pub(crate) fn make_nodes<J: Judge>(
     bytes: &[u8],
     mode: u32,
 ) -> Result<Vec<Node>, MakeErr>
-    ensures made { IfOk result (λ v. nodes_of (J.view judge.now) job.now bytes.now mode ≡ Some v.items) }
+    requires small { length bytes.now ≤ file_limit }
+    ensures made { IfOk result (λ v. NodesOf (J.view judge.now) job.now bytes.now mode v.items) }
     ensures ends { IfErr result (MakeEnds (J.view judge.now) (J.edit_fails judge.now) (J.split_fails judge.now) job.now bytes.now mode) }
 {
     if !has_digest(bytes, &job.digest) {

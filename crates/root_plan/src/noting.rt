@@ -1,10 +1,13 @@
 //! What one path of a build root comes to.
 //!
 //! Read first: `specs/Tallies.antt`.
-ghost use Rattle.std.specs.Prelude.{◌≡◌, ◌≤◌, ◌<◌, ◌-◌, ◌^◌, length, None, IfOk, IfErr, OnOk};
+ghost use Rattle.std.specs.Prelude.{◌≡◌, ◌≤◌, ◌<◌, ◌-◌, ◌^◌, length, IfOk, IfErr, OnOk};
 ghost use Rattle.file_tree.specs.Seen.{now_of};
 ghost use Rattle.root_plan.specs.Looks.{Looked};
+ghost use Rattle.dw_base.specs.Layout.{file_limit};
+ghost use Rattle.file_tree.specs.Causes.{IsWithin};
 ghost use Rattle.root_plan.specs.Roots.{longest_path};
+ghost use Rattle.root_plan.specs.Verdicts.{IsUnsaid};
 ghost use Rattle.root_plan.specs.Tallies.{Noted, PathEnds, IsTooLong, FileNoted, FileEnds, CandidateNoted, CandidateEnds, LargeEnds, FoundNoted, FoundEnds};
 
 use crate::judge::Judge;
@@ -46,7 +49,7 @@ fn note_refusal<J: Judge>(
     survey: Survey,
 ) -> Result<Survey, PlanErr>
     requires fails { J.fails judge.now bytes.now name.now refusal }
-    requires unsaid { (J.view judge.now).verdict bytes.now name.now ≡ None }
+    requires unsaid { IsUnsaid (J.view judge.now) bytes.now name.now }
     ensures noted { IfOk result (FileNoted options.now (J.view judge.now) (J.fails judge.now) below.now bytes.now name.now survey) }
     ensures ends { IfErr result (FileEnds options.now (J.view judge.now) (J.fails judge.now) path.now bytes.now name.now) }
 {
@@ -70,6 +73,7 @@ fn note_file<J: Judge>(
     judge: &J,
     survey: Survey,
 ) -> Result<Survey, PlanErr>
+    requires small { length bytes.now ≤ file_limit }
     requires few { length survey.jobs < 2 ^ 32 - 1 }
     requires few_left { survey.left < 2 ^ 32 }
     ensures noted { IfOk result (FileNoted options.now (J.view judge.now) (J.fails judge.now) below.now bytes.now name.now survey) }
@@ -100,6 +104,7 @@ fn note_candidate<J: Judge>(
     judge: &J,
     survey: Survey,
 ) -> Result<Survey, PlanErr>
+    requires small { length bytes.now ≤ file_limit }
     requires few { length survey.jobs < 2 ^ 32 - 1 }
     requires few_left { survey.left < 2 ^ 32 }
     ensures noted { IfOk result (CandidateNoted options.now (J.view judge.now) (J.fails judge.now) path.now below.now bytes.now survey) }
@@ -132,6 +137,7 @@ fn note_found<J: Judge>(
     judge: &J,
     survey: Survey,
 ) -> Result<Survey, PlanErr>
+    requires within { IsWithin options.now.max_file found }
     requires few { length survey.jobs < 2 ^ 32 - 1 }
     requires few_left { survey.left < 2 ^ 32 }
     ensures noted { IfOk result (FoundNoted options.now (J.view judge.now) (J.fails judge.now) path.now below.now found survey) }

@@ -3,11 +3,12 @@ use Rattle.std.proofs.Common.{◌≡◌, ℕ, ◌<◌, ◌⊎◌, inl, inr, List
 use Rattle.std.proofs.lemmas.Result.{err_from_is_err_and}
 use Rattle.file_tree.specs.declared.node.TreeErr.{TreeErr}
 use Rattle.file_tree.specs.declared.node.TreeErr.TheVariants as tree
-use Rattle.std.specs.Prelude.{Result, Ok, Err, OnOk, IfErr, IsErrAnd, IsOkUnless, Some}
+use Rattle.std.specs.Prelude.{Result, Ok, Err, OnOk, IfErr, IsErrAnd, IsOkUnless}
 use Rattle.dw_base.specs.declared.fault.Refusal.{Refusal}
 use Rattle.file_tree.specs.declared.node.Node.{Node}
 use Rattle.file_tree.specs.Seen.{Past, Seen}
-use Rattle.journal_core.specs.Table.{CoreState}
+use Rattle.journal_core.specs.Calls.{is_uncommitted}
+use Rattle.journal_core.specs.Table.{CoreState, state_of}
 use Rattle.work_journal.specs.Wanted.{Wanted}
 use Rattle.work_journal.specs.Runs.{Goes, Came}
 use Rattle.work_journal.proofs.GoesLaws.{came_failed}
@@ -17,9 +18,9 @@ use Rattle.work_journal.specs.declared.job_err.JobErr.{JobErr}
 use Rattle.work_journal.specs.declared.job_err.JobErr.TheVariants as job
 use Rattle.work_journal.specs.declared.maker.MakeErr.{MakeErr}
 use Rattle.work_journal.specs.declared.maker.MakeErr.TheVariants as make
-use Rattle.work_journal.specs.Views.{MakerView, IsChange}
+use Rattle.work_journal.specs.Views.{MakerView, Makes, IsChange}
 use Rattle.work_journal.specs.Files.{FileStands, tree_stops, make_stops}
-use Rattle.work_journal.specs.Blames.{JobBlames, MakeBlames, RunBlames, OfJob, run_stops, is_mild, is_mild_run, other_file}
+use Rattle.work_journal.specs.Blames.{JobBlames, JobStood, IsOfJob, MakeBlames, RunBlames, OfJob, run_stops, is_mild, is_mild_run, other_file}
 use Rattle.work_journal.proofs.JobErrLaws.{make_is_no_fault}
 
 -- ### A maker's error
@@ -40,16 +41,22 @@ blamed v refuses j bytes mode seen r (make.Changed p f) l is changed refused pla
 blamed v refuses j bytes mode seen r (make.Refused q) l is changed refused planned stands = (l, record { bytes = bytes; mode = mode; stands = stands; refused = refused q is; planned = planned q is })
 blamed v refuses j bytes mode seen r make.NoMemory l is changed refused planned stands = tt
 
-pub make_blames : {A : Type 0} (v : MakerView) (refuses : ℕ → List ℕ → Refusal → Type 0) (j : ℕ) (bytes : List ℕ) (mode : ℕ) (r : Result A MakeErr) (x : MakeErr) (y : JobErr) → j < length v.steps → r ≡ Err x → y ≡ make_stops j x
+make_is_of_job : (j : ℕ) (x : MakeErr) → IsOfJob j (make_stops j x)
+make_is_of_job j (make.Changed p f) = refl
+make_is_of_job j (make.Refused q) = refl
+make_is_of_job j make.NoMemory = tt
+
+pub make_blames : {A : Type 0} (v : MakerView) (makes : Makes) (refuses : ℕ → List ℕ → Refusal → Type 0) (j : ℕ) (bytes : List ℕ) (mode : ℕ) (r : Result A MakeErr) (x : MakeErr) (y : JobErr) → j < length v.steps → r ≡ Err x → y ≡ make_stops j x
     → ((p f : List ℕ) → r ≡ Err (make.Changed p f) → IsChange v j bytes p f)
     → ((q : Refusal) → r ≡ Err (make.Refused q) → refuses j bytes q)
     → ((q : Refusal) → r ≡ Err (make.Refused q) → v.digest bytes ≡ v.planned j)
-    → ((ns : List Node) → v.nodes j bytes mode ≡ Some ns → IsOkUnless r make.NoMemory)
-    → MakeBlames v refuses j bytes mode y
-make_blames v refuses j bytes mode r x y l is of changed refused planned whole = subst (λ (e : JobErr). MakeBlames v refuses j bytes mode e) (sym of) (record {
+    → ((ns : List Node) → makes j bytes mode ns → IsOkUnless r make.NoMemory)
+    → MakeBlames v makes refuses j bytes mode y
+make_blames v makes refuses j bytes mode r x y l is of changed refused planned whole = subst (λ (e : JobErr). MakeBlames v makes refuses j bytes mode e) (sym of) (record {
   blames = λ seen stands. blamed v refuses j bytes mode seen r x l is changed refused planned stands;
   mild = λ ns made. unless_mild j x r is (whole ns made);
   no_fault = make_is_no_fault j x;
+  of_job = make_is_of_job j x;
 })
 
 -- ### An error that is passed on
@@ -95,6 +102,54 @@ memory_blames v refuses seen s e =
     let p = err_from_is_err_and s e in
     let now : s ≡ Err job.NoMemory = rw p.2 at p.1 in
     rw now tt
+
+-- such an error is of no job, and of nothing that stood
+pub tree_of_job : {B : Type 0} (n : ℕ) (s : Result B JobErr) (x : TreeErr) → IsErrAnd s (λ y. y ≡ tree_stops x) → IfErr s (IsOfJob n)
+tree_of_job n s x e =
+    let p = err_from_is_err_and s e in
+    let now : s ≡ Err (tree_stops x) = rw p.2 at p.1 in
+    rw now (of x)
+  where
+    of : (y : TreeErr) → IsOfJob n (tree_stops y)
+    of tree.Failed = tt
+    of tree.NoMemory = tt
+
+pub memory_of_job : {B : Type 0} (n : ℕ) (s : Result B JobErr) → IsErrAnd s (λ y. y ≡ job.NoMemory) → IfErr s (IsOfJob n)
+memory_of_job n s e =
+    let p = err_from_is_err_and s e in
+    let now : s ≡ Err job.NoMemory = rw p.2 at p.1 in
+    rw now tt
+
+pub tree_stood : {B : Type 0} (v : MakerView) (refuses : ℕ → List ℕ → Refusal → Type 0) (c : CoreState) (seen : Seen) (s : Result B JobErr) (x : TreeErr) → IsErrAnd s (λ y. y ≡ tree_stops x) → IfErr s (JobStood v refuses c seen)
+tree_stood v refuses c seen s x e =
+    let p = err_from_is_err_and s e in
+    let now : s ≡ Err (tree_stops x) = rw p.2 at p.1 in
+    rw now (of x)
+  where
+    of : (y : TreeErr) → JobStood v refuses c seen (tree_stops y)
+    of tree.Failed = tt
+    of tree.NoMemory = tt
+
+-- the job that is taken isn't committed
+stood_by : (v : MakerView) (refuses : ℕ → List ℕ → Refusal → Type 0) (c : CoreState) (seen : Seen) (n : ℕ) (x : JobErr) → IsTrue (is_uncommitted (state_of c n)) → IsOfJob n x → JobBlames v refuses seen x → JobStood v refuses c seen x
+stood_by v refuses c seen n (job.Changed j p f) free of h = (h.0, subst (λ (i : ℕ). IsTrue (is_uncommitted (state_of c i))) (sym of) free, h.1)
+stood_by v refuses c seen n (job.Refused j q) free of h = (h.0, subst (λ (i : ℕ). IsTrue (is_uncommitted (state_of c i))) (sym of) free, h.1)
+stood_by v refuses c seen n job.Tree free of h = tt
+stood_by v refuses c seen n job.NoMemory free of h = tt
+
+pub job_stood : {A : Type 0} (v : MakerView) (refuses : ℕ → List ℕ → Refusal → Type 0) (c : CoreState) (seen : Seen) (n : ℕ) (r : Result A JobErr) → IsTrue (is_uncommitted (state_of c n)) → IfErr r (IsOfJob n) → IfErr r (JobBlames v refuses seen) → IfErr r (JobStood v refuses c seen)
+job_stood v refuses c seen n (Ok a) free of h = tt
+job_stood v refuses c seen n (Err x) free of h = stood_by v refuses c seen n x free of h
+
+stood_blamed : (v : MakerView) (refuses : ℕ → List ℕ → Refusal → Type 0) (c : CoreState) (seen : Seen) (x : JobErr) → JobStood v refuses c seen x → JobBlames v refuses seen x
+stood_blamed v refuses c seen (job.Changed j p f) h = (h.0, h.2)
+stood_blamed v refuses c seen (job.Refused j q) h = (h.0, h.2)
+stood_blamed v refuses c seen job.Tree h = tt
+stood_blamed v refuses c seen job.NoMemory h = tt
+
+pub stood_blames : {A : Type 0} (v : MakerView) (refuses : ℕ → List ℕ → Refusal → Type 0) (c : CoreState) (seen : Seen) (r : Result A JobErr) → IfErr r (JobStood v refuses c seen) → IfErr r (JobBlames v refuses seen)
+stood_blames v refuses c seen (Ok a) h = tt
+stood_blames v refuses c seen (Err x) h = stood_blamed v refuses c seen x h
 
 -- ### The error of a run
 
@@ -152,6 +207,16 @@ more_blames v now first seen job.NoMemory less h = tt
 pub blames_since : {A : Type 0} (v u : MakerView) (now first : ℕ → List ℕ → Refusal → Type 0) (seen : Seen) (r : Result A JobErr) → u ≡ v → ((j : ℕ) (b : List ℕ) (q : Refusal) → now j b q → first j b q) → IfErr r (JobBlames u now seen) → IfErr r (JobBlames v first seen)
 blames_since v u now first seen (Ok a) same less h = tt
 blames_since v u now first seen (Err x) same less h = more_blames v now first seen x less (subst (λ (y : MakerView). JobBlames y now seen x) same h)
+
+more_stood : (v : MakerView) (now first : ℕ → List ℕ → Refusal → Type 0) (c : CoreState) (seen : Seen) (x : JobErr) → ((j : ℕ) (b : List ℕ) (q : Refusal) → now j b q → first j b q) → JobStood v now c seen x → JobStood v first c seen x
+more_stood v now first c seen (job.Changed j p f) less h = h
+more_stood v now first c seen (job.Refused j q) less h = (h.0, h.1, record { bytes = h.2.bytes; mode = h.2.mode; stands = h.2.stands; refused = less j h.2.bytes q h.2.refused; planned = h.2.planned })
+more_stood v now first c seen job.Tree less h = tt
+more_stood v now first c seen job.NoMemory less h = tt
+
+pub stood_since : {A : Type 0} (v u : MakerView) (now first : ℕ → List ℕ → Refusal → Type 0) (c : CoreState) (seen : Seen) (r : Result A JobErr) → u ≡ v → ((j : ℕ) (b : List ℕ) (q : Refusal) → now j b q → first j b q) → IfErr r (JobStood u now c seen) → IfErr r (JobStood v first c seen)
+stood_since v u now first c seen (Ok a) same less h = tt
+stood_since v u now first c seen (Err x) same less h = more_stood v now first c seen x less (subst (λ (y : MakerView). JobStood y now c seen x) same h)
 
 -- ### Calls of jobs as calls of a run
 

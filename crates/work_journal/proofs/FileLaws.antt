@@ -12,7 +12,7 @@ use Rattle.file_tree.specs.declared.node.Found.{Found}
 use Rattle.file_tree.specs.Causes.{Stood}
 use Rattle.file_tree.specs.Seen.{Seen, now_of, map_now}
 use Rattle.work_journal.specs.declared.job_err.JobErr.{JobErr}
-use Rattle.work_journal.specs.Blames.{is_file, NoFileStands, JobBlames, MakeBlames, is_mild}
+use Rattle.work_journal.specs.Blames.{is_file, NoFileStands, JobBlames, IsOfJob, MakeBlames, is_mild}
 use Rattle.file_tree.specs.Images.{State, state_of}
 use Rattle.file_tree.proofs.ImageLaws.{state_now}
 use Rattle.journal_core.specs.Names.{target}
@@ -22,7 +22,7 @@ use Rattle.journal_core.specs.Calls.{is_uncommitted}
 use Rattle.journal_core.proofs.Uncommitted.{uncommitted_old}
 use Rattle.work_journal.specs.Wanted.{Wanted, MarkHas}
 use Rattle.work_journal.specs.Keeps.{Keeps}
-use Rattle.work_journal.specs.Views.{MakerView}
+use Rattle.work_journal.specs.Views.{MakerView, Makes, IsMaker}
 use Rattle.work_journal.specs.Jobs.{AreNodes, MayStage}
 use Rattle.dw_base.specs.Layout.{file_limit}
 use Rattle.work_journal.specs.Files.{FileStands, IsSource, is_output, is_apart, IsFile, IsWanted}
@@ -54,43 +54,51 @@ same_bytes a b m n e = cc
 same_mode : (a b : List ℕ) (m n : ℕ) → found.File a m ≡ found.File b n → m ≡ n
 same_mode a b m n e = cc
 
-same_some : (a b : List Node) → Some a ≡ Some b → a ≡ b
-same_some a b e = cc
+-- the same nodes are made of the same file
+pub made_by : (makes : Makes) (j : ℕ) (a b : List ℕ) (m n : ℕ) (ns : List Node) → a ≡ b → m ≡ n → makes j a m ns → makes j b n ns
+made_by makes j a b m n ns ea en made = subst (λ (k : ℕ). makes j b k ns) en (subst (λ (x : List ℕ). makes j x m ns) ea made)
+
+-- a maker that has made nodes since wants the same files
+file_since : (w : Wanted) (v : MakerView) (was now : Makes) (j : ℕ) → ((i : ℕ) (b : List ℕ) (m : ℕ) (ns : List Node) → was i b m ns → now i b m ns) → IsFile w v was j → IsFile w v now j
+file_since w v was now j more f = record { bytes = f.bytes; mode = f.mode; there = f.there; few = f.few; nodes = f.nodes; made = more j f.bytes f.mode f.nodes f.made; are_nodes = f.are_nodes; source = f.source }
+
+pub wanted_since : (w : Wanted) (v u : MakerView) (was now : Makes) → u ≡ v → ((i : ℕ) (b : List ℕ) (m : ℕ) (ns : List Node) → was i b m ns → now i b m ns) → IsWanted w v was → IsWanted w u now
+wanted_since w v u was now same more a = subst (λ (x : MakerView). IsWanted w x now) (sym same) (record { steps_are = a.steps_are; made = a.made; files = λ j l. file_since w v was now j more (a.files j l) })
 
 -- the planned file is there
-pub file_is_there : (w : Wanted) (v : MakerView) (c : CoreState) (seen : Seen) (j : ℕ) (f : IsFile w v j) → Keeps w c (state_of seen.past)
+pub file_is_there : (w : Wanted) (v : MakerView) (makes : Makes) (c : CoreState) (seen : Seen) (j : ℕ) (f : IsFile w v makes j) → Keeps w c (state_of seen.past)
     → IsTrue (is_uncommitted (job_state c j)) → stands_at (map_now seen.past) (v.source j) file_limit ≡ found.File f.bytes f.mode
-file_is_there w v c seen j f k free =
+file_is_there w v makes c seen j f k free =
     let same : fin.get (state_of seen.past).now (v.source j) ≡ fin.get w.start (v.source j) = source_same w c (state_of seen.past) j (v.source j) k free f.source in
     let there : fin.get (map_now seen.past) (v.source j) ≡ Some (node.File f.bytes f.mode) = ap (λ (t : TreeMap). fin.get t (v.source j)) (sym (state_now seen.past)) ∙ same ∙ f.there in
     file_found (map_now seen.past) (v.source j) f.bytes f.mode file_limit there f.few
 
 -- what is read is the planned file
-pub read_planned : (w : Wanted) (v : MakerView) (c : CoreState) (seen : Seen) (j : ℕ) (bytes : List ℕ) (mode : ℕ) (f : IsFile w v j) → seen.tells ≡ true → Keeps w c (state_of seen.past)
+pub read_planned : (w : Wanted) (v : MakerView) (makes : Makes) (c : CoreState) (seen : Seen) (j : ℕ) (bytes : List ℕ) (mode : ℕ) (f : IsFile w v makes j) → seen.tells ≡ true → Keeps w c (state_of seen.past)
     → IsTrue (is_uncommitted (job_state c j)) → FileStands seen (v.source j) bytes mode → found.File f.bytes f.mode ≡ found.File bytes mode
-read_planned w v c seen j bytes mode f tells k free stands = sym (file_is_there w v c seen j f k free) ∙ stands.is tells
+read_planned w v makes c seen j bytes mode f tells k free stands = sym (file_is_there w v makes c seen j f k free) ∙ stands.is tells
 
 -- and the nodes that are made of it are the wanted ones
-pub made_wanted : (w : Wanted) (v : MakerView) (c : CoreState) (seen : Seen) (j : ℕ) (bytes : List ℕ) (mode : ℕ) (ns : List Node) → IsWanted w v → j < length v.steps → seen.tells ≡ true → Keeps w c (state_of seen.past)
-    → IsTrue (is_uncommitted (job_state c j)) → FileStands seen (v.source j) bytes mode → v.nodes j bytes mode ≡ Some ns → AreNodes w j ns
-made_wanted w v c seen j bytes mode ns wanted l tells k free stands made =
+pub made_wanted : (w : Wanted) (v : MakerView) (makes : Makes) (c : CoreState) (seen : Seen) (j : ℕ) (bytes : List ℕ) (mode : ℕ) (ns : List Node) → IsMaker v makes → IsWanted w v makes → j < length v.steps → seen.tells ≡ true → Keeps w c (state_of seen.past)
+    → IsTrue (is_uncommitted (job_state c j)) → FileStands seen (v.source j) bytes mode → makes j bytes mode ns → AreNodes w j ns
+made_wanted w v makes c seen j bytes mode ns fits wanted l tells k free stands made =
     let f = wanted.files j l in
-    let read = read_planned w v c seen j bytes mode f tells k free stands in
+    let read = read_planned w v makes c seen j bytes mode f tells k free stands in
     let eb : f.bytes ≡ bytes = same_bytes _ _ _ _ read in
     let em : f.mode ≡ mode = same_mode _ _ _ _ read in
-    let both : v.nodes j f.bytes f.mode ≡ v.nodes j bytes mode = ap (λ (b : List ℕ). v.nodes j b f.mode) eb ∙ ap (λ (m : ℕ). v.nodes j bytes m) em in
-    let same : f.nodes ≡ ns = same_some f.nodes ns (sym f.made ∙ both ∙ made) in
+    let first : makes j bytes mode f.nodes = made_by makes j f.bytes bytes f.mode mode f.nodes eb em f.made in
+    let same : f.nodes ≡ ns = fits.one j bytes mode f.nodes ns first made in
     subst (λ (l : List Node). AreNodes w j l) same f.are_nodes
 
 pub new_uncommitted : (c : CoreState) (j n : ℕ) → MayStage c j n → IsTrue (is_uncommitted (job_state c j))
 new_uncommitted c j n may = rw may.is_new refl
 
 -- what is read at its source is a file
-pub file_met : (w : Wanted) (v : MakerView) (c : CoreState) (seen : Seen) (j : ℕ) (path : List ℕ) (x : Found) → IsWanted w v → j < length v.steps → seen.tells ≡ true → Keeps w c (state_of seen.past)
+pub file_met : (w : Wanted) (v : MakerView) (makes : Makes) (c : CoreState) (seen : Seen) (j : ℕ) (path : List ℕ) (x : Found) → IsWanted w v makes → j < length v.steps → seen.tells ≡ true → Keeps w c (state_of seen.past)
     → IsTrue (is_uncommitted (job_state c j)) → path ≡ v.source j → Stood (now_of seen) path file_limit x → ((b : List ℕ) (m : ℕ) → x ≢ found.File b m) → ⊥
-file_met w v c seen j path x wanted l tells k free at stood other =
+file_met w v makes c seen j path x wanted l tells k free at stood other =
     let f = wanted.files j l in
-    other f.bytes f.mode (sym (stood.is (map_now seen.past) (rw tells refl)) ∙ ap (λ (p : List ℕ). stands_at (map_now seen.past) p file_limit) at ∙ file_is_there w v c seen j f k free)
+    other f.bytes f.mode (sym (stood.is (map_now seen.past) (rw tells refl)) ∙ ap (λ (p : List ℕ). stands_at (map_now seen.past) p file_limit) at ∙ file_is_there w v makes c seen j f k free)
 
 -- what was read stood there
 pub stood_file : (seen : Seen) (path source : List ℕ) (x : Found) (bytes : List ℕ) (mode : ℕ) → path ≡ source → x ≡ found.File bytes mode → Stood (now_of seen) path file_limit x → FileStands seen source bytes mode
@@ -114,16 +122,20 @@ none_stands old new path source x at stood same other = record {
 }
 
 -- where nodes are made of the planned file, an error is mild
-pub made_mild : {A : Type 0} (w : Wanted) (v : MakerView) (refuses : ℕ → List ℕ → Refusal → Type 0) (c : CoreState) (seen : Seen) (j : ℕ) (bytes : List ℕ) (mode : ℕ) (r : Result A JobErr) → IsWanted w v → j < length v.steps → seen.tells ≡ true → Keeps w c (state_of seen.past)
-    → IsTrue (is_uncommitted (job_state c j)) → FileStands seen (v.source j) bytes mode → IfErr r (MakeBlames v refuses j bytes mode) → IfErr r (λ e. IsTrue (is_mild e))
-made_mild w v refuses c seen j bytes mode (Ok a) wanted l tells k free stands h = tt
-made_mild w v refuses c seen j bytes mode (Err e) wanted l tells k free stands h =
+pub made_mild : {A : Type 0} (w : Wanted) (v : MakerView) (makes : Makes) (refuses : ℕ → List ℕ → Refusal → Type 0) (c : CoreState) (seen : Seen) (j : ℕ) (bytes : List ℕ) (mode : ℕ) (r : Result A JobErr) → IsWanted w v makes → j < length v.steps → seen.tells ≡ true → Keeps w c (state_of seen.past)
+    → IsTrue (is_uncommitted (job_state c j)) → FileStands seen (v.source j) bytes mode → IfErr r (MakeBlames v makes refuses j bytes mode) → IfErr r (λ e. IsTrue (is_mild e))
+made_mild w v makes refuses c seen j bytes mode (Ok a) wanted l tells k free stands h = tt
+made_mild w v makes refuses c seen j bytes mode (Err e) wanted l tells k free stands h =
     let f = wanted.files j l in
-    let read = read_planned w v c seen j bytes mode f tells k free stands in
+    let read = read_planned w v makes c seen j bytes mode f tells k free stands in
     let eb : f.bytes ≡ bytes = same_bytes _ _ _ _ read in
     let em : f.mode ≡ mode = same_mode _ _ _ _ read in
-    h.mild f.nodes (ap (λ (b : List ℕ). v.nodes j b mode) (sym eb) ∙ ap (λ (m : ℕ). v.nodes j f.bytes m) (sym em) ∙ f.made)
+    h.mild f.nodes (made_by makes j f.bytes bytes f.mode mode f.nodes eb em f.made)
 
-pub made_blames : {A : Type 0} (v : MakerView) (refuses : ℕ → List ℕ → Refusal → Type 0) (seen : Seen) (j : ℕ) (bytes : List ℕ) (mode : ℕ) (r : Result A JobErr) → FileStands seen (v.source j) bytes mode → IfErr r (MakeBlames v refuses j bytes mode) → IfErr r (JobBlames v refuses seen)
-made_blames v refuses seen j bytes mode (Ok a) stands h = tt
-made_blames v refuses seen j bytes mode (Err e) stands h = h.blames seen stands
+pub made_blames : {A : Type 0} (v : MakerView) (makes : Makes) (refuses : ℕ → List ℕ → Refusal → Type 0) (seen : Seen) (j : ℕ) (bytes : List ℕ) (mode : ℕ) (r : Result A JobErr) → FileStands seen (v.source j) bytes mode → IfErr r (MakeBlames v makes refuses j bytes mode) → IfErr r (JobBlames v refuses seen)
+made_blames v makes refuses seen j bytes mode (Ok a) stands h = tt
+made_blames v makes refuses seen j bytes mode (Err e) stands h = h.blames seen stands
+
+pub made_of_job : {A : Type 0} (v : MakerView) (makes : Makes) (refuses : ℕ → List ℕ → Refusal → Type 0) (j : ℕ) (bytes : List ℕ) (mode : ℕ) (r : Result A JobErr) → IfErr r (MakeBlames v makes refuses j bytes mode) → IfErr r (IsOfJob j)
+made_of_job v makes refuses j bytes mode (Ok a) h = tt
+made_of_job v makes refuses j bytes mode (Err e) h = h.of_job

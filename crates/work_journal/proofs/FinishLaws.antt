@@ -22,7 +22,7 @@ use Rattle.journal_core.specs.Table.{CoreState, all_done, new_core, settled_job,
 use Rattle.journal_core.proofs.Rows.{settled_at}
 use Rattle.work_texts.specs.declared.journal_err.JournalErr.{JournalErr}
 use Rattle.work_texts.specs.declared.journal_err.JournalErr.TheVariants as run
-use Rattle.work_journal.specs.Views.{MakerView}
+use Rattle.work_journal.specs.Views.{MakerView, Makes}
 use Rattle.work_journal.specs.Work.{work_path, has_path}
 use Rattle.work_journal.specs.Wanted.{Wanted}
 use Rattle.work_journal.specs.Keeps.{Keeps}
@@ -247,11 +247,11 @@ finish_whole {hits = hits} {n = n} work may c lent d old begun mid new r core se
 
 -- ### The texts of the end, as they were given and as they were made
 
-pub jobs_by : (w : Wanted) (v : MakerView) (given made : List Node) → made ≡ given → AreJobs w v given → AreJobs w v made
-jobs_by w v given made is a = subst (λ (ns : List Node). AreJobs w v ns) (sym is) a
+pub jobs_by : (w : Wanted) (v : MakerView) (makes : Makes) (given made : List Node) → made ≡ given → AreJobs w v makes given → AreJobs w v makes made
+jobs_by w v makes given made is a = subst (λ (ns : List Node). AreJobs w v makes ns) (sym is) a
 
-pub run_by : (w : Wanted) (v : MakerView) (plan put : Node) (given made : List Node) → put ≡ plan → made ≡ given → IsRun w v plan given → IsRun w v put made
-run_by w v plan put given made is are a = subst (λ (n : Node). IsRun w v n made) (sym is) (subst (λ (ns : List Node). IsRun w v plan ns) (sym are) a)
+pub run_by : (w : Wanted) (v : MakerView) (makes : Makes) (plan put : Node) (given made : List Node) → put ≡ plan → made ≡ given → IsRun w v makes plan given → IsRun w v makes put made
+run_by w v makes plan put given made is are a = subst (λ (n : Node). IsRun w v makes n made) (sym is) (subst (λ (ns : List Node). IsRun w v makes plan ns) (sym are) a)
 
 -- fewer wanted files
 pub finish_given : {hits : List ℕ → Type 0} {n : ℕ} {A : Type 0} (work : List ℕ) (may must : Wanted → Type 0) (c : CoreState) (old new : Seen) (r : Result A JournalErr) → ((w : Wanted) → must w → may w) → FinishRan hits n work may c old new r → FinishRan hits n work must c old new r

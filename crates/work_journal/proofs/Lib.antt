@@ -21,3 +21,4 @@ pub mod RestartLaws
 pub mod PresentLaws
 pub mod ApartLaws
 pub mod RunLaws
+pub mod LookLaws

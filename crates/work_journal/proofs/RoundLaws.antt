@@ -1,5 +1,5 @@
 -- Rounds of a run: jobs that an earlier start left, jobs that are taken, and the end of all.
-use Rattle.std.proofs.Common.{◌≡◌, ◌≢◌, ℕ, suc, zero, ◌+◌, ◌<◌, ◌≤◌, Bool, true, false, eq-eqb, ne_eqb, List, length, get_or, refl, sym, ◌∙◌, ap, subst, inl, inr, arith, IsTrue}
+use Rattle.std.proofs.Common.{◌≡◌, ◌≢◌, ℕ, suc, zero, ◌+◌, ◌<◌, ◌≤◌, Bool, true, false, eq-eqb, ne_eqb, List, [], ◌∷◌, length, get_or, refl, sym, ◌∙◌, ap, subst, inl, inr, arith, IsTrue}
 use Rattle.std.specs.Prelude.{◌-◌, ◌*◌, ◌/◌, ◌%◌, if◌then◌else◌, Result, Ok, Err, IsErr, IsErrAnd}
 use Rattle.std.proofs.lemmas.Bool.{cases_Bool, cases_eq, cases_lt}
 use Rattle.std.proofs.lemmas.Nat.{le-div}
@@ -8,6 +8,7 @@ use native.Mathlib.Nat.{add-mul, div-add-mod'}
 use Rattle.std.proofs.lemmas.List.{get_or_past}
 use Rattle.journal_core.specs.declared.event.JobState.{JobState}
 use Rattle.journal_core.specs.declared.event.JobState.TheVariants.{Fresh, Staged, Ready, Going, Done}
+use Rattle.journal_core.specs.Calls.{is_uncommitted}
 use Rattle.journal_core.specs.Table.{CoreState, state_of, with_state, is_done}
 use Rattle.journal_core.specs.Relation.{ahead}
 use Rattle.work_journal.specs.declared.rounds.Round.{Round}
@@ -16,7 +17,7 @@ use Rattle.work_journal.specs.Groups.{is_new, IsGroup}
 use Rattle.work_journal.specs.Rounds.{is_found, IsBegun, IsMending, IsRound, is_moving, IsMoving, AreCalm, AreDone, rounds_of, settles_so_far, settles_of_one, IsCounted}
 use Rattle.work_journal.specs.declared.job_err.JobErr.{JobErr}
 use Rattle.work_journal.proofs.GoesLaws.{err_is}
-use Rattle.work_journal.proofs.GroupLaws.{at_other, group_next, ahead_staged, ahead_none}
+use Rattle.work_journal.proofs.GroupLaws.{at_here, at_other, group_next, ahead_staged, ahead_none}
 
 -- ### Jobs that an earlier start left
 
@@ -54,12 +55,31 @@ mending_ends v c job all m = record {
 
 -- ### Jobs that aren't being moved
 
+moving_committed : (s : JobState) → is_moving s ≡ true → is_uncommitted s ≡ false
+moving_committed (Fresh k) m = let f : false ≡ true = m in absurd (cc)
+moving_committed Staged m = let f : false ≡ true = m in absurd (cc)
+moving_committed Ready m = let f : false ≡ true = m in absurd (cc)
+moving_committed (Going k) m = refl
+moving_committed Done m = refl
+
+moving_there : (ss : List JobState) (j : ℕ) → is_moving (get_or ss j Done) ≡ true → j < length ss
+moving_there [] j m = let f : false ≡ true = m in absurd (cc)
+moving_there (s ∷ ss) zero m = omega arith
+moving_there (s ∷ ss) (suc j) m = let l = moving_there ss j m in omega (arith, l)
+
 pub calm_same : (c d : CoreState) → d ≡ c → AreCalm c d
-calm_same c d e = record { same = λ i n. ap (λ (x : CoreState). state_of x i) e }
+calm_same c d e = record {
+  same = λ i n. ap (λ (x : CoreState). state_of x i) e;
+  moved = λ i m. ap (λ (x : CoreState). is_uncommitted (state_of x i)) e ∙ moving_committed (state_of c i) m;
+}
 
 pub calm_then : (c d e : CoreState) → AreCalm c d → AreCalm d e → AreCalm c e
 calm_then c d e a b = record {
   same = λ i n. b.same i (ap (λ (s : JobState). is_moving s) (a.same i n) ∙ n) ∙ a.same i n;
+  moved = λ i m. elim (cases_Bool (is_moving (state_of d i))) [
+    | inl still ↦ b.moved i still
+    | inr done ↦ ap (λ (s : JobState). is_uncommitted s) (b.same i done) ∙ a.moved i m
+  ];
 }
 
 pub moving_at : (c : CoreState) (job k j : ℕ) → state_of c job ≡ Going k → j ≡ job → IsMoving c j
@@ -69,6 +89,11 @@ pub calm_moved : (c d : CoreState) (job k : ℕ) → state_of c job ≡ Going k 
 calm_moved c d job k is e = record {
   same = λ i n. ap (λ (x : CoreState). state_of x i) e
       ∙ at_other c job i Done (λ (h : i ≡ job). let f : true ≡ false = sym (moving_at c job k i is h) ∙ n in cc);
+  moved = λ i m. ap (λ (x : CoreState). is_uncommitted (state_of x i)) e ∙ elim (cases_eq i job) [
+    | inl here ↦ ap (λ (y : ℕ). is_uncommitted (state_of (with_state c job Done) y)) here
+        ∙ ap (λ (s : JobState). is_uncommitted s) (at_here c job Done (moving_there c.states job (moving_at c job k job is refl)))
+    | inr other ↦ ap (λ (s : JobState). is_uncommitted s) (at_other c job i Done other) ∙ moving_committed (state_of c i) m
+  ];
 }
 
 -- what is being moved was so before

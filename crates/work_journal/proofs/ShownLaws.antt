@@ -16,7 +16,7 @@ use Rattle.journal_core.specs.Shapes.{none_there}
 use Rattle.journal_core.specs.Starts.{least_there, shown_state, shown_states}
 use Rattle.journal_core.specs.Table.{CoreState, resumed_core}
 use Rattle.journal_core.proofs.Starts.{shown_at, length_shown}
-use Rattle.work_journal.specs.Views.{MakerView, IsMaker}
+use Rattle.work_journal.specs.Views.{MakerView, Makes, IsMaker}
 use Rattle.work_journal.specs.Work.{has_path, presence}
 use Rattle.work_journal.specs.Rounds.{is_found, IsBegun}
 use Rattle.work_journal.specs.Begun.{state_by, AreShown}
@@ -121,8 +121,8 @@ unfolding presence
 states_same work paths all steps states a = ext_get_or Done states (shown_states all (presence work paths)) (a.same_states ∙ sym (length_shown all (presence work paths)))
     (λ i l. let inside : i < length all = (let e = a.same_states in omega (arith, e)) in a.states_are i inside ∙ sym (shown_at all (presence work paths) i inside))
 
-pub shown_fit : (work : List ℕ) (paths : List (List ℕ)) (v : MakerView) (steps : List ℕ) (states : List JobState) → IsMaker v → AreShown work paths v.steps steps states (length v.steps) → AreFit steps states
-shown_fit work paths v steps states maker a = record {
+pub shown_fit : (work : List ℕ) (paths : List (List ℕ)) (v : MakerView) (makes : Makes) (steps : List ℕ) (states : List JobState) → IsMaker v makes → AreShown work paths v.steps steps states (length v.steps) → AreFit steps states
+shown_fit work paths v makes steps states maker a = record {
   same_length = a.same_states ∙ sym a.same_steps;
   has_step = λ j l. let inside : j < length v.steps = (let e = a.same_steps in omega (arith, e)) in subst (λ (n : ℕ). 0 < n) (sym (a.steps_are j inside)) (maker.some j inside);
   each_fits = λ j l. let inside : j < length v.steps = (let e = a.same_steps in omega (arith, e)) in

@@ -12,8 +12,10 @@ use Rattle.work_texts.specs.declared.journal_err.JournalErr.{JournalErr}
 use Rattle.work_texts.specs.declared.journal_err.JournalErr.TheVariants as run
 use Rattle.work_journal.specs.declared.job_err.JobErr.{JobErr}
 use Rattle.work_journal.specs.declared.job_err.JobErr.TheVariants as job
-use Rattle.work_journal.specs.Views.{MakerView, IsChange}
+use Rattle.work_journal.specs.Views.{MakerView, Makes, IsChange}
 use Rattle.dw_base.specs.Layout.{file_limit}
+use Rattle.journal_core.specs.Calls.{is_uncommitted}
+use Rattle.journal_core.specs.Table.{CoreState, state_of}
 use Rattle.work_journal.specs.Files.{FileStands}
 
 abbrev pub is_file : Found → Bool
@@ -62,13 +64,28 @@ JobBlames v refuses seen (job.Refused j r) = (j < length v.steps) × IsRefused v
 JobBlames v refuses seen job.Tree = ⊤
 JobBlames v refuses seen job.NoMemory = ⊤
 
+-- the error is of no other job
+abbrev pub IsOfJob : ℕ → JobErr → Type 0
+IsOfJob n (job.Changed j planned digest) = j ≡ n
+IsOfJob n (job.Refused j r) = j ≡ n
+IsOfJob n job.Tree = ⊤
+IsOfJob n job.NoMemory = ⊤
+
+-- why a job that isn't committed isn't taken, where this is the tree and the core
+abbrev pub JobStood : MakerView → (ℕ → List ℕ → Refusal → Type 0) → CoreState → Seen → JobErr → Type 0
+JobStood v refuses c seen (job.Changed j planned digest) = (j < length v.steps) × IsTrue (is_uncommitted (state_of c j)) × IsChanged v seen j planned digest
+JobStood v refuses c seen (job.Refused j r) = (j < length v.steps) × IsTrue (is_uncommitted (state_of c j)) × IsRefused v refuses seen j r
+JobStood v refuses c seen job.Tree = ⊤
+JobStood v refuses c seen job.NoMemory = ⊤
+
 -- why nodes aren't made of these bytes
-pub record MakeBlames (v : MakerView) (refuses : ℕ → List ℕ → Refusal → Type 0) (j : ℕ) (bytes : List ℕ) (mode : ℕ) (e : JobErr) : Type 0 where
+pub record MakeBlames (v : MakerView) (makes : Makes) (refuses : ℕ → List ℕ → Refusal → Type 0) (j : ℕ) (bytes : List ℕ) (mode : ℕ) (e : JobErr) : Type 0 where
   -- where they stand at the job's source
   pub blames : (seen : Seen) → FileStands seen (v.source j) bytes mode → JobBlames v refuses seen e
   -- where nodes are made of them
-  pub mild : (ns : List Node) → v.nodes j bytes mode ≡ Some ns → IsTrue (is_mild e)
+  pub mild : (ns : List Node) → makes j bytes mode ns → IsTrue (is_mild e)
   pub no_fault : e ≢ job.Tree
+  pub of_job : IsOfJob j e
 
 -- the error names a job that is there
 abbrev pub OfJob : MakerView → JobErr → Type 0

@@ -14,7 +14,7 @@ use Rattle.work_journal.specs.declared.job_err.JobErr.{JobErr}
 use Rattle.work_journal.specs.declared.job_err.JobErr.TheVariants as job
 use Rattle.work_journal.specs.declared.maker.MakeErr.{MakeErr}
 use Rattle.work_journal.specs.declared.maker.MakeErr.TheVariants as make
-use Rattle.work_journal.specs.Views.{MakerView}
+use Rattle.work_journal.specs.Views.{MakerView, Makes}
 use Rattle.work_journal.specs.Wanted.{Wanted, path_of}
 use Rattle.work_journal.specs.Jobs.{AreNodes}
 use Rattle.work_journal.specs.Groups.{IsMade}
@@ -39,18 +39,18 @@ pub data IsSource (w : Wanted) (job : ℕ) (path : List ℕ) : Type 0 where
   is_apart : ((n : Name) → IsName w.steps n → path ≢ path_of w n) → IsSource w job path
 
 -- the file of a job before the run, and the nodes that are made of it
-pub record IsFile (w : Wanted) (v : MakerView) (j : ℕ) : Type 0 where
+pub record IsFile (w : Wanted) (v : MakerView) (makes : Makes) (j : ℕ) : Type 0 where
   pub bytes : List ℕ
   pub mode : ℕ
   pub there : fin.get w.start (v.source j) ≡ Some (node.File bytes mode)
   pub few : length bytes ≤ file_limit
   pub nodes : List Node
-  pub made : v.nodes j bytes mode ≡ Some nodes
+  pub made : makes j bytes mode nodes
   pub are_nodes : AreNodes w j nodes
   pub source : IsSource w j (v.source j)
 
 -- a list of wanted files: one for each job of the maker
-pub record IsWanted (w : Wanted) (v : MakerView) : Type 0 where
+pub record IsWanted (w : Wanted) (v : MakerView) (makes : Makes) : Type 0 where
   pub steps_are : w.steps ≡ v.steps
   pub made : IsMade w v
-  pub files : (j : ℕ) → j < length v.steps → IsFile w v j
+  pub files : (j : ℕ) → j < length v.steps → IsFile w v makes j

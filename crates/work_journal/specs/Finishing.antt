@@ -4,7 +4,7 @@ use Rattle.file_tree.specs.declared.node.Node.{Node}
 use Rattle.journal_core.specs.declared.event.Phase.TheVariants.{Closed}
 use Rattle.journal_core.specs.Names.{plan_new, final}
 use Rattle.journal_core.specs.Table.{CoreState, new_core}
-use Rattle.work_journal.specs.Views.{MakerView}
+use Rattle.work_journal.specs.Views.{MakerView, Makes}
 use Rattle.work_journal.specs.Work.{work_path}
 use Rattle.work_journal.specs.Wanted.{Wanted}
 use Rattle.work_journal.specs.Ending.{AreTexts, text_file}
@@ -32,8 +32,8 @@ pub data IsPlanned (v : MakerView) (c : CoreState) : Type 0 where
   has_ended : c.phase ≡ Closed → IsPlanned v c
 
 -- the maker's files are wanted, and the texts of the end
-pub record AreJobs (w : Wanted) (v : MakerView) (texts : List Node) : Type 0 where
-  pub files : IsWanted w v
+pub record AreJobs (w : Wanted) (v : MakerView) (makes : Makes) (texts : List Node) : Type 0 where
+  pub files : IsWanted w v makes
   pub ends : AreTexts w texts
 
 -- the text of a plan as a file
@@ -41,9 +41,9 @@ abbrev pub plan_node : PlanData → Node
 plan_node plan = text_file (text_of (plan_fields plan))
 
 -- and the plan
-pub record IsRun (w : Wanted) (v : MakerView) (plan : Node) (texts : List Node) : Type 0 where
+pub record IsRun (w : Wanted) (v : MakerView) (makes : Makes) (plan : Node) (texts : List Node) : Type 0 where
   pub puts : w.node plan_new ≡ plan
-  pub jobs : AreJobs w v texts
+  pub jobs : AreJobs w v makes texts
 
 -- the paths of the three lists and of the finished text
 abbrev pub end_paths : List ℕ → List (List ℕ)

@@ -1,10 +1,11 @@
 -- The laws that tie the core to a tree: each call keeps the relation, and a call that failed leaves the run partway.
-use Rattle.std.specs.Prelude.{◌≡◌, ◌≢◌, ℕ, ◌<◌, ◌≤◌, ◌^◌, List, length, Some, None, Ok, is_some}
+use Rattle.std.specs.Prelude.{◌≡◌, ◌≢◌, ℕ, ◌<◌, ◌≤◌, ◌^◌, List, length, Some, None, Result, Ok, is_some}
 use Rattle.std.specs.FinMap as fin
 use Rattle.file_tree.specs.declared.call.Call.{Call}
 use Rattle.file_tree.specs.Trees.{TreeMap}
 use Rattle.file_tree.specs.Seen.{Past, Happened, Seen, adds}
-use Rattle.file_tree.specs.Images.{State, state_after, state_of, settled_state, LeavesOnly}
+use Rattle.file_tree.specs.Images.{State, Images, state_after, state_of, settled_state, LeavesOnly}
+use Rattle.file_tree.specs.Moments.{LooksOnly}
 use Rattle.journal_core.specs.declared.event.Phase.TheVariants.{Closed}
 use Rattle.journal_core.specs.Names.{Name, IsStep, IsName, IsWorkName, temp, final, target}
 use Rattle.journal_core.specs.Table.{CoreState}
@@ -16,7 +17,7 @@ use Rattle.work_journal.specs.Opening.{Opens}
 use Rattle.work_journal.specs.Beginning.{core_by}
 use Rattle.work_journal.specs.Wanted.{Wanted, path_of, IsApart, IsWork, IsPartway}
 use Rattle.work_journal.specs.Keeps.{Does, Broke, Keeps, Kept}
-use Rattle.work_journal.specs.Runs.{Runs}
+use Rattle.work_journal.specs.Runs.{Runs, Ran}
 
 abbrev pub EveryCallKept : Type 0
 EveryCallKept = (w : Wanted) → IsApart w → IsWork w → (c d : CoreState) (s : State) (x : Happened)
@@ -29,6 +30,24 @@ EveryStepKept = (w : Wanted) → IsApart w → IsWork w → (c d : CoreState) (p
 abbrev pub EveryFailurePartway : Type 0
 EveryFailurePartway = (w : Wanted) → IsApart w → IsWork w → (c : CoreState) (old new : Past)
     → Keeps w c (state_of old) → Broke w c old new → LeavesOnly (IsPartway w) old new
+
+-- ### Looks
+
+-- at each look a stop leaves only trees partway through the run, where it left only such before
+abbrev pub EveryLookLeaves : Type 0
+EveryLookLeaves = (w : Wanted) (old new : Past) → LooksOnly old new → Images (IsPartway w) (state_of old) → LeavesOnly (IsPartway w) old new
+
+-- the answer of calls that went well
+abbrev pub looked : Result (Unit {0}) (Unit {0})
+looked = Ok tt
+
+-- looks lead each core to itself
+abbrev pub EveryLookRuns : Type 0
+EveryLookRuns = (work : List ℕ) (c : CoreState) (old new : Past) → LooksOnly old new → Ran work c old c new looked
+
+-- and what holds at two spans of calls holds at both together
+abbrev pub EveryPartJoins : Type 0
+EveryPartJoins = (w : Wanted) (old mid new : Past) → LeavesOnly (IsPartway w) old mid → LeavesOnly (IsPartway w) mid new → LeavesOnly (IsPartway w) old new
 
 -- ### Where a run ends, and where it is taken up
 

@@ -2,6 +2,7 @@
 use Rattle.std.specs.Prelude.{◌≡◌, ◌*◌, ℕ, ◌<◌, ◌≤◌, ◌==◌, ◌+◌, ◌-◌, ◌/◌, if◌then◌else◌, Result, Ok, Err, nat_lt, Bool, true, false, length, get_or, IsTrue}
 use Rattle.journal_core.specs.declared.event.JobState.{JobState}
 use Rattle.journal_core.specs.declared.event.JobState.TheVariants.{Fresh, Staged, Ready, Going, Done}
+use Rattle.journal_core.specs.Calls.{is_uncommitted}
 use Rattle.journal_core.specs.Table.{CoreState, state_of}
 use Rattle.journal_core.specs.Relation.{ahead}
 use Rattle.work_journal.specs.declared.rounds.Round.{Round}
@@ -46,9 +47,10 @@ is_moving Done = false
 abbrev pub IsMoving : CoreState → ℕ → Type 0
 IsMoving c j = IsTrue (is_moving (state_of c j))
 
--- the jobs that aren't being moved are as before
+-- the jobs that aren't being moved are as before, and those that are stay committed
 pub record AreCalm (c d : CoreState) : Type 0 where
   pub same : (i : ℕ) → is_moving (state_of c i) ≡ false → state_of d i ≡ state_of c i
+  pub moved : (i : ℕ) → IsMoving c i → is_uncommitted (state_of d i) ≡ false
 
 -- the jobs from this one on are as before
 pub record AreLater (c d : CoreState) (from : ℕ) : Type 0 where

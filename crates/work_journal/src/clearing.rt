@@ -8,7 +8,7 @@ ghost use Rattle.std.specs.String.{string_bytes};
 ghost use Rattle.file_tree.specs.declared.node.TreeErr.TheVariants.{Failed};
 ghost use Rattle.journal_core.specs.declared.event.Phase.TheVariants.{Closed};
 ghost use Rattle.journal_core.specs.Cores.{core_of};
-ghost use Rattle.work_journal.specs.Clearing.{AreAll, AreGone, IsCleared};
+ghost use Rattle.work_journal.specs.Clearing.{is_other, AreAll, AreGone, IsCleared};
 ghost use Rattle.work_journal.specs.Finishing.{end_paths};
 ghost use Rattle.work_journal.specs.Spares.{InWork};
 ghost use Rattle.work_journal.specs.Runs.{Came};
@@ -47,7 +47,7 @@ fn sweep_late<T: Tree>(
     requires phase { (core_of desk.old.core).phase ≡ Closed }
     ensures same_tree { desk.new.tree.ghost_name ≡ desk.old.tree.ghost_name }
     ensures core { core_of desk.new.core ≡ core_of desk.old.core }
-    ensures gone { OnOk result (AreGone work.now (path.now ∷ []) (T.seen desk.old.tree.now) (T.seen desk.new.tree.now)) }
+    ensures gone { OnOk result (AreGone (is_other work.now) (path.now ∷ []) (T.seen desk.old.tree.now) (T.seen desk.new.tree.now)) }
     ensures came { Came Failed (InWork work.now) 0 work.now (λ w. ⊤) (core_of desk.old.core) (T.seen desk.old.tree.now) (core_of desk.new.core) (T.seen desk.new.tree.now) result }
 {
     let _ = work;
@@ -70,7 +70,7 @@ fn sweep_ends<T: Tree>(
     requires phase { (core_of desk.old.core).phase ≡ Closed }
     ensures same_tree { desk.new.tree.ghost_name ≡ desk.old.tree.ghost_name }
     ensures core { core_of desk.new.core ≡ core_of desk.old.core }
-    ensures gone { OnOk result (AreGone work.now (map string_bytes paths.now) (T.seen desk.old.tree.now) (T.seen desk.new.tree.now)) }
+    ensures gone { OnOk result (AreGone (is_other work.now) (map string_bytes paths.now) (T.seen desk.old.tree.now) (T.seen desk.new.tree.now)) }
     ensures came { Came Failed (InWork work.now) 0 work.now (λ w. ⊤) (core_of desk.old.core) (T.seen desk.old.tree.now) (core_of desk.new.core) (T.seen desk.new.tree.now) result }
 {
     let below = with_slash(alloc, work)?;

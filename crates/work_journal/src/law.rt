@@ -3,7 +3,7 @@
 //! These functions compute nothing: each one's clauses state facts of every run. Read first:
 //! `specs/Wanted.antt`, `specs/Keeps.antt`, `specs/Laws.antt`.
 ghost use Rattle.work_journal.specs.Targets.{EveryTargetApart};
-ghost use Rattle.work_journal.specs.Laws.{EveryCallKept, EveryStepKept, EveryFailurePartway, EveryEndWhole, EveryStartKeeps, EveryPresentKeeps, EveryOpenedShown, EveryRunOne};
+ghost use Rattle.work_journal.specs.Laws.{EveryCallKept, EveryStepKept, EveryFailurePartway, EveryLookLeaves, EveryLookRuns, EveryPartJoins, EveryEndWhole, EveryStartKeeps, EveryPresentKeeps, EveryOpenedShown, EveryRunOne};
 
 /// What the calls of a run keep.
 pub fn bridge_laws()
@@ -13,6 +13,11 @@ pub fn bridge_laws()
 
     // A call that failed, whatever it did, leaves the run partway at every moment.
     ensures failure { EveryFailurePartway }
+
+    // Looks change nothing: neither what a stop leaves, nor a core. And spans of calls join.
+    ensures looks { EveryLookLeaves }
+    ensures looks_run { EveryLookRuns }
+    ensures joins { EveryPartJoins }
 
     // A run whose core is closed has ended: all outputs are there. And what a stop left partway is taken
     // up by the core that its names show.

@@ -1,13 +1,14 @@
 //! The trait of makers: what the outputs of a run are.
 //!
 //! This layer promises, of every maker: it has the same jobs all along, a job's nodes are made only of
-//! the planned file, one a step, and it answers by what it holds alone.
+//! the planned file, one a step and in one way, and it answers by what it holds alone.
 //! Read first: `specs/Views.antt`.
-ghost use Rattle.std.specs.Prelude.{◌≡◌, ◌<◌, ℕ, List, length, get_or, IfOk, IsOkUnless, Some, Err};
+ghost use Rattle.std.specs.Prelude.{◌≡◌, ◌<◌, ◌≤◌, ℕ, List, length, get_or, IfOk, IsOkUnless, Err};
 ghost use Rattle.std.specs.String.{string_bytes};
 ghost use Rattle.file_tree.specs.declared.node.Node.{Node};
+ghost use Rattle.dw_base.specs.Layout.{file_limit};
 ghost use Rattle.dw_base.specs.declared.fault.Refusal.{Refusal};
-ghost use Rattle.work_journal.specs.Views.{MakerView, IsMaker, IsChange};
+ghost use Rattle.work_journal.specs.Views.{MakerView, Makes, IsMaker, IsChange};
 
 use dw_base::Refusal;
 use file_tree::Node;
@@ -47,6 +48,8 @@ impl<T: Drop> From<AllocFailed<T>> for MakeErr {
 /// The jobs of a run: each makes the nodes of its targets, one a step, of the file at its source.
 pub trait Maker {
     ghost view: { Self → MakerView };
+    // which nodes a job makes of a file
+    ghost makes: { Self → Makes };
     // what is refused of a job's file
     ghost refuses: { Self → ℕ → List ℕ → Refusal → Type 0 };
 
@@ -85,14 +88,16 @@ pub trait Maker {
         mode: u32,
     ) -> Result<Vec<Node>, MakeErr>
         requires there { job < length (view self.old).steps }
+        requires small { length bytes.now ≤ file_limit }
         ensures same { view self.new ≡ view self.old }
+        ensures kept_nodes { (j : ℕ) (b : List ℕ) (m : ℕ) (ns : List Node) → makes self.old j b m ns → makes self.new j b m ns }
         ensures same_refusals { (j : ℕ) (b : List ℕ) (r : Refusal) → refuses self.new j b r → refuses self.old j b r }
-        ensures made { IfOk result (λ v. (view self.old).nodes job bytes.now mode ≡ Some v.items) }
+        ensures made { IfOk result (λ v. makes self.old job bytes.now mode v.items) }
         ensures changed { (p f : List ℕ) → result ≡ Err (MakeErr.Changed p f) → IsChange (view self.old) job bytes.now p f }
         ensures refused { (r : Refusal) → result ≡ Err (MakeErr.Refused r) → refuses self.old job bytes.now r }
         ensures planned { (r : Refusal) → result ≡ Err (MakeErr.Refused r) → (view self.old).digest bytes.now ≡ (view self.old).planned job }
-        ensures whole { (ns : List Node) → (view self.old).nodes job bytes.now mode ≡ Some ns → IsOkUnless result MakeErr.NoMemory };
+        ensures whole { (ns : List Node) → makes self.old job bytes.now mode ns → IsOkUnless result MakeErr.NoMemory };
 
     // what each maker holds is fit
-    ghost fits: { (m : Self) → IsMaker (view m) };
+    ghost fits: { (m : Self) → IsMaker (view m) (makes m) };
 }

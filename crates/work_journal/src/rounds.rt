@@ -7,6 +7,7 @@
 ghost use Rattle.std.specs.Prelude.{◌≡◌, ◌≤◌, ◌<◌, ◌+◌, ◌^◌, true, IfOk, IfErr, OnOk, IsTrue, length, List, ℕ, ⊤};
 ghost use Rattle.file_tree.specs.declared.node.TreeErr.TheVariants.{Failed};
 ghost use Rattle.dw_base.specs.declared.fault.Refusal.{Refusal};
+ghost use Rattle.file_tree.specs.declared.node.Node.{Node};
 ghost use Rattle.journal_core.specs.Cores.{core_of};
 ghost use Rattle.work_journal.specs.declared.job_err.JobErr.TheVariants.{Tree as tree_fault};
 ghost use Rattle.work_journal.specs.Groups.{IsGroup, IsMade};
@@ -18,7 +19,7 @@ ghost use Rattle.journal_core.specs.Calls.{is_uncommitted};
 ghost use Rattle.journal_core.specs.Table.{state_of as state_at};
 ghost use Rattle.work_journal.specs.Wanted.{Wanted};
 ghost use Rattle.work_journal.specs.Keeps.{Keeps};
-ghost use Rattle.work_journal.specs.Blames.{JobBlames, is_mild};
+ghost use Rattle.work_journal.specs.Blames.{JobBlames, JobStood, IsOfJob, is_mild};
 ghost use Rattle.file_tree.specs.Images.{state_of};
 ghost use Rattle.work_journal.specs.Rounds.{IsMending, IsBegun, IsRound, IsMoving, AreCalm, AreLater, AreDone, rounds_of, settles_so_far, settles_of_one, IsCounted};
 
@@ -98,14 +99,17 @@ fn take_one<T: Tree, M: Maker>(
     requires round { IsRound (M.view maker.old) (core_of desk.old.core) round job in_flight }
     ensures same_tree { desk.new.tree.ghost_name ≡ desk.old.tree.ghost_name }
     ensures same_view { M.view maker.new ≡ M.view maker.old }
+    ensures kept_nodes { (j : ℕ) (b : List ℕ) (m : ℕ) (ns : List Node) → M.makes maker.old j b m ns → M.makes maker.new j b m ns }
     ensures same_refusals { (j : ℕ) (b : List ℕ) (r : Refusal) → M.refuses maker.new j b r → M.refuses maker.old j b r }
     ensures round { IfOk result (λ r. IsRound (M.view maker.old) (core_of desk.new.core) r (job + 1) in_flight) }
     ensures counted { IfOk result (λ s. IsCounted round s in_flight) }
     ensures later { IfOk result (λ s. AreLater (core_of desk.old.core) (core_of desk.new.core) (job + 1)) }
     ensures met { IfOk result (λ s. IsTrue (is_uncommitted (state_at (core_of desk.old.core) job)) → HasPlanned (M.view maker.old) (T.seen desk.old.tree.now) job) }
     ensures blame { IfErr result (JobBlames (M.view maker.old) (M.refuses maker.old) (T.seen desk.new.tree.now)) }
-    ensures mild { (w : Wanted) → IsGiven w work.now → IsWanted w (M.view maker.old) → (T.seen desk.old.tree.now).tells ≡ true → Keeps w (core_of desk.old.core) (state_of (T.seen desk.old.tree.now).past) → IfErr result (λ e. IsTrue (is_mild e)) }
-    ensures came { Came tree_fault (IsHit work.now (M.view maker.old) (λ j. j < job + 1)) (settles_of_one round result) work.now (λ w. IsWanted w (M.view maker.old)) (core_of desk.old.core) (T.seen desk.old.tree.now) (core_of desk.new.core) (T.seen desk.new.tree.now) result }
+    ensures stands { IfErr result (JobStood (M.view maker.old) (M.refuses maker.old) (core_of desk.old.core) (T.seen desk.old.tree.now)) }
+    ensures of_job { IfErr result (IsOfJob job) }
+    ensures mild { (w : Wanted) → IsGiven w work.now → IsWanted w (M.view maker.old) (M.makes maker.old) → (T.seen desk.old.tree.now).tells ≡ true → Keeps w (core_of desk.old.core) (state_of (T.seen desk.old.tree.now).past) → IfErr result (λ e. IsTrue (is_mild e)) }
+    ensures came { Came tree_fault (IsHit work.now (M.view maker.old) (λ j. j < job + 1)) (settles_of_one round result) work.now (λ w. IsWanted w (M.view maker.old) (M.makes maker.old)) (core_of desk.old.core) (T.seen desk.old.tree.now) (core_of desk.new.core) (T.seen desk.new.tree.now) result }
 {
     let is_done = desk.core().job(job) == JobState::Done;
     if is_done {
@@ -139,12 +143,14 @@ fn take_all<T: Tree, M: Maker>(
     requires group { IsGroup (M.view maker.old) (core_of desk.old.core) 0 0 }
     ensures same_tree { desk.new.tree.ghost_name ≡ desk.old.tree.ghost_name }
     ensures same_view { M.view maker.new ≡ M.view maker.old }
+    ensures kept_nodes { (j : ℕ) (b : List ℕ) (m : ℕ) (ns : List Node) → M.makes maker.old j b m ns → M.makes maker.new j b m ns }
     ensures same_refusals { (j : ℕ) (b : List ℕ) (r : Refusal) → M.refuses maker.new j b r → M.refuses maker.old j b r }
     ensures round { IfOk result (λ r. IsRound (M.view maker.old) (core_of desk.new.core) r (length (M.view maker.old).steps) in_flight) }
     ensures met { IfOk result (λ r. AreSourcesApart work.now (M.view maker.old) → ArePlanned (M.view maker.old) (core_of desk.old.core) (T.seen desk.old.tree.now) (length (M.view maker.old).steps)) }
     ensures blame { IfErr result (JobBlames (M.view maker.old) (M.refuses maker.old) (T.seen desk.new.tree.now)) }
-    ensures mild { (w : Wanted) → IsGiven w work.now → IsWanted w (M.view maker.old) → (T.seen desk.old.tree.now).tells ≡ true → Keeps w (core_of desk.old.core) (state_of (T.seen desk.old.tree.now).past) → IfErr result (λ e. IsTrue (is_mild e)) }
-    ensures came { Came tree_fault (IsHit work.now (M.view maker.old) (λ j. ⊤)) (settles_so_far (length (M.view maker.old).steps) in_flight result) work.now (λ w. IsWanted w (M.view maker.old)) (core_of desk.old.core) (T.seen desk.old.tree.now) (core_of desk.new.core) (T.seen desk.new.tree.now) result }
+    ensures stands { AreSourcesApart work.now (M.view maker.old) → IfErr result (JobStood (M.view maker.old) (M.refuses maker.old) (core_of desk.old.core) (T.seen desk.old.tree.now)) }
+    ensures mild { (w : Wanted) → IsGiven w work.now → IsWanted w (M.view maker.old) (M.makes maker.old) → (T.seen desk.old.tree.now).tells ≡ true → Keeps w (core_of desk.old.core) (state_of (T.seen desk.old.tree.now).past) → IfErr result (λ e. IsTrue (is_mild e)) }
+    ensures came { Came tree_fault (IsHit work.now (M.view maker.old) (λ j. ⊤)) (settles_so_far (length (M.view maker.old).steps) in_flight result) work.now (λ w. IsWanted w (M.view maker.old) (M.makes maker.old)) (core_of desk.old.core) (T.seen desk.old.tree.now) (core_of desk.new.core) (T.seen desk.new.tree.now) result }
 {
     let jobs = maker.jobs();
     let mut round = Round { first: 0, taken: 0 };
@@ -167,12 +173,14 @@ pub(crate) fn run_all<T: Tree, M: Maker>(
     requires begun { IsBegun (M.view maker.old) (core_of desk.old.core) }
     ensures same_tree { desk.new.tree.ghost_name ≡ desk.old.tree.ghost_name }
     ensures same_view { M.view maker.new ≡ M.view maker.old }
+    ensures kept_nodes { (j : ℕ) (b : List ℕ) (m : ℕ) (ns : List Node) → M.makes maker.old j b m ns → M.makes maker.new j b m ns }
     ensures same_refusals { (j : ℕ) (b : List ℕ) (r : Refusal) → M.refuses maker.new j b r → M.refuses maker.old j b r }
     ensures done { OnOk result (AreDone (M.view maker.old) (core_of desk.new.core)) }
     ensures met { OnOk result (AreSourcesApart work.now (M.view maker.old) → ArePlanned (M.view maker.old) (core_of desk.old.core) (T.seen desk.old.tree.now) (length (M.view maker.old).steps)) }
     ensures blame { IfErr result (JobBlames (M.view maker.old) (M.refuses maker.old) (T.seen desk.new.tree.now)) }
-    ensures mild { (w : Wanted) → IsGiven w work.now → IsWanted w (M.view maker.old) → (T.seen desk.old.tree.now).tells ≡ true → Keeps w (core_of desk.old.core) (state_of (T.seen desk.old.tree.now).past) → IfErr result (λ e. IsTrue (is_mild e)) }
-    ensures came { Came tree_fault (IsHit work.now (M.view maker.old) (λ j. ⊤)) (rounds_of (length (M.view maker.old).steps) in_flight) work.now (λ w. IsWanted w (M.view maker.old)) (core_of desk.old.core) (T.seen desk.old.tree.now) (core_of desk.new.core) (T.seen desk.new.tree.now) result }
+    ensures stands { AreSourcesApart work.now (M.view maker.old) → IfErr result (JobStood (M.view maker.old) (M.refuses maker.old) (core_of desk.old.core) (T.seen desk.old.tree.now)) }
+    ensures mild { (w : Wanted) → IsGiven w work.now → IsWanted w (M.view maker.old) (M.makes maker.old) → (T.seen desk.old.tree.now).tells ≡ true → Keeps w (core_of desk.old.core) (state_of (T.seen desk.old.tree.now).past) → IfErr result (λ e. IsTrue (is_mild e)) }
+    ensures came { Came tree_fault (IsHit work.now (M.view maker.old) (λ j. ⊤)) (rounds_of (length (M.view maker.old).steps) in_flight) work.now (λ w. IsWanted w (M.view maker.old) (M.makes maker.old)) (core_of desk.old.core) (T.seen desk.old.tree.now) (core_of desk.new.core) (T.seen desk.new.tree.now) result }
 {
     mend_all(alloc, desk, work, maker)?;
     let round = take_all(alloc, desk, work, maker, in_flight)?;

@@ -1,12 +1,13 @@
 //! Paths of the work folder taken away: before there is a plan, and at the end of a run.
 //!
 //! Read first: `specs/Runs.antt`.
-ghost use Rattle.std.specs.Prelude.{◌≡◌, ◌++◌, ◌∷◌, [], ℕ, IfOk, List, ⊤};
+ghost use Rattle.std.specs.Prelude.{◌≡◌, ◌++◌, ◌∷◌, [], ℕ, map, IfOk, OnOk, List, ⊤};
 ghost use Rattle.std.specs.String.{string_bytes};
 ghost use Rattle.file_tree.specs.Trees.{is_below};
 ghost use Rattle.file_tree.specs.declared.node.TreeErr.TheVariants.{Failed};
 ghost use Rattle.journal_core.specs.declared.event.Phase.TheVariants.{Empty};
 ghost use Rattle.journal_core.specs.Cores.{core_of};
+ghost use Rattle.work_journal.specs.Clearing.{AreGone};
 ghost use Rattle.work_journal.specs.Spares.{InWork};
 ghost use Rattle.work_journal.specs.Runs.{Came};
 
@@ -41,6 +42,7 @@ fn sweep_early<T: Tree>(
     requires phase { (core_of desk.old.core).phase ≡ Empty }
     ensures same_tree { desk.new.tree.ghost_name ≡ desk.old.tree.ghost_name }
     ensures core { core_of desk.new.core ≡ core_of desk.old.core }
+    ensures gone { OnOk result (AreGone (is_below work.now) (path.now ∷ []) (T.seen desk.old.tree.now) (T.seen desk.new.tree.now)) }
     ensures came { Came Failed (InWork work.now) 0 work.now (λ w. ⊤) (core_of desk.old.core) (T.seen desk.old.tree.now) (core_of desk.new.core) (T.seen desk.new.tree.now) result }
 {
     let _ = work;
@@ -60,6 +62,7 @@ pub(crate) fn sweep_all<T: Tree>(
     requires phase { (core_of desk.old.core).phase ≡ Empty }
     ensures same_tree { desk.new.tree.ghost_name ≡ desk.old.tree.ghost_name }
     ensures core { core_of desk.new.core ≡ core_of desk.old.core }
+    ensures gone { OnOk result (AreGone (is_below work.now) (map string_bytes present.now) (T.seen desk.old.tree.now) (T.seen desk.new.tree.now)) }
     ensures came { Came Failed (InWork work.now) 0 work.now (λ w. ⊤) (core_of desk.old.core) (T.seen desk.old.tree.now) (core_of desk.new.core) (T.seen desk.new.tree.now) result }
 {
     let below = with_slash(alloc, work)?;

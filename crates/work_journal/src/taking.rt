@@ -1,9 +1,11 @@
 //! A job taken: its file read, its nodes made and staged.
 //!
 //! Read first: `specs/Files.antt`, `specs/Runs.antt`.
-ghost use Rattle.std.specs.Prelude.{◌≡◌, ◌<◌, true, Some, IfOk, IfErr, OnOk, IsTrue, length, get_or, ⊤, List, ℕ};
+ghost use Rattle.std.specs.Prelude.{◌≡◌, ◌<◌, ◌≤◌, true, IfOk, IfErr, OnOk, IsTrue, length, get_or, ⊤, List, ℕ};
 ghost use Rattle.work_journal.specs.declared.job_err.JobErr.TheVariants.{Tree as tree_fault};
+ghost use Rattle.dw_base.specs.Layout.{file_limit};
 ghost use Rattle.dw_base.specs.declared.fault.Refusal.{Refusal};
+ghost use Rattle.file_tree.specs.declared.node.Node.{Node};
 ghost use Rattle.journal_core.specs.declared.event.JobState.TheVariants.{Staged};
 ghost use Rattle.journal_core.specs.Table.{with_state, state_of as job_state};
 ghost use Rattle.journal_core.specs.Cores.{core_of};
@@ -14,7 +16,7 @@ ghost use Rattle.work_journal.specs.Runs.{Came, IsGiven};
 ghost use Rattle.work_journal.specs.Planned.{HasPlanned};
 ghost use Rattle.work_journal.specs.Wanted.{Wanted};
 ghost use Rattle.work_journal.specs.Keeps.{Keeps};
-ghost use Rattle.work_journal.specs.Blames.{JobBlames, MakeBlames, is_mild};
+ghost use Rattle.work_journal.specs.Blames.{JobBlames, JobStood, IsOfJob, MakeBlames, is_mild};
 ghost use Rattle.journal_core.specs.Calls.{is_uncommitted};
 ghost use Rattle.file_tree.specs.Images.{state_of};
 
@@ -37,10 +39,13 @@ fn read_job<T: Tree, M: Maker>(
     requires there { job < length (M.view maker.now).steps }
     ensures same_tree { desk.new.tree.ghost_name ≡ desk.old.tree.ghost_name }
     ensures core { core_of desk.new.core ≡ core_of desk.old.core }
+    ensures few { IfOk result (λ p. length p.0 ≤ file_limit) }
     ensures found { IfOk result (λ p. FileStands (T.seen desk.new.tree.now) ((M.view maker.now).source job) p.0 p.1) }
     ensures stood { IfOk result (λ p. FileStands (T.seen desk.old.tree.now) ((M.view maker.now).source job) p.0 p.1) }
     ensures blame { IfErr result (JobBlames (M.view maker.now) (M.refuses maker.now) (T.seen desk.new.tree.now)) }
-    ensures mild { (w : Wanted) → IsGiven w work.now → IsWanted w (M.view maker.now) → (T.seen desk.old.tree.now).tells ≡ true → Keeps w (core_of desk.old.core) (state_of (T.seen desk.old.tree.now).past) → IsTrue (is_uncommitted (job_state (core_of desk.old.core) job)) → IfErr result (λ e. IsTrue (is_mild e)) }
+    ensures stands { IfErr result (JobBlames (M.view maker.now) (M.refuses maker.now) (T.seen desk.old.tree.now)) }
+    ensures of_job { IfErr result (IsOfJob job) }
+    ensures mild { (w : Wanted) → IsGiven w work.now → IsWanted w (M.view maker.now) (M.makes maker.now) → (T.seen desk.old.tree.now).tells ≡ true → Keeps w (core_of desk.old.core) (state_of (T.seen desk.old.tree.now).past) → IsTrue (is_uncommitted (job_state (core_of desk.old.core) job)) → IfErr result (λ e. IsTrue (is_mild e)) }
     ensures came { Came tree_fault (InWork work.now) 0 work.now (λ w. ⊤) (core_of desk.old.core) (T.seen desk.old.tree.now) (core_of desk.new.core) (T.seen desk.new.tree.now) result }
 {
     let _ = work;
@@ -64,10 +69,12 @@ fn make_nodes<M: Maker>(
     mode: u32,
 ) -> Result<Vec<Node>, JobErr>
     requires there { job < length (M.view maker.old).steps }
+    requires small { length bytes.now ≤ file_limit }
     ensures same_view { M.view maker.new ≡ M.view maker.old }
+    ensures kept_nodes { (j : ℕ) (b : List ℕ) (m : ℕ) (ns : List Node) → M.makes maker.old j b m ns → M.makes maker.new j b m ns }
     ensures same_refusals { (j : ℕ) (b : List ℕ) (r : Refusal) → M.refuses maker.new j b r → M.refuses maker.old j b r }
-    ensures made { IfOk result (λ v. (M.view maker.old).nodes job bytes.now mode ≡ Some v.items) }
-    ensures blame { IfErr result (MakeBlames (M.view maker.old) (M.refuses maker.old) job bytes.now mode) }
+    ensures made { IfOk result (λ v. M.makes maker.old job bytes.now mode v.items) }
+    ensures blame { IfErr result (MakeBlames (M.view maker.old) (M.makes maker.old) (M.refuses maker.old) job bytes.now mode) }
 {
     match maker.make(alloc, job, bytes, mode) {
         Ok(nodes) => Ok(nodes),
@@ -87,12 +94,15 @@ pub(crate) fn take_job<T: Tree, M: Maker>(
     requires may { MayStage (core_of desk.old.core) job (get_or (M.view maker.old).steps job 0) }
     ensures same_tree { desk.new.tree.ghost_name ≡ desk.old.tree.ghost_name }
     ensures same_view { M.view maker.new ≡ M.view maker.old }
+    ensures kept_nodes { (j : ℕ) (b : List ℕ) (m : ℕ) (ns : List Node) → M.makes maker.old j b m ns → M.makes maker.new j b m ns }
     ensures same_refusals { (j : ℕ) (b : List ℕ) (r : Refusal) → M.refuses maker.new j b r → M.refuses maker.old j b r }
     ensures core { OnOk result (core_of desk.new.core ≡ with_state (core_of desk.old.core) job Staged) }
     ensures met { OnOk result (HasPlanned (M.view maker.old) (T.seen desk.old.tree.now) job) }
     ensures blame { IfErr result (JobBlames (M.view maker.old) (M.refuses maker.old) (T.seen desk.new.tree.now)) }
-    ensures mild { (w : Wanted) → IsGiven w work.now → IsWanted w (M.view maker.old) → (T.seen desk.old.tree.now).tells ≡ true → Keeps w (core_of desk.old.core) (state_of (T.seen desk.old.tree.now).past) → IfErr result (λ e. IsTrue (is_mild e)) }
-    ensures came { Came tree_fault (InWork work.now) 0 work.now (λ w. IsWanted w (M.view maker.old)) (core_of desk.old.core) (T.seen desk.old.tree.now) (core_of desk.new.core) (T.seen desk.new.tree.now) result }
+    ensures stands { IfErr result (JobStood (M.view maker.old) (M.refuses maker.old) (core_of desk.old.core) (T.seen desk.old.tree.now)) }
+    ensures of_job { IfErr result (IsOfJob job) }
+    ensures mild { (w : Wanted) → IsGiven w work.now → IsWanted w (M.view maker.old) (M.makes maker.old) → (T.seen desk.old.tree.now).tells ≡ true → Keeps w (core_of desk.old.core) (state_of (T.seen desk.old.tree.now).past) → IfErr result (λ e. IsTrue (is_mild e)) }
+    ensures came { Came tree_fault (InWork work.now) 0 work.now (λ w. IsWanted w (M.view maker.old) (M.makes maker.old)) (core_of desk.old.core) (T.seen desk.old.tree.now) (core_of desk.new.core) (T.seen desk.new.tree.now) result }
 {
     let (bytes, mode) = read_job(alloc, desk, work, maker, job)?;
     let nodes = make_nodes(alloc, maker, job, bytes.as_slice(), mode)?;

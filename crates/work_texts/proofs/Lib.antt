@@ -14,5 +14,6 @@ pub mod PathRules
 pub mod Loops
 pub mod WholeLaws
 pub mod WriteRules
+pub mod SizeLaws
 pub mod KeyRules
 pub mod OnePlace

@@ -43,6 +43,11 @@ whole_again : {X : Type 0} (fields : X → List Field) (Fits : X → Type 0) (re
     → (bytes : List ℕ) (x : X) → IsWhole fields Fits bytes x → (read bytes >>= ended) ≡ Ok x
 whole_again {X} fields Fits read r bytes x w = ap (λ (m : Reading X). m >>= ended) (reads_whole fields Fits read r bytes x w.fits w.text)
 
+-- a text has one value
+pub one_value : {X : Type 0} (fields : X → List Field) (Fits : X → Type 0) (read : List ℕ → Reading X) → IsReader fields Fits read
+    → (bytes : List ℕ) (x y : X) → IsWhole fields Fits bytes x → IsWhole fields Fits bytes y → x ≡ y
+one_value fields Fits read r bytes x y a b = ok_is x y (sym (whole_again fields Fits read r bytes x a) ∙ whole_again fields Fits read r bytes y b)
+
 -- ---- the first bad field
 
 bad_first : {X : Type 0} (fields : X → List Field) (Fits : X → Type 0) (read : List ℕ → Reading X) → IsReader fields Fits read

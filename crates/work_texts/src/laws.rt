@@ -1,8 +1,8 @@
-//! Laws of the definitions: a text has one first bad field, and none where it is whole.
-ghost use Rattle.std.specs.Prelude.{◌≡◌, ℕ, List};
+//! Laws of the definitions: a text has one value, or one first bad field; and `finished` is no longer than its plan.
+ghost use Rattle.std.specs.Prelude.{◌≡◌, ◌≤◌, ℕ, List, length};
 ghost use Rattle.work_texts.specs.declared.plan.PlanData.{PlanData};
 ghost use Rattle.work_texts.specs.declared.plan.FinishedData.{FinishedData};
-ghost use Rattle.work_texts.specs.Fields.{plan_fields, finished_fields};
+ghost use Rattle.work_texts.specs.Fields.{plan_fields, finished_fields, text_of};
 ghost use Rattle.work_texts.specs.Rules.{IsPlan, IsFinished, IsPlanText, IsFinishedText};
 ghost use Rattle.work_texts.specs.BadFields.{IsBadAt};
 
@@ -17,4 +17,19 @@ pub fn plan_places()
 pub fn finished_places()
     ensures one { (bytes : List ℕ) (at other : ℕ) → IsBadAt finished_fields IsFinished bytes at → IsBadAt finished_fields IsFinished bytes other → at ≡ other }
     ensures no_text { (bytes : List ℕ) (at : ℕ) (done : FinishedData) → IsBadAt finished_fields IsFinished bytes at → IsFinishedText bytes done → ⊥ }
+{}
+
+/// A text `plan` has one value.
+pub fn plan_values()
+    ensures one { (bytes : List ℕ) (plan other : PlanData) → IsPlanText bytes plan → IsPlanText bytes other → plan ≡ other }
+{}
+
+/// A text `finished` has one value.
+pub fn finished_values()
+    ensures one { (bytes : List ℕ) (done other : FinishedData) → IsFinishedText bytes done → IsFinishedText bytes other → done ≡ other }
+{}
+
+/// The text `finished` with the key and the report of a plan is no longer than the plan's text.
+pub fn finished_shorter()
+    ensures no_longer { (plan : PlanData) → length (text_of (finished_fields (record { key = plan.key; report = plan.report }))) ≤ length (text_of (plan_fields plan)) }
 {}

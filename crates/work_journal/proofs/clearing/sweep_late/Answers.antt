@@ -2,6 +2,7 @@ use Rattle.std.proofs.Common.{◌∙◌, ℕ, List, sym, ap}
 use Rattle.file_tree.specs.declared.node.TreeErr.TheVariants.{Failed}
 use Rattle.journal_core.specs.Cores.{core_of}
 use Rattle.work_journal.specs.Work.{has_path}
+use Rattle.work_journal.specs.Clearing.{is_other}
 use Rattle.work_journal.specs.Keeps.{late}
 use Rattle.work_journal.proofs.GoesLaws.{came_still, came_sweeps}
 use Rattle.work_journal.proofs.SweepLaws.{sweeps_in}
@@ -26,10 +27,10 @@ returns-clause-came g c = came_sweeps _ _ _ _ _ _ _ _ (late c.requires.phase (sy
     (end_apart c.args.work.now c.args.path.now (ap (λ (ps : List (List ℕ)). has_path ps c.args.path.now) (sym c.requires.ends) ∙ sym c.is_among.ensures.value ∙ c.if-is_among.false))) c.sweep.ensures.core c.sweep.ensures.done c.sweep.ensures.failed c.sweep.ensures.cause c.sweep.ensures.tells
 
 pub returns-then-not-lies_below-clause-gone : goal.returns-then-not-lies_below-clause-gone
-returns-then-not-lies_below-clause-gone g c = gone_kept c.args.work.now c.args.path.now _ (not_below c.args.work.now c.args.path.now (sym (c.lies_below.ensures _ c.requires.below) ∙ c.if-not-lies_below.true))
+returns-then-not-lies_below-clause-gone g c = gone_kept (is_other c.args.work.now) c.args.path.now _ (not_below c.args.work.now c.args.path.now (sym (c.lies_below.ensures _ c.requires.below) ∙ c.if-not-lies_below.true))
 
 pub returns-then-is_among-clause-gone : goal.returns-then-is_among-clause-gone
-returns-then-is_among-clause-gone g c = gone_kept c.args.work.now c.args.path.now _ (is_end c.args.work.now c.args.path.now (ap (λ (ps : List (List ℕ)). has_path ps c.args.path.now) (sym c.requires.ends) ∙ sym c.is_among.ensures.value ∙ c.if-is_among.true))
+returns-then-is_among-clause-gone g c = gone_kept (is_other c.args.work.now) c.args.path.now _ (is_end c.args.work.now c.args.path.now (ap (λ (ps : List (List ℕ)). has_path ps c.args.path.now) (sym c.requires.ends) ∙ sym c.is_among.ensures.value ∙ c.if-is_among.true))
 
 pub returns-clause-gone : goal.returns-clause-gone
-returns-clause-gone g c = gone_swept c.args.work.now c.args.path.now (g.T.Tree.seen c.args.desk.now.tree.now) _ _ c.sweep.ensures.tells c.sweep.ensures.now
+returns-clause-gone g c = gone_swept (is_other c.args.work.now) c.args.path.now (g.T.Tree.seen c.args.desk.now.tree.now) _ _ c.sweep.ensures.tells c.sweep.ensures.now

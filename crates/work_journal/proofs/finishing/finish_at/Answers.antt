@@ -6,7 +6,9 @@ use Rattle.work_journal.proofs.SpareLaws.{work_hit}
 use Rattle.work_journal.specs.Rounds.{rounds_of}
 use Rattle.work_journal.proofs.JobErrLaws.{ok_by, keeps_then}
 use Rattle.work_journal.proofs.BlameLaws.{err_passed}
+use Rattle.work_journal.proofs.PlannedLaws.{run_first}
 use Rattle.work_journal.proofs.FinishLaws.{mild_blames, came_value, first_of_three, two_of_three, all_of_three}
+use Rattle.work_journal.proofs.ClearLaws.{since_ran, since_then}
 use Rattle.work_journal.proofs.finishing.finish_at.Goals as goal
 
 pub returns-in_err-plan_first-clause-blame : goal.returns-in_err-plan_first-clause-blame
@@ -59,3 +61,27 @@ returns-clause-came g c = came_most (all_of_three (rounds_of (length (g.M.Maker.
     (came_given run.Tree _ _ _ _ _ _ _ _ (λ w given tells wants k. wants.jobs) c.jobs_next.ensures.came)
     (came_value _ _ _ _ _ _ _ _ _ (c.in_ok-clear.was)
     (came_given run.Tree _ _ _ _ _ _ _ _ (λ w given tells wants k. tt) (came_hits (work_hit _ _ _) c.clear.ensures.came)))))
+
+pub returns-clause-alone : goal.returns-clause-alone
+returns-clause-alone g c = λ phase tells all.
+    let first = c.plan_first.ensures.came.tells ∙ tells in
+    let second = c.jobs_next.ensures.came.tells ∙ first in
+    record {
+      mid = g.T.Tree.seen c.plan_first.new.desk.tree.now;
+      tells = c.plan_first.ensures.came.tells;
+      before = since_ran _ _ _ _ _ _ (c.plan_first.ensures.came.goes tells).ran;
+      after = since_then _ _ _ (since_ran _ _ _ _ _ _ (c.jobs_next.ensures.came.goes first).ran) (since_ran _ _ _ _ _ _ (c.clear.ensures.came.goes second).ran);
+      alone = c.in_ok-plan_first.ensures.alone phase all;
+    }
+
+pub returns-in_err-plan_first-clause-stays : goal.returns-in_err-plan_first-clause-stays
+returns-in_err-plan_first-clause-stays g c = λ apart. err_passed _ _ _ _ (c.in_err-plan_first.was) c.from_residual.ensures.1
+    (run_first c.args.work.now _ _ _ _ _ _ apart c.plan_first.ensures.came.tells c.plan_first.ensures.came.spares c.plan_first.ensures.blame)
+
+pub returns-in_err-jobs_next-clause-stays : goal.returns-in_err-jobs_next-clause-stays
+returns-in_err-jobs_next-clause-stays g c = λ apart. err_passed _ _ _ _ (c.in_err-jobs_next.was) c.from_residual-in_err-jobs_next.ensures.1
+    (run_first c.args.work.now _ _ _ _ _ _ apart c.plan_first.ensures.came.tells c.plan_first.ensures.came.spares (c.jobs_next.ensures.stays apart))
+
+pub returns-in_err-clear-clause-stays : goal.returns-in_err-clear-clause-stays
+returns-in_err-clear-clause-stays g c = λ apart. err_passed _ _ _ _ (c.in_err-clear.was) c.from_residual-in_err-clear.ensures.1
+    (mild_blames _ _ _ _ c.clear.ensures.mild)

@@ -37,3 +37,9 @@ pub returns-in-Err-clause-came : goal.returns-in-Err-clause-came
 returns-in-Err-clause-came g c = came_then run.Tree run.Tree _ _ _ _ _ _ _ _ _ _ (ok_by _ _ (c.in_ok-run_jobs.was))
     (came_given run.Tree _ _ _ _ _ _ _ _ (λ w given tells wants k. wants.files) c.run_jobs.ensures.came)
     (came_stopped _ _ _ _ _ _ _ c.in-Err.e _ c.in-Err.is c.stopped.ensures.value (came_given Failed _ _ _ _ _ _ _ _ (λ w given tells wants k. wants.ends) (came_hits (work_hit _ _ _) c.close_run.ensures.came)))
+
+pub returns-in_err-run_jobs-clause-stays : goal.returns-in_err-run_jobs-clause-stays
+returns-in_err-run_jobs-clause-stays g c = λ apart. err_passed _ _ _ _ (c.in_err-run_jobs.was) c.from_residual.ensures.1 (c.run_jobs.ensures.stays apart)
+
+pub returns-in-Err-clause-stays : goal.returns-in-Err-clause-stays
+returns-in-Err-clause-stays g c = λ apart. stopped_blames _ _ _ c.in-Err.e _ c.stopped.ensures.value

@@ -1,4 +1,4 @@
-use Rattle.std.proofs.Common.{◌≡◌, rules}
+use Rattle.std.proofs.Common.{◌≡◌, ◌≢◌, rules}
 use Rattle.journal_core.specs.Cores.{core_of}
 use Rattle.journal_core.specs.declared.event.Phase.TheVariants.{Empty}
 use Rattle.work_texts.specs.declared.journal_err.JournalErr.TheVariants as run
@@ -17,3 +17,11 @@ returns-clause-planned g c =
 
 pub returns-clause-blame : goal.returns-clause-blame
 returns-clause-blame g c = mild_blames _ _ _ _ c.put_node.ensures.mild
+
+pub returns-then-not-is_new-clause-alone : goal.returns-then-not-is_new-clause-alone
+returns-then-not-is_new-clause-alone g c =
+    let other : (core_of c.args.desk.now.core).phase ≢ Empty = search rules in
+    λ phase. absurd (other phase)
+
+pub returns-clause-alone : goal.returns-clause-alone
+returns-clause-alone g c = λ phase. c.put_node.ensures.alone

@@ -13,7 +13,10 @@ pub returns-in_err-texts-clause-came : goal.returns-in_err-texts-clause-came
 returns-in_err-texts-clause-came g c = came_no_text _ _ _ _ _ _ _ (c.in_err-texts.was) c.from_residual.ensures.1 c.end_nodes.ensures.memory
 
 pub returns-clause-mild : goal.returns-clause-mild
-returns-clause-mild g c = λ w given wants tells k. c.jobs_and_texts.ensures.mild w given (jobs_by _ _ _ _ c.in_ok-texts.ensures.nodes wants) tells k
+returns-clause-mild g c = λ w given wants tells k. c.jobs_and_texts.ensures.mild w given (jobs_by _ _ _ _ _ c.in_ok-texts.ensures.nodes wants) tells k
 
 pub returns-clause-came : goal.returns-clause-came
-returns-clause-came g c = came_given run.Tree _ _ _ _ _ _ _ _ (λ w given tells wants k. jobs_by _ _ _ _ c.in_ok-texts.ensures.nodes wants) c.jobs_and_texts.ensures.came
+returns-clause-came g c = came_given run.Tree _ _ _ _ _ _ _ _ (λ w given tells wants k. jobs_by _ _ _ _ _ c.in_ok-texts.ensures.nodes wants) c.jobs_and_texts.ensures.came
+
+pub returns-in_err-texts-clause-stays : goal.returns-in_err-texts-clause-stays
+returns-in_err-texts-clause-stays g c = λ apart. mild_blames _ _ _ _ (no_text_mild _ _ _ (c.in_err-texts.was) c.from_residual.ensures.1 c.end_nodes.ensures.memory)

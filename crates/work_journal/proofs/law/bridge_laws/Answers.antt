@@ -3,6 +3,9 @@ use Rattle.work_journal.proofs.RestartLaws.{end_whole, start_keeps}
 use Rattle.work_journal.proofs.PresentLaws.{present_keeps, opened_shown}
 use Rattle.work_journal.proofs.ApartLaws.{target_apart}
 use Rattle.work_journal.proofs.RunLaws.{run_one}
+use Rattle.work_journal.proofs.LookLaws.{look_leaves, look_runs}
+use Rattle.file_tree.proofs.MomentLaws.{spans_join}
+use Rattle.work_journal.specs.Wanted.{IsPartway}
 use Rattle.std.proofs.Common.{refl}
 use Rattle.work_journal.proofs.law.bridge_laws.Goals as goal
 
@@ -32,3 +35,12 @@ returns-clause-apart c = target_apart
 
 pub returns-clause-one : goal.returns-clause-one
 returns-clause-one c = λ work d e f calls few run go. run_one work d e f calls calls refl few run go
+
+pub returns-clause-looks : goal.returns-clause-looks
+returns-clause-looks c = look_leaves
+
+pub returns-clause-looks_run : goal.returns-clause-looks_run
+returns-clause-looks_run c = look_runs
+
+pub returns-clause-joins : goal.returns-clause-joins
+returns-clause-joins c = λ w old mid new a b. spans_join (IsPartway w) old mid new a b

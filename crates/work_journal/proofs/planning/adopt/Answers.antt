@@ -4,6 +4,7 @@ use Rattle.journal_core.specs.Names.{plan_new, plan}
 use Rattle.journal_core.specs.Calls.{moves_plan}
 use Rattle.work_journal.specs.Work.{work_path}
 use Rattle.work_journal.proofs.GoesLaws.{came_no_memory, came_moves, came_inside}
+use Rattle.work_journal.proofs.ClearLaws.{moved_at}
 use Rattle.work_journal.proofs.planning.adopt.Goals as goal
 
 pub returns-in_err-from-clause-came : goal.returns-in_err-from-clause-came
@@ -16,3 +17,6 @@ pub returns-clause-came : goal.returns-clause-came
 returns-clause-came g c = came_inside plan (c.as_str-2.ensures.value ∙ c.in_ok-to.ensures.path) (came_moves _ _ _ _ _ _ _ Adopt plan_new plan _ _ moves_plan c.requires.allowed
     (c.as_str.ensures.value ∙ c.in_ok-from.ensures.path) (λ w given h. ap (λ (x : List ℕ). work_path x plan) given.work_is ∙ sym (c.as_str-2.ensures.value ∙ c.in_ok-to.ensures.path))
     c.rename.ensures.core c.rename.ensures.done c.rename.ensures.failed c.rename.ensures.cause c.rename.ensures.tells)
+
+pub returns-clause-moves : goal.returns-clause-moves
+returns-clause-moves g c = moved_at _ _ _ _ _ _ _ (c.as_str.ensures.value ∙ c.in_ok-from.ensures.path) (c.as_str-2.ensures.value ∙ c.in_ok-to.ensures.path) c.rename.ensures.now

@@ -1,4 +1,6 @@
-use Rattle.std.proofs.Common.{◌∙◌, sym, IsTrue}
+use Rattle.std.proofs.Common.{◌∙◌, sym, subst, IsTrue}
+use Rattle.file_tree.specs.declared.node.Node.{Node}
+use Rattle.work_journal.specs.Settling.{HasPlanAlone}
 use Rattle.work_texts.specs.declared.journal_err.JournalErr.TheVariants as run
 use Rattle.work_journal.specs.Blames.{is_mild_run}
 use Rattle.work_journal.proofs.GoesLaws.{came_passed, came_given}
@@ -22,3 +24,6 @@ returns-in_err-put_node-clause-came g c = came_passed run.Tree _ _ _ _ _ _ _ _ _
 pub returns-clause-came : goal.returns-clause-came
 returns-clause-came g c = came_value _ _ _ _ _ _ _ _ _ (c.in_ok-put_node.was)
     (came_given run.Tree _ _ _ _ _ _ _ _ (λ w given tells is k. is ∙ sym c.in_ok-node.ensures.node) c.put_node.ensures.came)
+
+pub returns-clause-alone : goal.returns-clause-alone
+returns-clause-alone g c = λ all. subst (λ (n : Node). HasPlanAlone c.args.work.now n (g.T.Tree.seen c.put_node.new.desk.tree.now)) c.in_ok-node.ensures.node (c.in_ok-put_node.ensures.alone all)

@@ -3,6 +3,7 @@ use Rattle.journal_core.specs.declared.event.Event.TheVariants.{Propose}
 use Rattle.journal_core.specs.Names.{plan_new}
 use Rattle.journal_core.specs.Calls.{puts_plan}
 use Rattle.work_journal.proofs.GoesLaws.{came_no_memory, came_puts}
+use Rattle.work_journal.proofs.ClearLaws.{put_at}
 use Rattle.work_journal.proofs.planning.propose.Goals as goal
 
 pub returns-in_err-path-clause-came : goal.returns-in_err-path-clause-came
@@ -11,3 +12,6 @@ returns-in_err-path-clause-came g c = came_no_memory _ _ _ _ _ c.from_residual.e
 pub returns-clause-came : goal.returns-clause-came
 returns-clause-came g c = came_puts _ _ _ _ _ _ _ Propose plan_new _ _ puts_plan c.requires.allowed tt
     (c.as_str.ensures.value ∙ c.in_ok-path.ensures.path) (λ w is. is) c.put.ensures.core c.put.ensures.done c.put.ensures.failed c.put.ensures.cause c.put.ensures.tells
+
+pub returns-clause-puts : goal.returns-clause-puts
+returns-clause-puts g c = put_at _ _ _ _ _ _ (c.as_str.ensures.value ∙ c.in_ok-path.ensures.path) c.put.ensures.now

@@ -1,6 +1,7 @@
 use Rattle.std.proofs.Common.{◌∙◌, length, sym, refl, subst, IsTrue}
 use Rattle.file_tree.specs.declared.node.TreeErr.TheVariants.{Failed}
 use Rattle.work_journal.specs.declared.job_err.JobErr.TheVariants as job
+use Rattle.journal_core.specs.Cores.{core_of}
 use Rattle.work_journal.specs.Views.{MakerView}
 use Rattle.work_journal.specs.Groups.{IsMade}
 use Rattle.work_journal.proofs.GoesLaws.{came_then, came_given, came_passed, came_hits, came_least, came_most}
@@ -8,8 +9,8 @@ use Rattle.work_journal.proofs.SpareLaws.{more_hit, since_hit}
 use Rattle.work_journal.proofs.JobErrLaws.{came_turned, came_fine, came_took, came_first, came_then_job, ok_by, keeps_then}
 use Rattle.work_journal.proofs.RoundLaws.{round_empty, taken_most, settles_failed, settles_last, settles_all}
 use Rattle.work_journal.specs.Blames.{is_mild}
-use Rattle.work_journal.proofs.BlameLaws.{err_passed, tree_blames, tree_mild}
-use Rattle.work_journal.proofs.PlannedLaws.{planned_first}
+use Rattle.work_journal.proofs.BlameLaws.{err_passed, tree_blames, tree_mild, tree_stood}
+use Rattle.work_journal.proofs.PlannedLaws.{planned_first, stood_calm}
 use Rattle.work_journal.proofs.rounds.run_all.Goals as goal
 
 pub returns-in_err-mend_all-clause-came : goal.returns-in_err-mend_all-clause-came
@@ -76,3 +77,13 @@ returns-then-round-eq0-clause-met g c = λ apart. planned_first c.args.work.now 
 
 pub returns-clause-met : goal.returns-clause-met
 returns-clause-met g c = λ apart. planned_first c.args.work.now _ _ _ _ _ _ _ refl apart c.in_ok-mend_all.ensures.calm c.mend_all.ensures.came.tells c.mend_all.ensures.came.spares (c.in_ok-round.ensures.met apart)
+
+pub returns-in_err-mend_all-clause-stands : goal.returns-in_err-mend_all-clause-stands
+returns-in_err-mend_all-clause-stands g c = λ apart. tree_stood _ _ (core_of c.args.desk.now.core) _ _ _ c.from_residual.ensures.1
+
+pub returns-in_err-round-clause-stands : goal.returns-in_err-round-clause-stands
+returns-in_err-round-clause-stands g c = λ apart. err_passed _ _ _ _ (c.in_err-round.was) c.from_residual-in_err-round.ensures.1
+    (stood_calm c.args.work.now _ _ _ _ _ _ _ _ apart c.in_ok-mend_all.ensures.calm c.mend_all.ensures.came.tells c.mend_all.ensures.came.spares (c.take_all.ensures.stands apart))
+
+pub returns-in_err-flush_group-clause-stands : goal.returns-in_err-flush_group-clause-stands
+returns-in_err-flush_group-clause-stands g c = λ apart. tree_stood _ _ (core_of c.args.desk.now.core) _ _ _ c.from_residual-in_err-flush_group.ensures.1

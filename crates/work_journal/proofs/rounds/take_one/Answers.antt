@@ -8,8 +8,8 @@ use Rattle.work_journal.proofs.GoesLaws.{came_still, came_then, came_given, came
 use Rattle.work_journal.proofs.JobErrLaws.{came_turned, came_fine, came_took, ok_by}
 use Rattle.work_journal.proofs.RoundLaws.{round_next, round_anew, counted_same, counted_full, one_if_err, one_if_later}
 use Rattle.work_journal.proofs.SpareLaws.{work_hit, since_hit}
-use Rattle.work_journal.specs.Blames.{is_mild}
-use Rattle.work_journal.proofs.BlameLaws.{err_passed, tree_blames, tree_mild}
+use Rattle.work_journal.specs.Blames.{IsOfJob, is_mild}
+use Rattle.work_journal.proofs.BlameLaws.{err_passed, tree_blames, tree_mild, tree_of_job, tree_stood}
 use Rattle.journal_core.specs.Table.{state_of}
 use Rattle.journal_core.specs.declared.event.JobState.TheVariants.{Staged, Done}
 use Rattle.work_journal.proofs.PlannedLaws.{later_same, later_set, later_then, done_committed}
@@ -83,3 +83,15 @@ returns-clause-later g c = later_then _ _ _ _ _ (omega arith) (later_set _ _ c.a
 
 pub returns-clause-met : goal.returns-clause-met
 returns-clause-met g c = λ free. c.in_ok-take_job.ensures.met
+
+pub returns-in_err-take_job-clause-of_job : goal.returns-in_err-take_job-clause-of_job
+returns-in_err-take_job-clause-of_job g c = err_passed _ _ _ (IsOfJob c.args.job) (c.in_err-take_job.was) c.from_residual.ensures.1 c.take_job.ensures.of_job
+
+pub returns-in_err-take_job-clause-stands : goal.returns-in_err-take_job-clause-stands
+returns-in_err-take_job-clause-stands g c = err_passed _ _ _ _ (c.in_err-take_job.was) c.from_residual.ensures.1 c.take_job.ensures.stands
+
+pub returns-in_err-flush_group-clause-of_job : goal.returns-in_err-flush_group-clause-of_job
+returns-in_err-flush_group-clause-of_job g c = tree_of_job _ _ _ c.from_residual-in_err-flush_group.ensures.1
+
+pub returns-in_err-flush_group-clause-stands : goal.returns-in_err-flush_group-clause-stands
+returns-in_err-flush_group-clause-stands g c = tree_stood _ _ (core_of c.args.desk.now.core) _ _ _ c.from_residual-in_err-flush_group.ensures.1

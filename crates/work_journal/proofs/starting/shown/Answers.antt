@@ -22,5 +22,5 @@ returns-clause-begun g c = if_core c.resumed.result (Î» (x : Core). core_of x â‰
 
 pub resumed-requires : goal.resumed-requires
 resumed-requires g c =
-    let maker : IsMaker (g.M.Maker.view c.args.maker.now) = search rules in
-    record { fit = shown_fit c.args.work.now (map string_bytes c.args.present.now) (g.M.Maker.view c.args.maker.now) _ _ maker c.in_ok-steps.ensures.shown }
+    let maker : IsMaker (g.M.Maker.view c.args.maker.now) (g.M.Maker.makes c.args.maker.now) = search rules in
+    record { fit = shown_fit c.args.work.now (map string_bytes c.args.present.now) (g.M.Maker.view c.args.maker.now) _ _ _ maker c.in_ok-steps.ensures.shown }

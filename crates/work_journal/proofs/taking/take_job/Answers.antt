@@ -1,14 +1,15 @@
-use Rattle.std.proofs.Common.{rules, ◌∙◌, ℕ, List, sym, ap, subst, IsTrue}
+use Rattle.std.proofs.Common.{rules, ◌∙◌, ℕ, List, sym, refl, subst, IsTrue}
 use Rattle.file_tree.specs.declared.node.TreeErr.TheVariants.{Failed}
+use Rattle.journal_core.specs.Cores.{core_of}
 use Rattle.journal_core.specs.Table.{CoreState, state_of}
 use Rattle.journal_core.specs.Calls.{is_uncommitted}
 use Rattle.work_journal.specs.declared.job_err.JobErr.TheVariants as job
 use Rattle.work_journal.proofs.GoesLaws.{came_then, came_given}
 use Rattle.work_journal.proofs.JobErrLaws.{came_turned, came_fine, ok_by, keeps_then}
-use Rattle.work_journal.proofs.FileLaws.{made_wanted, made_blames, made_mild, new_uncommitted}
+use Rattle.work_journal.proofs.FileLaws.{made_by, made_wanted, made_blames, made_of_job, made_mild, new_uncommitted}
 use Rattle.std.specs.Prelude.{IfErr}
-use Rattle.work_journal.specs.Blames.{MakeBlames, is_mild}
-use Rattle.work_journal.proofs.BlameLaws.{err_passed, tree_blames, tree_mild}
+use Rattle.work_journal.specs.Blames.{IsOfJob, MakeBlames, is_mild}
+use Rattle.work_journal.proofs.BlameLaws.{err_passed, tree_blames, tree_mild, tree_of_job, tree_stood, job_stood}
 use Rattle.work_journal.specs.Views.{IsMaker}
 use Rattle.work_journal.proofs.taking.take_job.Goals as goal
 
@@ -21,14 +22,14 @@ returns-in_err-bytes-clause-mild g c = λ w given wanted tells k. err_passed _ _
 
 pub returns-in_err-nodes-clause-blame : goal.returns-in_err-nodes-clause-blame
 returns-in_err-nodes-clause-blame g c = err_passed _ _ _ _ (c.in_err-nodes.was) c.from_residual-in_err-nodes.ensures.1
-    (made_blames _ _ _ _ _ _ _ c.in_ok-bytes.ensures.found (subst (λ (b : List ℕ). IfErr c.make_nodes.result (MakeBlames (g.M.Maker.view c.args.maker.now) (g.M.Maker.refuses c.args.maker.now) c.args.job b c.in_ok-bytes.mode)) c.as_slice.ensures.value c.make_nodes.ensures.blame))
+    (made_blames _ _ _ _ _ _ _ _ c.in_ok-bytes.ensures.found (subst (λ (b : List ℕ). IfErr c.make_nodes.result (MakeBlames (g.M.Maker.view c.args.maker.now) (g.M.Maker.makes c.args.maker.now) (g.M.Maker.refuses c.args.maker.now) c.args.job b c.in_ok-bytes.mode)) c.as_slice.ensures.value c.make_nodes.ensures.blame))
 
 pub returns-in_err-nodes-clause-mild : goal.returns-in_err-nodes-clause-mild
 returns-in_err-nodes-clause-mild g c = λ w given wanted tells k. err_passed _ _ _ (λ e. IsTrue (is_mild e)) (c.in_err-nodes.was) c.from_residual-in_err-nodes.ensures.1
-    (made_mild w _ _ _ _ _ _ _ _ wanted c.requires.there (c.read_job.ensures.came.tells ∙ tells)
+    (made_mild w _ _ _ _ _ _ _ _ _ wanted c.requires.there (c.read_job.ensures.came.tells ∙ tells)
     (keeps_then job.Tree _ _ _ _ _ _ _ _ w (c.in_ok-bytes.was) given tells tt k c.read_job.ensures.came)
     (subst (λ (x : CoreState). IsTrue (is_uncommitted (state_of x c.args.job))) (sym c.read_job.ensures.core) (new_uncommitted _ _ _ c.requires.may))
-    c.in_ok-bytes.ensures.found (subst (λ (b : List ℕ). IfErr c.make_nodes.result (MakeBlames (g.M.Maker.view c.args.maker.now) (g.M.Maker.refuses c.args.maker.now) c.args.job b c.in_ok-bytes.mode)) c.as_slice.ensures.value c.make_nodes.ensures.blame))
+    c.in_ok-bytes.ensures.found (subst (λ (b : List ℕ). IfErr c.make_nodes.result (MakeBlames (g.M.Maker.view c.args.maker.now) (g.M.Maker.makes c.args.maker.now) (g.M.Maker.refuses c.args.maker.now) c.args.job b c.in_ok-bytes.mode)) c.as_slice.ensures.value c.make_nodes.ensures.blame))
 
 pub returns-in_err-stage_job-clause-blame : goal.returns-in_err-stage_job-clause-blame
 returns-in_err-stage_job-clause-blame g c = tree_blames _ _ _ _ _ c.from_residual-in_err-stage_job.ensures.1
@@ -38,34 +39,59 @@ returns-in_err-stage_job-clause-mild g c = λ w given wanted tells k. tree_mild 
 
 pub returns-in_err-stage_job-clause-came : goal.returns-in_err-stage_job-clause-came
 returns-in_err-stage_job-clause-came g c =
+    let fits : IsMaker (g.M.Maker.view c.args.maker.now) (g.M.Maker.makes c.args.maker.now) = search rules in
     came_then job.Tree job.Tree _ _ _ _ _ _ _ _ _ _ (ok_by _ _ (c.in_ok-bytes.was))
     (came_given job.Tree _ _ _ _ _ _ _ _ (λ w given tells wanted k. tt) c.read_job.ensures.came)
     (came_turned _ _ _ _ _ _ _ _ _ _ (c.in_err-stage_job.was) c.from_residual-in_err-stage_job.ensures.1
     (came_given Failed _ _ _ _ _ _ _ _
-    (λ w given tells wanted k. made_wanted w _ _ _ c.args.job _ _ _ wanted c.requires.there tells k
+    (λ w given tells wanted k. made_wanted w _ _ _ _ c.args.job _ _ _ fits wanted c.requires.there tells k
     (subst (λ (x : CoreState). IsTrue (is_uncommitted (state_of x c.args.job))) (sym c.read_job.ensures.core) (new_uncommitted _ _ _ c.requires.may))
     c.in_ok-bytes.ensures.found
-    (ap (λ (b : List ℕ). (g.M.Maker.view c.args.maker.now).nodes c.args.job b c.in_ok-bytes.mode) (sym c.as_slice.ensures.value) ∙ c.in_ok-nodes.ensures.made))
+    (made_by (g.M.Maker.makes c.args.maker.now) c.args.job _ _ _ _ _ c.as_slice.ensures.value refl c.in_ok-nodes.ensures.made))
     c.stage_job.ensures.came))
 
 pub returns-clause-came : goal.returns-clause-came
 returns-clause-came g c =
+    let fits : IsMaker (g.M.Maker.view c.args.maker.now) (g.M.Maker.makes c.args.maker.now) = search rules in
     came_then job.Tree job.Tree _ _ _ _ _ _ _ _ _ _ (ok_by _ _ (c.in_ok-bytes.was))
     (came_given job.Tree _ _ _ _ _ _ _ _ (λ w given tells wanted k. tt) c.read_job.ensures.came)
     (came_fine _ _ _ _ _ _ _ _ _ (c.in_ok-stage_job.was)
     (came_given Failed _ _ _ _ _ _ _ _
-    (λ w given tells wanted k. made_wanted w _ _ _ c.args.job _ _ _ wanted c.requires.there tells k
+    (λ w given tells wanted k. made_wanted w _ _ _ _ c.args.job _ _ _ fits wanted c.requires.there tells k
     (subst (λ (x : CoreState). IsTrue (is_uncommitted (state_of x c.args.job))) (sym c.read_job.ensures.core) (new_uncommitted _ _ _ c.requires.may))
     c.in_ok-bytes.ensures.found
-    (ap (λ (b : List ℕ). (g.M.Maker.view c.args.maker.now).nodes c.args.job b c.in_ok-bytes.mode) (sym c.as_slice.ensures.value) ∙ c.in_ok-nodes.ensures.made))
+    (made_by (g.M.Maker.makes c.args.maker.now) c.args.job _ _ _ _ _ c.as_slice.ensures.value refl c.in_ok-nodes.ensures.made))
     c.stage_job.ensures.came))
 
 pub returns-clause-met : goal.returns-clause-met
 returns-clause-met g c =
-    let fits : IsMaker (g.M.Maker.view c.args.maker.now) = search rules in
+    let fits : IsMaker (g.M.Maker.view c.args.maker.now) (g.M.Maker.makes c.args.maker.now) = search rules in
     record {
       bytes = _;
       mode = c.in_ok-bytes.mode;
       stands = c.in_ok-bytes.ensures.stood;
-      planned = fits.of_planned c.args.job _ c.in_ok-bytes.mode _ (ap (λ (b : List ℕ). (g.M.Maker.view c.args.maker.now).nodes c.args.job b c.in_ok-bytes.mode) (sym c.as_slice.ensures.value) ∙ c.in_ok-nodes.ensures.made);
+      planned = fits.of_planned c.args.job _ c.in_ok-bytes.mode _ (made_by (g.M.Maker.makes c.args.maker.now) c.args.job _ _ _ _ _ c.as_slice.ensures.value refl c.in_ok-nodes.ensures.made);
     }
+
+pub returns-in_err-bytes-clause-of_job : goal.returns-in_err-bytes-clause-of_job
+returns-in_err-bytes-clause-of_job g c = err_passed _ _ _ (IsOfJob c.args.job) (c.in_err-bytes.was) c.from_residual.ensures.1 c.read_job.ensures.of_job
+
+pub returns-in_err-bytes-clause-stands : goal.returns-in_err-bytes-clause-stands
+returns-in_err-bytes-clause-stands g c = err_passed _ _ _ _ (c.in_err-bytes.was) c.from_residual.ensures.1
+    (job_stood _ _ (core_of c.args.desk.now.core) _ c.args.job _ (new_uncommitted _ _ _ c.requires.may) c.read_job.ensures.of_job c.read_job.ensures.stands)
+
+pub returns-in_err-nodes-clause-of_job : goal.returns-in_err-nodes-clause-of_job
+returns-in_err-nodes-clause-of_job g c = err_passed _ _ _ (IsOfJob c.args.job) (c.in_err-nodes.was) c.from_residual-in_err-nodes.ensures.1
+    (made_of_job _ _ _ _ _ _ _ (subst (λ (b : List ℕ). IfErr c.make_nodes.result (MakeBlames (g.M.Maker.view c.args.maker.now) (g.M.Maker.makes c.args.maker.now) (g.M.Maker.refuses c.args.maker.now) c.args.job b c.in_ok-bytes.mode)) c.as_slice.ensures.value c.make_nodes.ensures.blame))
+
+pub returns-in_err-nodes-clause-stands : goal.returns-in_err-nodes-clause-stands
+returns-in_err-nodes-clause-stands g c = err_passed _ _ _ _ (c.in_err-nodes.was) c.from_residual-in_err-nodes.ensures.1
+    (job_stood _ _ (core_of c.args.desk.now.core) _ c.args.job _ (new_uncommitted _ _ _ c.requires.may)
+    (made_of_job _ _ _ _ _ _ _ (subst (λ (b : List ℕ). IfErr c.make_nodes.result (MakeBlames (g.M.Maker.view c.args.maker.now) (g.M.Maker.makes c.args.maker.now) (g.M.Maker.refuses c.args.maker.now) c.args.job b c.in_ok-bytes.mode)) c.as_slice.ensures.value c.make_nodes.ensures.blame))
+    (made_blames _ _ _ _ _ _ _ _ c.in_ok-bytes.ensures.stood (subst (λ (b : List ℕ). IfErr c.make_nodes.result (MakeBlames (g.M.Maker.view c.args.maker.now) (g.M.Maker.makes c.args.maker.now) (g.M.Maker.refuses c.args.maker.now) c.args.job b c.in_ok-bytes.mode)) c.as_slice.ensures.value c.make_nodes.ensures.blame)))
+
+pub returns-in_err-stage_job-clause-of_job : goal.returns-in_err-stage_job-clause-of_job
+returns-in_err-stage_job-clause-of_job g c = tree_of_job _ _ _ c.from_residual-in_err-stage_job.ensures.1
+
+pub returns-in_err-stage_job-clause-stands : goal.returns-in_err-stage_job-clause-stands
+returns-in_err-stage_job-clause-stands g c = tree_stood _ _ (core_of c.args.desk.now.core) _ _ _ c.from_residual-in_err-stage_job.ensures.1
