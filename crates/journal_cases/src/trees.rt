@@ -3,7 +3,6 @@ use file_tree::*;
 use std::alloc::{AllocError, Global};
 use std::io::ErrorKind;
 use std::os::unix::fs::MetadataExt;
-use std::os::unix::net::UnixListener;
 use std::process::Abort;
 use std::test::Fail;
 use std::{fs, io};
@@ -338,50 +337,29 @@ fn no_link_on_the_way_is_followed_below_the_folder_of_the_first_list(
     Ok(())
 }
 
-/// Looks at a name of 256 bytes and at a socket where nothing was listed.
-const UNLISTED: [(Step, &str); 3] = [
-    (
-        Step::Read(
-            "barred_test/in/nnnnnnnnnnnnnnnnnnnnnnnnnnnnnnnnnnnnnnnnnnnnnnnnnnnnnnnnnnnnnnnnnnnnnnnnnnnnnnnnnnnnnnnnnnnnnnnnnnnnnnnnnnnnnnnnnnnnnnnnnnnnnnnnnnnnnnnnnnnnnnnnnnnnnnnnnnnnnnnnnnnnnnnnnnnnnnnnnnnnnnnnnnnnnnnnnnnnnnnnnnnnnnnnnnnnnnnnnnnnnnnnnnnnnnnnnnnnnnnnnnnnnnnnnnnnnnnn",
-            0,
-        ),
-        "absent",
-    ),
-    (
-        Step::Read(
-            "barred_test/none/nnnnnnnnnnnnnnnnnnnnnnnnnnnnnnnnnnnnnnnnnnnnnnnnnnnnnnnnnnnnnnnnnnnnnnnnnnnnnnnnnnnnnnnnnnnnnnnnnnnnnnnnnnnnnnnnnnnnnnnnnnnnnnnnnnnnnnnnnnnnnnnnnnnnnnnnnnnnnnnnnnnnnnnnnnnnnnnnnnnnnnnnnnnnnnnnnnnnnnnnnnnnnnnnnnnnnnnnnnnnnnnnnnnnnnnnnnnnnnnnnnnnnnnnnnnnnnnn",
-            0,
-        ),
-        "absent",
-    ),
-    (Step::Read("barred_test/socket", 0), "absent"),
+/// A name of 256 bytes in a folder that is there.
+const TOO_LONG: &str =
+    "barred_test/in/nnnnnnnnnnnnnnnnnnnnnnnnnnnnnnnnnnnnnnnnnnnnnnnnnnnnnnnnnnnnnnnnnnnnnnnnnnnnnnnnnnnnnnnnnnnnnnnnnnnnnnnnnnnnnnnnnnnnnnnnnnnnnnnnnnnnnnnnnnnnnnnnnnnnnnnnnnnnnnnnnnnnnnnnnnnnnnnnnnnnnnnnnnnnnnnnnnnnnnnnnnnnnnnnnnnnnnnnnnnnnnnnnnnnnnnnnnnnnnnnnnnnnnnnnnnnnnnn";
+
+/// The same in one that isn't, and a name of 255 bytes there.
+const TOO_LONG_LATER: &str =
+    "barred_test/none/nnnnnnnnnnnnnnnnnnnnnnnnnnnnnnnnnnnnnnnnnnnnnnnnnnnnnnnnnnnnnnnnnnnnnnnnnnnnnnnnnnnnnnnnnnnnnnnnnnnnnnnnnnnnnnnnnnnnnnnnnnnnnnnnnnnnnnnnnnnnnnnnnnnnnnnnnnnnnnnnnnnnnnnnnnnnnnnnnnnnnnnnnnnnnnnnnnnnnnnnnnnnnnnnnnnnnnnnnnnnnnnnnnnnnnnnnnnnnnnnnnnnnnnnnnnnnnnn";
+
+const LONG_LATER: &str =
+    "barred_test/none/nnnnnnnnnnnnnnnnnnnnnnnnnnnnnnnnnnnnnnnnnnnnnnnnnnnnnnnnnnnnnnnnnnnnnnnnnnnnnnnnnnnnnnnnnnnnnnnnnnnnnnnnnnnnnnnnnnnnnnnnnnnnnnnnnnnnnnnnnnnnnnnnnnnnnnnnnnnnnnnnnnnnnnnnnnnnnnnnnnnnnnnnnnnnnnnnnnnnnnnnnnnnnnnnnnnnnnnnnnnnnnnnnnnnnnnnnnnnnnnnnnnnnnnnnnnnnnn";
+
+/// Looks at these names where nothing was listed.
+const UNLISTED: [(Step, &str); 2] = [
+    (Step::Read(TOO_LONG, 0), "absent"),
+    (Step::Read(TOO_LONG_LATER, 0), "absent"),
 ];
 
 /// The same below a folder that was listed.
-const LISTED: [(Step, &str); 6] = [
+const LISTED: [(Step, &str); 5] = [
     (Step::List("barred_test", 9), "paths barred_test/in/a"),
-    (
-        Step::Read(
-            "barred_test/in/nnnnnnnnnnnnnnnnnnnnnnnnnnnnnnnnnnnnnnnnnnnnnnnnnnnnnnnnnnnnnnnnnnnnnnnnnnnnnnnnnnnnnnnnnnnnnnnnnnnnnnnnnnnnnnnnnnnnnnnnnnnnnnnnnnnnnnnnnnnnnnnnnnnnnnnnnnnnnnnnnnnnnnnnnnnnnnnnnnnnnnnnnnnnnnnnnnnnnnnnnnnnnnnnnnnnnnnnnnnnnnnnnnnnnnnnnnnnnnnnnnnnnnnnnnnnnnnn",
-            0,
-        ),
-        "failed",
-    ),
-    (
-        Step::Read(
-            "barred_test/none/nnnnnnnnnnnnnnnnnnnnnnnnnnnnnnnnnnnnnnnnnnnnnnnnnnnnnnnnnnnnnnnnnnnnnnnnnnnnnnnnnnnnnnnnnnnnnnnnnnnnnnnnnnnnnnnnnnnnnnnnnnnnnnnnnnnnnnnnnnnnnnnnnnnnnnnnnnnnnnnnnnnnnnnnnnnnnnnnnnnnnnnnnnnnnnnnnnnnnnnnnnnnnnnnnnnnnnnnnnnnnnnnnnnnnnnnnnnnnnnnnnnnnnnnnnnnnnnn",
-            0,
-        ),
-        "failed",
-    ),
-    (
-        Step::Read(
-            "barred_test/none/nnnnnnnnnnnnnnnnnnnnnnnnnnnnnnnnnnnnnnnnnnnnnnnnnnnnnnnnnnnnnnnnnnnnnnnnnnnnnnnnnnnnnnnnnnnnnnnnnnnnnnnnnnnnnnnnnnnnnnnnnnnnnnnnnnnnnnnnnnnnnnnnnnnnnnnnnnnnnnnnnnnnnnnnnnnnnnnnnnnnnnnnnnnnnnnnnnnnnnnnnnnnnnnnnnnnnnnnnnnnnnnnnnnnnnnnnnnnnnnnnnnnnnnnnnnnnnn",
-            0,
-        ),
-        "absent",
-    ),
-    (Step::Read("barred_test/socket", 0), "failed"),
+    (Step::Read(TOO_LONG, 0), "failed"),
+    (Step::Read(TOO_LONG_LATER, 0), "failed"),
+    (Step::Read(LONG_LATER, 0), "absent"),
     (Step::Read("barred_test/in/b", 0), "absent"),
 ];
 
@@ -390,12 +368,18 @@ fn what_can_be_no_file_is_a_fault_below_the_folder_of_the_first_list(
     rt: HostRuntime,
 ) -> Result<(), Fail> {
     make_place(&rt, "barred_test")?;
-    let socket = UnixListener::bind(&rt, "barred_test/socket")?;
     let mut tree = OsTree::new(&rt);
     try_steps(&rt, rt.alloc(), &mut tree, &UNLISTED)?;
     let mut tree = OsTree::new(&rt);
     try_steps(&rt, rt.alloc(), &mut tree, &LISTED)?;
-    drop(socket);
+    let mut tree = OsTree::new(&rt);
+    let _ = tree.list("/dev", 0);
+    try_steps(
+        &rt,
+        rt.alloc(),
+        &mut tree,
+        &[(Step::Read("/dev/full", 0), "failed")],
+    )?;
     fs::remove_dir_all(&rt, "barred_test")?;
     Ok(())
 }
