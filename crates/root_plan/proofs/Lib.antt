@@ -17,3 +17,4 @@ pub mod UnionLaws
 pub mod JobLaws
 pub mod WholeLaws
 pub mod OneLaws
+pub mod RunPlanLaws

@@ -1,5 +1,5 @@
 -- What jobs make: steps, targets and nodes.
-use Rattle.std.proofs.Common.{◌≡◌, ◌≢◌, ℕ, zero, suc, ◌<◌, Bool, true, false, ◌&&◌, not, if◌then◌else◌, List, [], ◌∷◌, ◌++◌, length, map, get_or, refl, sym, ap, ◌∙◌, subst, arith, Option, Some, None, Result, Ok, Err}
+use Rattle.std.proofs.Common.{◌≡◌, ◌≢◌, ℕ, zero, suc, ◌<◌, Bool, true, false, ◌&&◌, not, if◌then◌else◌, List, [], ◌∷◌, ◌++◌, length, map, get_or, refl, sym, ap, ◌∙◌, subst, arith, Result, Ok, Err}
 use Rattle.std.specs.Prelude.{◌==◌, IsOkUnless, IfErr}
 use Rattle.std.proofs.lemmas.List.{append_assoc, append-nil, length-map, get_or-map}
 use Rattle.sha1.specs.Sha1.{sha1}
@@ -133,7 +133,7 @@ pub edited_only : (v : JudgeView) (job : JobLine) (mode : ℕ) (file : List ℕ)
     → EditedNodes v job file mode ns
 edited_only v job mode file ns e is = subst (EditedNodes v job file mode) (sym is) (edited_nodes.one_file e)
 
-pub ruleset end_rules = (edit_refused, edit.no_memory, split_refused, splits.no_memory, pair_made, split_ends, edited_only, edits.refused, edits.no_memory)
+pub ruleset end_rules = (edit.no_memory, splits.no_memory, pair_made, split_ends, edited_only, edits.refused, edits.no_memory)
 
 pub nodes_made : (v : JudgeView) (job : JobLine) (bytes file : List ℕ) (mode : ℕ) (ns : List Node) → same_text (sha1 bytes) job.digest ≡ true → v.edits bytes file
     → EditedNodes v job file mode ns → NodesOf v job bytes mode ns
@@ -174,7 +174,7 @@ module _ (v : JudgeView) (judge : IsJudge v) (edit_fails : List ℕ → Refusal 
   ends_edited e same is (edits.refused s f) = ends-split e same is s f
   ends_edited e same is edits.no_memory = ends.no_memory
 
-pub ruleset make_rules = (nodes_made, ends_changed, ends_edit, ends_edited)
+pub ruleset make_rules = (nodes_made, ends_changed, ends_edit)
 
 -- ### The view of a plan
 

@@ -1,5 +1,5 @@
 -- A tree that tells has one plan of a root, but for what skipped files are refused as; and beside a plan nothing ends it.
-use Rattle.std.proofs.Common.{◌≡◌, ℕ, suc, ◌≤◌, ◌<◌, Bool, true, false, List, [], ◌∷◌, ◌++◌, length, get_or, Option, Some, None, inl, inr, refl, sym, ap, ◌∙◌, subst, arith}
+use Rattle.std.proofs.Common.{◌≡◌, ℕ, suc, ◌≤◌, ◌<◌, Bool, true, false, List, [], ◌∷◌, ◌++◌, length, get_or, Option, Some, inl, inr, refl, sym, ap, ◌∙◌, subst, arith}
 use Rattle.std.proofs.lemmas.Bool.{cases_lt}
 use Rattle.std.proofs.lemmas.List.{same_from_push, length_push, get_or_append_left}
 use Rattle.std.proofs.Math.Seq.{get_or-append_seam}
@@ -194,8 +194,6 @@ module _ (root : List ℕ) (present : List (List ℕ)) (s : Settings) (v : Judge
 
   pub only_cut : (old new : Seen) (e : PlanErr) → PlanEnds old new root present s v fails e → OnlyCut old root present s v fails e
   only_cut old new e ended = record { cut = λ tree plan here order is. ends-cut tree old new plan e here order is ended }
-
-pub ruleset cut_rules = (only_cut)
 
 -- ### The walk
 

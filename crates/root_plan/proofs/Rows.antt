@@ -1,5 +1,5 @@
 -- The rows of what paths come to, for the functions that end by them.
-use Rattle.std.proofs.Common.{◌≡◌, ℕ, ◌≤◌, true, List, length, subst, Option, Result, Err}
+use Rattle.std.proofs.Common.{◌≡◌, ℕ, ◌≤◌, true, List, length, subst, arith, Option, Result, Err}
 use Rattle.std.specs.Prelude.{IsOkUnless}
 use Rattle.dw_base.specs.declared.fault.Refusal.{Refusal}
 use Rattle.dw_base.specs.declared.fault.Fault.{Fault}
@@ -7,8 +7,10 @@ use Rattle.dw_base.specs.declared.fault.Fault.TheVariants as fault
 use Rattle.file_tree.specs.declared.node.Found.{Found}
 use Rattle.file_tree.specs.Trees.{TreeMap}
 use Rattle.file_tree.specs.Seen.{Seen, now_of}
-use Rattle.file_tree.specs.Causes.{Stood}
-use Rattle.job_types.specs.Settings.{Settings}
+use Rattle.file_tree.specs.declared.node.Found.TheVariants as found
+use Rattle.dw_base.specs.Layout.{file_limit}
+use Rattle.file_tree.specs.Causes.{Stood, IsWithin}
+use Rattle.job_types.specs.Settings.{Settings, most_file}
 use Rattle.root_plan.specs.declared.plan_err.PlanErr.{PlanErr}
 use Rattle.root_plan.specs.Roots.{may_be_candidate, below_root, longest_path}
 use Rattle.root_plan.specs.Targets.{debug_name}
@@ -52,3 +54,9 @@ pub ruleset path_rows = (notes.apart, noted_found, ends_found, ends.failed, ends
 -- what stood there under a limit of the same number
 pub stood_by : (old : Option TreeMap) (path : List ℕ) (n : ℕ) (s : Settings) (what : Found) → n ≡ s.max_file → Stood old path n what → Stood old path s.max_file what
 stood_by old path n s what e stood = subst (λ (m : ℕ). Stood old path m what) e stood
+
+-- a file that was read is within the longest that may be asked for
+pub within_small : (most : ℕ) (what : Found) (bytes : List ℕ) (mode : ℕ) → what ≡ found.File bytes mode → most ≤ most_file → IsWithin most what → length bytes ≤ file_limit
+within_small most what bytes mode is low within =
+    let small : length bytes ≤ most = subst (λ (x : Found). IsWithin most x) is within in
+    omega (arith, small, low)

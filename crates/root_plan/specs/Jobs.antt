@@ -1,6 +1,6 @@
 -- What the jobs of a plan come of: files of the root. What a run knows of a root before it asks for the plan.
 use Rattle.std.specs.List.{All}
-use Rattle.std.specs.Prelude.{◌≡◌, ◌≤◌, ℕ, length, true, false, List, [], Option, Some, IsTrue, Contains}
+use Rattle.std.specs.Prelude.{◌≡◌, ◌≤◌, ℕ, length, true, false, List, [], Option, IsTrue, Contains}
 use Rattle.sha1.specs.Sha1.{sha1}
 use Rattle.file_tree.specs.declared.node.Found.TheVariants as found
 use Rattle.file_tree.specs.Trees.{TreeMap}

@@ -95,6 +95,20 @@ pub record IsPlanOf (old : Option TreeMap) (root : List ℕ) (present : List (Li
   pub can : CanBeMade present (new_paths root tally.jobs)
   pub within : plan_length plan ≤ text_limit
 
+-- these words, with files that are refused passed over
+abbrev pub skipping : Settings → Settings
+skipping s = record { maps = s.maps; build_id = s.build_id; seed = s.seed; skip = true; max_file = s.max_file }
+
+-- the plan that a run of these words carries out: its jobs don't depend on whether the words say that files that are refused
+-- are passed over, and its key says what they say
+pub record IsRunPlan (old : Option TreeMap) (root : List ℕ) (present : List (List ℕ)) (s : Settings) (v : JudgeView)
+    (fails : List ℕ → List ℕ → Refusal → Type 0) (plan : PlanData) : Type 0 where
+  pub tally : Tally
+  pub tallied : IsTallied old root present (skipping s) v fails tally
+  pub is : plan ≡ plan_of s tally
+  pub can : CanBeMade present (new_paths root tally.jobs)
+  pub within : plan_length plan ≤ text_limit
+
 -- why a root has no plan: the first of these that holds, file by file in byte order, then in this order; or a cut
 pub data PlanEnds (old new : Seen) (root : List ℕ) (present : List (List ℕ)) (s : Settings) (v : JudgeView)
     (fails : List ℕ → List ℕ → Refusal → Type 0) : PlanErr → Type 0 where

@@ -1,11 +1,11 @@
 //! What one path of a build root comes to.
 //!
 //! Read first: `specs/Tallies.antt`.
-ghost use Rattle.std.specs.Prelude.{◌≡◌, ◌≤◌, ◌<◌, ◌-◌, ◌^◌, length, IfOk, IfErr, OnOk};
+ghost use Rattle.std.specs.Prelude.{◌≡◌, ◌≤◌, ◌<◌, ◌-◌, ◌^◌, ℕ, List, length, IfOk, IfErr, OnOk};
 ghost use Rattle.file_tree.specs.Seen.{now_of};
 ghost use Rattle.root_plan.specs.Looks.{Looked};
 ghost use Rattle.dw_base.specs.Layout.{file_limit};
-ghost use Rattle.file_tree.specs.Causes.{IsWithin};
+ghost use Rattle.file_tree.specs.declared.node.Found.TheVariants as file;
 ghost use Rattle.root_plan.specs.Roots.{longest_path};
 ghost use Rattle.root_plan.specs.Verdicts.{IsUnsaid};
 ghost use Rattle.root_plan.specs.Tallies.{Noted, PathEnds, IsTooLong, FileNoted, FileEnds, CandidateNoted, CandidateEnds, LargeEnds, FoundNoted, FoundEnds};
@@ -137,7 +137,7 @@ fn note_found<J: Judge>(
     judge: &J,
     survey: Survey,
 ) -> Result<Survey, PlanErr>
-    requires within { IsWithin options.now.max_file found }
+    requires small { (bytes : List ℕ) (mode : ℕ) → found ≡ file.File bytes mode → length bytes ≤ file_limit }
     requires few { length survey.jobs < 2 ^ 32 - 1 }
     requires few_left { survey.left < 2 ^ 32 }
     ensures noted { IfOk result (FoundNoted options.now (J.view judge.now) (J.fails judge.now) path.now below.now found survey) }

@@ -7,7 +7,7 @@ ghost use Rattle.file_tree.specs.Seen.{now_of};
 ghost use Rattle.work_texts.specs.Rules.{text_limit};
 ghost use Rattle.root_plan.specs.Looks.{Looked};
 ghost use Rattle.root_plan.specs.Targets.{new_paths};
-ghost use Rattle.root_plan.specs.Plans.{key_of, plan_of, plan_length, IsLongPlan, CanBeMade, NewEnds, IsPlanOf, PlanEnds, OnlyCut};
+ghost use Rattle.root_plan.specs.Plans.{key_of, plan_of, plan_length, IsLongPlan, CanBeMade, NewEnds, IsPlanOf, IsRunPlan, PlanEnds, OnlyCut};
 ghost use Rattle.root_plan.specs.Jobs.{Serves};
 
 use crate::judge::Judge;
@@ -138,7 +138,7 @@ fn plan_root<T: Tree, J: Judge>(
 /// The plan of a build root: what becomes of its files, of which these are the paths in byte order, and all
 /// that is made of them. It is refused where a limit is passed, where a file is refused that isn't to be
 /// skipped, and where a path that is to be made is taken.
-#[tactic(auto, using(crate::proofs::OneLaws::cut_rules, crate::proofs::WholeLaws::serve_rules))]
+#[tactic(auto, using(crate::proofs::WholeLaws::serve_rules, crate::proofs::RunPlanLaws::run_rules))]
 pub fn make_plan<T: Tree, J: Judge>(
     alloc: Global,
     tree: &mut T,
@@ -148,6 +148,7 @@ pub fn make_plan<T: Tree, J: Judge>(
     judge: &J,
 ) -> Result<PlanData, PlanErr>
     ensures plan { IfOk result (IsPlanOf (now_of (T.seen tree.old)) root.now (map string_bytes present.now) options.now (J.view judge.now) (J.fails judge.now)) }
+    ensures carried { IfOk result (IsRunPlan (now_of (T.seen tree.old)) root.now (map string_bytes present.now) options.now (J.view judge.now) (J.fails judge.now)) }
     ensures ends { IfErr result (PlanEnds (T.seen tree.old) (T.seen tree.new) root.now (map string_bytes present.now) options.now (J.view judge.now) (J.fails judge.now)) }
     ensures looked { Looked (T.seen tree.old) (T.seen tree.new) }
     ensures whole { IfErr result (OnlyCut (T.seen tree.old) root.now (map string_bytes present.now) options.now (J.view judge.now) (J.fails judge.now)) }

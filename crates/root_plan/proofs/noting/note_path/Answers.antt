@@ -2,7 +2,7 @@
 use Rattle.std.proofs.Common.{ap}
 use Rattle.std.proofs.lemmas.Result.{err_from_is_err_and}
 use Rattle.job_types.specs.Settings.{Settings}
-use Rattle.root_plan.proofs.Rows.{noted_found, ends_found, stood_by}
+use Rattle.root_plan.proofs.Rows.{noted_found, ends_found, stood_by, within_small}
 use Rattle.root_plan.proofs.noting.note_path.Goals as goal
 
 pub returns-in_err-survey-clause-ends : goal.returns-in_err-survey-clause-ends
@@ -15,3 +15,6 @@ pub returns-clause-noted : goal.returns-clause-noted
 returns-clause-noted g c =
     noted_found _ _ _ _ _ _ _ c.in_ok-found.found _ _ c.in-Some.ensures.value
     (stood_by _ _ _ c.args.options.now _ (ap (λ (s : Settings). s.max_file) c.options.view_is) c.in_ok-found.ensures.told) c.in_ok-survey.ensures.noted
+
+pub note_found-requires-clause-small : goal.note_found-requires-clause-small
+note_found-requires-clause-small g c = λ bytes mode is. within_small _ c.in_ok-found.found bytes mode is c.options.invariant.greatest c.in_ok-found.ensures.within
