@@ -1,0 +1,5 @@
+pub mod VariableCounts
+pub mod GeneratedTexts
+pub mod GeneratedUnits
+pub mod GeneratedLines
+pub mod GeneratedFiles
