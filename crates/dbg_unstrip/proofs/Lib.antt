@@ -1,0 +1,15 @@
+pub mod NumberLaws
+pub mod MatchRows
+pub mod MatchLaws
+pub mod PairRows
+pub mod JoinedLaws
+pub mod UnstripRows
+pub mod SplitPairLaws
+pub mod KeptAgainLaws
+pub mod MatchAgainLaws
+pub mod FixedAgainLaws
+pub mod JoinedReadLaws
+pub mod JoinedBackLaws
+pub mod JoinedViewLaws
+pub mod JoinedLoadedLaws
+pub mod RejoinedLaws

@@ -1,0 +1,4 @@
+pub mod Matching
+pub mod Joined
+pub mod UnstripFails
+pub mod Rejoined
