@@ -1,5 +1,5 @@
 -- How long texts are: each field and the NUL behind it.
-use Rattle.std.proofs.Common.{◌≡◌, ℕ, ◌+◌, ◌≤◌, List, [], ◌∷◌, ◌++◌, length, refl, ap, ◌∙◌, arith}
+use Rattle.std.proofs.Common.{◌≡◌, ℕ, suc, ◌+◌, ◌≤◌, List, [], ◌∷◌, ◌++◌, length, refl, ap, ◌∙◌, arith}
 use Rattle.std.specs.Prelude.{codes}
 use Rattle.std.specs.List.{flat_map}
 use Rattle.std.specs.Fmt.{decimal}
@@ -8,7 +8,7 @@ use Rattle.dw_base.proofs.TextLaws.{laid_texts-append}
 use Rattle.work_texts.specs.declared.plan.PlanData.{PlanData}
 use Rattle.work_texts.specs.Fields.{Field, text_of, key_fields, job_fields, plan_fields, finished_fields}
 
-size-cons : (f : Field) (fs : List Field) → length (text_of (f ∷ fs)) ≡ length f + (1 + length (text_of fs))
+size-cons : (f : Field) (fs : List Field) → length (text_of (f ∷ fs)) ≡ length f + suc (length (text_of fs))
 size-cons f fs = length-append f (0 ∷ text_of fs)
 
 size-append : (fs gs : List Field) → length (text_of (fs ++ gs)) ≡ length (text_of fs) + length (text_of gs)
