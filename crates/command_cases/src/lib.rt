@@ -1,7 +1,9 @@
-//! Worked cases of the commands: their words, their ends, files that are split, and whole runs over trees in memory.
+//! Worked cases of the commands: their words, files that are rewritten, edited, split and shown, and whole runs over trees in memory,
+//! also such as a call that fails ends.
 //!
 //! This layer promises: each case ends as it says, by the rules and the expected values of other programs. It is a crate of its own, so
-//! that the functions of the commands' crates aren't proved a second time with their tests.
+//! that the functions of the commands' crates aren't proved a second time with their tests. What words, files and a status alone say
+//! of a command stands in `cases/`.
 //! Read first: `runs.rt`.
 #![tactic(auto)]
 
@@ -14,41 +16,15 @@ use dw_base::{Fault, OUTPUT_LIMIT};
 use std::alloc::Global;
 
 #[cfg(test)]
-mod build_ids;
-#[cfg(test)]
-mod ends;
+mod edits;
 #[cfg(test)]
 mod outcomes;
 #[cfg(test)]
-mod pairs;
-#[cfg(test)]
 mod runs;
-#[cfg(test)]
-mod settings;
-#[cfg(test)]
-mod show_files;
-#[cfg(test)]
-mod show_samples;
-#[cfg(test)]
-mod show_texts;
-#[cfg(test)]
-mod shown_file;
-#[cfg(test)]
-mod shown_macros;
-#[cfg(test)]
-mod shown_objects;
-#[cfg(test)]
-mod shown_units;
 #[cfg(test)]
 mod shows;
 #[cfg(test)]
-mod split_counts;
-#[cfg(test)]
 mod split_files;
-#[cfg(test)]
-mod split_runs;
-#[cfg(test)]
-mod split_shapes;
 #[cfg(test)]
 mod splits;
 #[cfg(test)]

@@ -1,164 +1,156 @@
-//! Line tables of made files, whole and damaged.
+//! A line table of version 2 that is read and written with mapped paths, and one of version 5.
 
-use crate::dw_lines_samples::{NEW, OLD, PLAIN, WIDE, file_with};
-use dw_base::{DebugSection, Order, put_number};
-use dw_lines::{Fault, FilePlace, Kind, LineTable, Refusal, TextPlace, Width};
+use crate::files::{Piece, Row, file_of};
+use dw_base::Order;
+use dw_lines::{Fault, FilePlace, LineTable, NewTexts, TextPlace, Width, WrittenTable};
+use dw_paths::Maps;
 use dw_view::View;
 use elf_file::ElfFile;
-use std::alloc::Global;
+use std::alloc::{AllocError, Global};
+use std::collections::HashMap;
 use std::process::Abort;
 use std::test::Fail;
 
-/// A text: section, place, length, and the place of its offset.
-type Text = (u32, u64, u64, u64);
+/// A table of version 2 and 59 bytes with a directory and a file (DWARF 2, 6.2.4).
+const OLD: Row = (
+    b".debug_line",
+    &[
+        Piece::Field("unit_length", 4, 0x37),
+        Piece::Field("version", 2, 2),
+        Piece::Field("header_length", 4, 0x24),
+        Piece::Field("minimum_instruction_length", 1, 1),
+        Piece::Field("default_is_stmt", 1, 1),
+        Piece::Field("line_base", 1, 0xfb),
+        Piece::Field("line_range", 1, 14),
+        Piece::Field("opcode_base", 1, 10),
+        Piece::Bytes(b"\0\x01\x01\x01\x01\0\0\0\x01"),
+        Piece::Text(b"/build/p/inc"),
+        Piece::Zeros(1),
+        Piece::Text(b"a.c"),
+        Piece::Field("directory index", 1, 0),
+        Piece::Field("time", 1, 0),
+        Piece::Field("size", 1, 0),
+        Piece::Zeros(1),
+        Piece::Bytes(b"\0\x05\x02\0\0\x10\0"),
+        Piece::Bytes(b"\x21\x21\x21\0\x01\x01"),
+    ],
+);
 
-/// The same, and the number of a directory.
-type File = (u32, u64, u64, u64, u64);
+/// The same with its directory mapped: both lengths are greater by 8.
+const WRITTEN: &[u8] =
+    b"\0\0\0\x3f\0\x02\0\0\0\x2c\x01\x01\xfb\x0e\x0a\0\x01\x01\x01\x01\0\0\0\x01/usr/src/debug/p/inc\0\0a.c\0\0\0\0\0\0\x05\x02\0\0\x10\0\x21\x21\x21\0\x01\x01";
 
-/// A table, and what is read of it.
-struct Row {
-    order: Order,
-    bytes: &'static [u8],
-    version: u16,
-    width: Width,
-    program: u64,
-    dirs: &'static [Text],
-    files: &'static [File],
-    defined: &'static [File],
+/// A table of version 5 with a directory and a file in `.debug_line_str` (DWARF 5, 6.2.4).
+const NEW: Row = (
+    b".debug_line",
+    &[
+        Piece::Field("unit_length", 4, 0x2a),
+        Piece::Field("version", 2, 5),
+        Piece::Field("address_size", 1, 8),
+        Piece::Field("segment_selector_size", 1, 0),
+        Piece::Field("header_length", 4, 0x22),
+        Piece::Field("minimum_instruction_length", 1, 1),
+        Piece::Field("maximum_operations_per_instruction", 1, 1),
+        Piece::Field("default_is_stmt", 1, 1),
+        Piece::Field("line_base", 1, 0xfb),
+        Piece::Field("line_range", 1, 14),
+        Piece::Field("opcode_base", 1, 13),
+        Piece::Bytes(b"\0\x01\x01\x01\x01\0\0\0\x01\0\0\x01"),
+        Piece::Field("directory_entry_format_count", 1, 1),
+        Piece::Field("DW_LNCT_path", 1, 1),
+        Piece::Field("DW_FORM_line_strp", 1, 0x1f),
+        Piece::Field("directories_count", 1, 1),
+        Piece::Field("directory 0", 4, 0),
+        Piece::Field("file_name_entry_format_count", 1, 1),
+        Piece::Field("DW_LNCT_path", 1, 1),
+        Piece::Field("DW_FORM_line_strp", 1, 0x1f),
+        Piece::Field("file_names_count", 1, 1),
+        Piece::Field("file 0", 4, 9),
+    ],
+);
+
+/// Its texts, at 0 and 9.
+const LINE_TEXTS: Row = (
+    b".debug_line_str",
+    &[Piece::Text(b"/build/p"), Piece::Text(b"a.c")],
+);
+
+/// A text of a section at a place, with the place of its offset.
+fn text(section: u32, at: u64, len: u64, field: u64) -> TextPlace {
+    TextPlace {
+        section,
+        at,
+        len,
+        field,
+    }
 }
 
-/// Tables, and what another program that was written from the same rules reads of them.
-const READ: [Row; 4] = [
-    Row {
-        order: Order::Big,
-        bytes: OLD,
-        version: 2,
-        width: Width::W32,
-        program: 41,
-        dirs: &[(1, 28, 3, 28)],
-        files: &[(1, 33, 3, 33, 1)],
-        defined: &[(1, 51, 5, 51, 1)],
-    },
-    Row {
-        order: Order::Little,
-        bytes: PLAIN,
-        version: 4,
-        width: Width::W32,
-        program: 51,
-        dirs: &[(1, 28, 12, 28)],
-        files: &[(1, 42, 4, 42, 0)],
-        defined: &[],
-    },
-    Row {
-        order: Order::Little,
-        bytes: NEW,
-        version: 5,
-        width: Width::W32,
-        program: 71,
-        dirs: &[(3, 0, 8, 34), (3, 0, 8, 38)],
-        files: &[(3, 9, 12, 50, 1)],
-        defined: &[],
-    },
-    Row {
-        order: Order::Little,
-        bytes: WIDE,
-        version: 5,
-        width: Width::W64,
-        program: 96,
-        dirs: &[(2, 0, 12, 50)],
-        files: &[(1, 69, 3, 69, 0), (1, 82, 3, 82, 128)],
-        defined: &[],
-    },
-];
+/// The new places that are known.
+fn known(alloc: Global, places: &[(u64, u64)]) -> Result<HashMap<u64, u64>, AllocError> {
+    let mut known = HashMap::new(alloc);
+    for (old, new) in places {
+        known.insert(*old, *new)?;
+    }
+    Ok(known)
+}
 
-/// A table, a place in it, another byte there, and how the table is refused with it, as that program says it.
-const DAMAGED: [(&[u8], u8, u8, Kind, u64); 19] = [
-    (PLAIN, 0, 0x40, Kind::Line, 0),
-    (PLAIN, 4, 0x06, Kind::Line, 0),
-    (PLAIN, 4, 0x01, Kind::Line, 0),
-    (PLAIN, 6, 0x28, Kind::Line, 0),
-    (PLAIN, 6, 0x3b, Kind::Line, 0),
-    (PLAIN, 11, 0x00, Kind::Line, 0),
-    (PLAIN, 15, 0x00, Kind::Line, 0),
-    (PLAIN, 14, 0x00, Kind::Line, 0),
-    (PLAIN, 17, 0x02, Kind::Line, 0),
-    (PLAIN, 52, 0x00, Kind::Line, 0),
-    (PLAIN, 52, 0x08, Kind::Line, 0),
-    (PLAIN, 65, 0x02, Kind::Line, 0),
-    (NEW, 32, 0x0b, Kind::Line, 0),
-    (NEW, 31, 0x02, Kind::Line, 0),
-    (NEW, 34, 0x16, Kind::StringOffset, 34),
-    (NEW, 46, 0x0d, Kind::Line, 0),
-    (NEW, 48, 0x01, Kind::Line, 0),
-    (NEW, 50, 0x16, Kind::StringOffset, 50),
-    (WIDE, 51, 0x0d, Kind::StringOffset, 50),
-];
-
-/// Where section 1 begins in a file of these tests.
-const LINE_PLACE: u64 = 64;
-
-/// The table of a file.
-fn table_of(rt: &impl Abort, alloc: Global, file: &[u8]) -> Result<LineTable, Fault> {
+/// The table of a file, read, and written with mapped paths; no memory where there is no map.
+fn read_and_written(
+    rt: &impl Abort,
+    alloc: Global,
+    file: &[u8],
+    line_str: &[(u64, u64)],
+) -> Result<(LineTable, WrittenTable), Fault> {
     assert!(rt; file.len() <= 0x8000_0000);
     let elf = ElfFile::read(alloc, file)?;
     let view = View::one(&elf)?;
-    assert!(rt; view.first(DebugSection::Line) == Some(1));
-    LineTable::read(alloc, &view, 1, 0)
-}
-
-/// A text as a row has it.
-fn text_row(text: &TextPlace) -> Text {
-    (text.section, text.at, text.len, text.field)
-}
-
-/// A file as a row has it.
-fn file_row(file: &FilePlace) -> File {
-    let text = file.text;
-    (text.section, text.at, text.len, text.field, file.dir)
-}
-
-/// These files are those of a row.
-fn check_files(rt: &impl Abort, files: &[FilePlace], rows: &[File]) {
-    assert_eq!(rt; files.len(), rows.len());
-    for (file, row) in files.iter().zip(rows.iter()) {
-        assert_eq!(rt; file_row(file), *row);
-    }
+    assert!(rt; 1 < view.section_count());
+    let table = LineTable::read(alloc, &view, 1, 0)?;
+    assert!(rt; table.section == 1);
+    assert!(rt; table.start == 0);
+    let Some(maps) = Maps::new(alloc, b"/build/p", b"/usr/src/debug/p")? else {
+        return Err(Fault::NoMemory);
+    };
+    let texts = NewTexts::new(known(alloc, &[])?, known(alloc, line_str)?);
+    let written = table.write_mapped(alloc, &view, &maps, &texts)?;
+    Ok((table, written))
 }
 
 #[test]
-fn a_table_is_the_one_that_stands_there(rt: HostRuntime) -> Result<(), Fail> {
-    for row in &READ {
-        let file = file_with(rt.alloc(), row.order, row.bytes)?;
-        let table = table_of(&rt, rt.alloc(), &file)?;
-        assert_eq!(rt; (table.start, table.end), (0, row.bytes.len() as u64));
-        assert_eq!(rt; (table.version, table.program), (row.version, row.program));
-        assert_eq!(rt; table.width, row.width);
-        assert_eq!(rt; table.dirs.len(), row.dirs.len());
-        for (dir, wanted) in table.dirs.iter().zip(row.dirs.iter()) {
-            assert_eq!(rt; text_row(dir), *wanted);
-        }
-        check_files(&rt, &table.files, row.files);
-        check_files(&rt, &table.defined, row.defined);
-    }
+fn a_table_with_paths_in_it_is_longer_by_what_they_grow(rt: HostRuntime) -> Result<(), Fail> {
+    let file = file_of(rt.alloc(), Order::Big, &[OLD])?;
+    let (table, written) = read_and_written(&rt, rt.alloc(), &file, &[])?;
+    assert_eq!(rt;
+        (table.version, table.width, table.end),
+        (2, Width::W32, 59)
+    );
+    assert_eq!(rt; table.dirs.as_slice(), [text(1, 24, 12, 24)].as_slice());
+    let file = FilePlace {
+        text: text(1, 38, 3, 38),
+        dir: 0,
+    };
+    assert_eq!(rt; table.files.as_slice(), [file].as_slice());
+    assert_eq!(rt; written.bytes.as_slice(), WRITTEN);
     Ok(())
 }
 
 #[test]
-fn a_damaged_table_is_refused_at_its_place(rt: HostRuntime) -> Result<(), Fail> {
-    for (line, place, byte, kind, offset) in DAMAGED {
-        let mut file = file_with(rt.alloc(), Order::Little, line)?;
-        assert!(rt;
-            put_number(
-                Order::Little,
-                &mut file,
-                LINE_PLACE + u64::from(place),
-                1,
-                u64::from(byte)
-            )
-        );
-        let answer = table_of(&rt, rt.alloc(), &file).map(|_table| ());
-        let wanted = Refusal::at(kind, 1, offset);
-        assert_eq!(rt; answer, Err(Fault::Refused(wanted)));
-    }
+fn a_table_with_offsets_keeps_its_length(rt: HostRuntime) -> Result<(), Fail> {
+    let file = file_of(rt.alloc(), Order::Little, &[NEW, LINE_TEXTS])?;
+    let places = [(0, 13), (9, 9)];
+    let (table, written) = read_and_written(&rt, rt.alloc(), &file, &places)?;
+    assert_eq!(rt;
+        (table.version, table.width, table.end),
+        (5, Width::W32, 46)
+    );
+    assert_eq!(rt; table.dirs.as_slice(), [text(2, 0, 8, 34)].as_slice());
+    let file = FilePlace {
+        text: text(2, 9, 3, 42),
+        dir: 0,
+    };
+    assert_eq!(rt; table.files.as_slice(), [file].as_slice());
+    assert_eq!(rt; written.bytes.len(), 46);
+    assert_eq!(rt; written.bytes.get(34).copied(), Some(13));
+    assert_eq!(rt; written.bytes.get(42).copied(), Some(9));
     Ok(())
 }

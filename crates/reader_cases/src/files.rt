@@ -1,6 +1,6 @@
-//! Files of the tests: in pieces, or of a few sections.
+//! Files of the tests: in pieces, whose fields have the names that the standards give them, or of a few sections.
 
-use dw_base::elf_numbers::{SHT_NULL, SHT_STRTAB};
+use dw_base::elf_numbers::{SHT_NULL, SHT_PROGBITS, SHT_STRTAB};
 use dw_base::{Class, Order};
 use std::alloc::{AllocError, Global};
 
@@ -10,6 +10,10 @@ pub enum Piece {
     Bytes(&'static [u8]),
     /// So many zeros.
     Zeros(usize),
+    /// A field: its name in the standard or the attribute that it is the value of, its size in bytes, and its number.
+    Field(&'static str, usize, u64),
+    /// A text, with its NUL behind it.
+    Text(&'static [u8]),
     /// A file header: type, machine, places of program and of section headers, number of program and of
     /// section headers, number of the name table.
     Header([u64; 7]),
@@ -125,7 +129,12 @@ fn push_section(
 }
 
 /// Appends a piece.
-fn push_piece(file: &mut Vec<u8>, sample: &Sample, piece: &Piece) -> Result<(), AllocError> {
+fn push_piece(
+    file: &mut Vec<u8>,
+    class: Class,
+    order: Order,
+    piece: &Piece,
+) -> Result<(), AllocError> {
     match piece {
         Piece::Bytes(bytes) => file.extend_from_slice(bytes),
         Piece::Zeros(count) => {
@@ -134,9 +143,15 @@ fn push_piece(file: &mut Vec<u8>, sample: &Sample, piece: &Piece) -> Result<(), 
             }
             Ok(())
         }
-        Piece::Header(header) => push_header(file, sample.class, sample.order, header),
-        Piece::Segment(numbers) => push_segment(file, sample.order, numbers),
-        Piece::Section(numbers) => push_section(file, sample.class, sample.order, numbers),
+        Piece::Field(_, size, value) => push_number(file, order, *size, *value),
+        Piece::Text(text) => {
+            file.extend_from_slice(text)?;
+            file.push(0)?;
+            Ok(())
+        }
+        Piece::Header(header) => push_header(file, class, order, header),
+        Piece::Segment(numbers) => push_segment(file, order, numbers),
+        Piece::Section(numbers) => push_section(file, class, order, numbers),
     }
 }
 
@@ -144,13 +159,13 @@ fn push_piece(file: &mut Vec<u8>, sample: &Sample, piece: &Piece) -> Result<(), 
 pub fn built(alloc: Global, sample: &Sample) -> Result<Vec<u8>, AllocError> {
     let mut file = Vec::new(alloc);
     for piece in sample.pieces {
-        push_piece(&mut file, sample, piece)?;
+        push_piece(&mut file, sample.class, sample.order, piece)?;
     }
     Ok(file)
 }
 
-/// A section: its name, type, flags and bytes.
-pub type Row<'a> = (&'a [u8], u32, u64, &'a [u8]);
+/// A section: its name and what it is made of.
+pub type Row = (&'static [u8], &'static [Piece]);
 
 /// The sections of a file of 64 bits so far: their bytes, their names and their headers.
 #[derive(Drop)]
@@ -161,38 +176,38 @@ struct Sections {
     headers: Vec<u8>,
 }
 
-/// Where the bytes of the next section begin, behind a file header of 64 bytes.
-fn next_place(sections: &Sections) -> u64 {
-    (sections.bytes.len() as u64).saturating_add(64)
-}
-
-/// Appends the name of a section and its header, for so many bytes that come next.
+/// Appends the name of a section and its header, where its bytes begin behind so many others.
 fn push_named(
     sections: &mut Sections,
     name: &[u8],
     kind: u32,
-    flags: u64,
+    before: usize,
     size: u64,
 ) -> Result<(), AllocError> {
     let at = sections.names.len() as u64;
-    let place = next_place(sections);
+    // behind a file header of 64 bytes
+    let place = (before as u64).saturating_add(64);
     let kind = u64::from(kind);
-    let numbers = [at, kind, flags, 0, place, size, 0, 0, 1, 0];
+    let numbers = [at, kind, 0, 0, place, size, 0, 0, 1, 0];
     push_section(&mut sections.headers, Class::C64, sections.order, &numbers)?;
     sections.names.extend_from_slice(name)?;
     sections.names.push(0)?;
     Ok(())
 }
 
-/// A file of 64 bits, of the type `kind`: its sections from number 1 on, and behind them a section name table that has
-/// a name itself.
-pub fn file_of(
-    alloc: Global,
-    order: Order,
-    kind: u16,
-    rows: &[Row],
-    table: &[u8],
-) -> Result<Vec<u8>, AllocError> {
+/// Appends a section.
+fn push_row(sections: &mut Sections, row: &Row) -> Result<(), AllocError> {
+    let (name, pieces) = *row;
+    let before = sections.bytes.len();
+    for piece in pieces {
+        push_piece(&mut sections.bytes, Class::C64, sections.order, piece)?;
+    }
+    let size = sections.bytes.len().saturating_sub(before) as u64;
+    push_named(sections, name, SHT_PROGBITS, before, size)
+}
+
+/// An executable file of 64 bits for x86-64: its sections from number 1 on, and behind them the section name table.
+pub fn file_of(alloc: Global, order: Order, rows: &[Row]) -> Result<Vec<u8>, AllocError> {
     let mut sections = Sections {
         order,
         bytes: Vec::new(alloc),
@@ -200,23 +215,54 @@ pub fn file_of(
         headers: Vec::new(alloc),
     };
     push_named(&mut sections, b"", SHT_NULL, 0, 0)?;
-    for (name, kind, flags, bytes) in rows {
-        push_named(&mut sections, name, *kind, *flags, bytes.len() as u64)?;
-        sections.bytes.extend_from_slice(bytes)?;
+    for row in rows {
+        push_row(&mut sections, row)?;
     }
-    let size = (sections.names.len() as u64).saturating_add(table.len() as u64 + 1);
-    push_named(&mut sections, table, SHT_STRTAB, 0, size)?;
+    let before = sections.bytes.len();
+    let size = (sections.names.len() as u64).saturating_add(10);
+    push_named(&mut sections, b".shstrtab", SHT_STRTAB, before, size)?;
     sections.bytes.extend_from_slice(&sections.names)?;
     let count = rows.len() as u64 + 2;
-    let place = next_place(&sections);
+    let place = (sections.bytes.len() as u64).saturating_add(64);
     let mut file = Vec::new(alloc);
-    push_header(
-        &mut file,
-        Class::C64,
-        order,
-        &[u64::from(kind), 62, 0, place, 0, count, count - 1],
-    )?;
+    let header = [2, 62, 0, place, 0, count, count - 1];
+    push_header(&mut file, Class::C64, order, &header)?;
     file.extend_from_slice(&sections.bytes)?;
     file.extend_from_slice(&sections.headers)?;
     Ok(file)
 }
+
+/// A unit of version 4 with one entry, its name and its directory (DWARF 5, 7.5).
+pub const UNIT: Row = (
+    b".debug_info",
+    &[
+        Piece::Field("unit_length", 4, 16),
+        Piece::Field("version", 2, 4),
+        Piece::Field("debug_abbrev_offset", 4, 0),
+        Piece::Field("address_size", 1, 8),
+        Piece::Field("abbreviation code", 1, 1),
+        Piece::Field("DW_AT_name", 4, 0),
+        Piece::Field("DW_AT_comp_dir", 4, 13),
+    ],
+);
+
+/// Its abbreviation.
+pub const ABBREVIATIONS: Row = (
+    b".debug_abbrev",
+    &[
+        Piece::Field("abbreviation code", 1, 1),
+        Piece::Field("DW_TAG_compile_unit", 1, 0x11),
+        Piece::Field("DW_CHILDREN_no", 1, 0),
+        Piece::Field("DW_AT_name", 1, 0x03),
+        Piece::Field("DW_FORM_strp", 1, 0x0e),
+        Piece::Field("DW_AT_comp_dir", 1, 0x1b),
+        Piece::Field("DW_FORM_strp", 1, 0x0e),
+        Piece::Zeros(3),
+    ],
+);
+
+/// Their texts, at 0 and 13.
+pub const TEXTS: Row = (
+    b".debug_str",
+    &[Piece::Text(b"/build/p/a.c"), Piece::Text(b"/build/p")],
+);

@@ -1,9 +1,9 @@
-//! Worked examples of paths, texts, and the readers of ELF files and debug data: what each call answers for them, and at which
-//! place it refuses them.
+//! Worked examples of paths, texts, and the readers of ELF files and debug data: what each call that takes memory answers, where
+//! there is enough.
 //!
-//! This layer promises: each file and each table of bytes in it is read, refused or written as its table says, by the expected
-//! values of other programs. It has a module for each crate that it tests, and is a crate of its own, so that their functions
-//! aren't proved a second time with their tests.
+//! This layer promises: each file and each table of bytes in it is read or written as its test says, by the expected values of other
+//! programs. It has a module for each crate that it tests, and is a crate of its own, so that their functions aren't proved a second
+//! time with their tests. What refuses files, and at which place, is seen by whole commands: `cases/` has that.
 //! Read first: `files.rt`, then the module of a crate.
 #![tactic(auto)]
 
@@ -15,43 +15,25 @@ use elf_file::ElfFile;
 use std::alloc::Global;
 
 #[cfg(test)]
-mod build_ident_samples;
-#[cfg(test)]
 mod build_ident_tests;
 #[cfg(test)]
 mod debug_link_tests;
-#[cfg(test)]
-mod dw_abbrev_samples;
 #[cfg(test)]
 mod dw_abbrev_tests;
 #[cfg(test)]
 mod dw_base_tests;
 #[cfg(test)]
-mod dw_entries_samples;
-#[cfg(test)]
 mod dw_entries_tests;
-#[cfg(test)]
-mod dw_fields_tests;
-#[cfg(test)]
-mod dw_forms_samples;
-#[cfg(test)]
-mod dw_forms_tests;
-#[cfg(test)]
-mod dw_lines_samples;
 #[cfg(test)]
 mod dw_lines_tests;
 #[cfg(test)]
-mod dw_lines_written_tests;
-#[cfg(test)]
 mod dw_macros_tests;
-#[cfg(test)]
-mod dw_offsets_name_tests;
 #[cfg(test)]
 mod dw_offsets_tests;
 #[cfg(test)]
-mod dw_paths_tests;
+mod dw_patch_tests;
 #[cfg(test)]
-mod dw_rows_tests;
+mod dw_paths_tests;
 #[cfg(test)]
 mod dw_sources_tests;
 #[cfg(test)]
@@ -59,19 +41,11 @@ mod dw_strings_tests;
 #[cfg(test)]
 mod dw_view_pair_tests;
 #[cfg(test)]
-mod dw_view_relocation_tests;
-#[cfg(test)]
 mod dw_view_tests;
-#[cfg(test)]
-mod elf_file_samples;
 #[cfg(test)]
 mod elf_file_tests;
 #[cfg(test)]
-mod elf_layout_samples;
-#[cfg(test)]
 mod elf_layout_tests;
-#[cfg(test)]
-mod elf_relocs_tests;
 #[cfg(test)]
 mod files;
 
