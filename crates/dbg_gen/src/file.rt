@@ -12,10 +12,6 @@ ghost use Rattle.dbg_gen.specs.GeneratedFiles.{file_header, file_with, generated
 use crate::counts::variable_counts;
 use crate::texts::texts_of;
 use crate::units::units_of;
-use dw_base::dwarf_numbers::{
-    DW_AT_comp_dir, DW_AT_name, DW_AT_stmt_list, DW_FORM_sec_offset, DW_TAG_compile_unit,
-    DW_TAG_variable,
-};
 use dw_base::elf_numbers::{SHT_NULL, SHT_PROGBITS, SHT_STRTAB};
 use dw_base::{Fault, NoMemory, Section};
 use elf_file::ElfFile;
@@ -39,20 +35,14 @@ const HEADER: [u8; 64] = [
     64, 0, 6, 0, 5, 0,
 ];
 
-/// The form of a text by its offset in `.debug_str` (DWARF 4, 7.5.4, class string).
-const TEXT_FORM: u8 = 0x0e;
-
-/// The abbreviations of a unit with its name, its directory and its line table, and of a variable with its name.
+/// The abbreviations (DWARF 4, 7.5.3).
 #[rattlefmt::skip]
 const ABBREVIATIONS: [u8; 19] = [
-    1, DW_TAG_compile_unit as u8, 1,
-    DW_AT_name as u8, TEXT_FORM,
-    DW_AT_comp_dir as u8, TEXT_FORM,
-    DW_AT_stmt_list as u8, DW_FORM_sec_offset as u8,
-    0, 0,
-    2, DW_TAG_variable as u8, 0,
-    DW_AT_name as u8, TEXT_FORM,
-    0, 0,
+    // 1: a compilation unit with children; its name and its directory by offsets of texts, and its line table
+    1, 17, 1, 3, 14, 27, 14, 16, 23, 0, 0,
+    // 2: a variable; its name by an offset of a text
+    2, 52, 0, 3, 14, 0, 0,
+    // the end
     0,
 ];
 
