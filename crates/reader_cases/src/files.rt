@@ -254,9 +254,9 @@ pub const ABBREVIATIONS: Row = (
         Piece::Field("DW_TAG_compile_unit", 1, 0x11),
         Piece::Field("DW_CHILDREN_no", 1, 0),
         Piece::Field("DW_AT_name", 1, 0x03),
-        Piece::Field("DW_FORM_strp", 1, 0x0e),
+        Piece::Field("form: strp", 1, 0x0e),
         Piece::Field("DW_AT_comp_dir", 1, 0x1b),
-        Piece::Field("DW_FORM_strp", 1, 0x0e),
+        Piece::Field("form: strp", 1, 0x0e),
         Piece::Zeros(3),
     ],
 );
