@@ -80,15 +80,16 @@ edit_due input output s limit old mid b mode t read calm free accepted tells =
 -- an edit is done where each of its steps is
 pub edit_done : (input output : List ℕ) (s : Settings) (limit : ℕ) (old mid far new : Seen) (b out : List ℕ) (mode : ℕ)
     → Stood (now_of old) input limit (found.File b mode) → Calm old mid → mid.tells ≡ old.tells → OutputFree (now_of mid) output → Calm mid far
-    → far.tells ≡ mid.tells → IsEditable s b → IsEdited s b out → ((o : List ℕ) → IsEdited s b o → o ≡ out) → Keeps s.maps b out
-    → now_of new ≡ option_map (with_node output (node.File out mode)) (now_of far) → (far.tells ≡ true → IsSettled new.past) → EditDone input output s limit old new
-edit_done input output s limit old mid far new b out mode read calm tells free still tell accepted is only keeps written settled = record {
+    → far.tells ≡ mid.tells → IsEditable s b → ((r : Refusal) → EditedFails s b r → ⊥) → IsEdited s b out → ((o : List ℕ) → IsEdited s b o → o ≡ out)
+    → Keeps s.maps b out → now_of new ≡ option_map (with_node output (node.File out mode)) (now_of far) → (far.tells ≡ true → IsSettled new.past) → EditDone input output s limit old new
+edit_done input output s limit old mid far new b out mode read calm tells free still tell accepted none is only keeps written settled = record {
   b = b;
   mode = mode;
   out = out;
   read = read;
   free = free_before old mid output calm free;
   accepted = accepted;
+  unrefused = none;
   is = is;
   only = only;
   keeps = keeps;
@@ -99,11 +100,11 @@ edit_done input output s limit old mid far new b out mode read calm tells free s
 -- and so is one with a list
 pub listed_done : (input output list : List ℕ) (s : Settings) (limit : ℕ) (old mid far last new : Seen) (b out text : List ℕ) (mode : ℕ)
     → Stood (now_of old) input limit (found.File b mode) → Calm old mid → mid.tells ≡ old.tells → OutputFree (now_of mid) output → Calm mid far
-    → far.tells ≡ mid.tells → OutputFree (now_of far) list → Calm far last → last.tells ≡ far.tells → IsEditable s b → IsEdited s b out
+    → far.tells ≡ mid.tells → OutputFree (now_of far) list → Calm far last → last.tells ≡ far.tells → IsEditable s b → ((r : Refusal) → EditedFails s b r → ⊥) → IsEdited s b out
     → ((o : List ℕ) → IsEdited s b o → o ≡ out) → Keeps s.maps b out → IsListText s.maps b text
     → now_of new ≡ option_map (with_node list (node.File text list_mode)) (option_map (with_node output (node.File out mode)) (now_of last))
     → (last.tells ≡ true → IsSettled new.past) → ListedDone input output list s limit old new
-listed_done input output list s limit old mid far last new b out text mode read calm tells free still tell also rest told accepted is only keeps listed written settled = record {
+listed_done input output list s limit old mid far last new b out text mode read calm tells free still tell also rest told accepted none is only keeps listed written settled = record {
   b = b;
   mode = mode;
   out = out;
@@ -112,6 +113,7 @@ listed_done input output list s limit old mid far last new b out text mode read 
   free = free_before old mid output calm free;
   list_free = free_before old mid list calm (free_before mid far list still also);
   accepted = accepted;
+  unrefused = none;
   is = is;
   only = only;
   keeps = keeps;

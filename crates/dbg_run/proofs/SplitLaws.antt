@@ -1,13 +1,14 @@
 -- Laws on the steps of a split.
-use Rattle.std.proofs.Common.{◌≡◌, ◌≢◌, ◌⊎◌, inl, inr, ℕ, true, List, Some, refl, sym, ap, ◌∙◌, subst}
+use Rattle.std.proofs.Common.{◌≡◌, ◌≢◌, ◌⊎◌, inl, inr, ℕ, true, false, List, Some, refl, sym, ap, ◌∙◌, subst}
 use Rattle.std.specs.Prelude.{Option, option_map}
 use Rattle.std.specs.Option.{ForSome}
 use Rattle.dw_base.specs.Refusals.{Blames}
+use Rattle.dw_base.specs.Texts.{has_nul}
 use Rattle.dw_base.specs.declared.fault.Fault.{Fault}
 use Rattle.dw_base.specs.declared.fault.Refusal.{Refusal}
 use Rattle.dw_meaning.specs.Loaded.{LoadedKept}
 use Rattle.dbg_split.specs.DebugFile.{debug_file}
-use Rattle.dbg_split.specs.PairMeanings.{MeansAsOne, ReadAsOne}
+use Rattle.dbg_split.specs.PairMeanings.{MeansAsOne, ReadApart}
 use Rattle.dbg_split.specs.PairViews.{JoinsTo}
 use Rattle.dbg_split.specs.SplitFails.{SplitFails}
 use Rattle.dbg_split.specs.StrippedFile.{stripped_file}
@@ -33,6 +34,7 @@ use Rattle.dbg_run.specs.Splits.{IsSplittable, Parts, SplitDone, SplitDue, Split
 use Rattle.dbg_run.specs.Splits.{Parts as parts, SplitEnds as splits}
 use Rattle.dw_base.specs.FileViews.{view_of}
 use Rattle.dw_view.specs.PairViews.{pair_view}
+use Rattle.dw_view.specs.Pairs.{IsPaired}
 use Rattle.dbg_show.specs.Shows.{IsShown}
 use Rattle.file_tree.specs.Heard.{Heard}
 use Rattle.dbg_run.proofs.ShowLaws.{shows_alike}
@@ -48,9 +50,10 @@ both_same path beside tree = same_both path beside tree tree refl
 pub is_splittable : (b name x n : List ℕ) → x ≡ b → n ≡ name → ((r : Refusal) → SplitFails x n r → ⊥) → IsSplittable b name
 is_splittable b name x n of_bytes of_name none = record { unrefused = subst (λ (m : List ℕ). (r : Refusal) → SplitFails b m r → ⊥) of_name (subst (λ (y : List ℕ). (r : Refusal) → SplitFails y n r → ⊥) of_bytes none) }
 
-pub are_parts : (b name x n s d : List ℕ) → x ≡ b → n ≡ name → JoinsTo x d s → MeansAsOne x d s → ReadAsOne x n d s → LoadedKept x s → Parts b name s d
-are_parts b name x n s d of_bytes of_name joins means read loaded =
-    subst (λ (m : List ℕ). Parts b m s d) of_name (subst (λ (y : List ℕ). Parts y n s d) of_bytes (parts.all joins means read loaded))
+pub are_parts : (b name x n s d : List ℕ) → x ≡ b → n ≡ name → JoinsTo x d s → MeansAsOne x d s → ReadApart x d s
+    → (has_nul n ≡ false → IsPaired s d n) → has_nul name ≡ false → LoadedKept x s → Parts b name s d
+are_parts b name x n s d of_bytes of_name joins means read paired plain loaded =
+    subst (λ (m : List ℕ). Parts b m s d) of_name (subst (λ (y : List ℕ). Parts y n s d) of_bytes (parts.all joins means read (paired (ap has_nul of_name ∙ plain)) loaded))
 
 -- what a fault of the splitting is blamed for, its end is
 pub split_blames : (path b name x n : List ℕ) (f : Fault) (e : End) → x ≡ b → n ≡ name → Blames (SplitFails x n) f → FaultEnds path f e → BlamesAt (SplitFails b name) path e
@@ -138,4 +141,4 @@ split_memory input stripped debug old new e (splits.done d) undone = absurd (und
 
 -- the stripped file and the debug file are shown together as the file is
 pub parts_shown : (b name s d : List ℕ) (heard said : Heard) → Parts b name s d → IsShown (view_of b) heard said → IsShown (pair_view d s) heard said
-parts_shown b name s d heard said (parts.all joins means read loaded) shown = shows_alike (view_of b) (pair_view d s) heard said (sym means.same_data) (sym means.same_moving) shown
+parts_shown b name s d heard said (parts.all joins means read paired loaded) shown = shows_alike (view_of b) (pair_view d s) heard said (sym means.same_data) (sym means.same_moving) shown

@@ -30,7 +30,7 @@ pub data RewriteEnds (path : List ℕ) (s : Settings) (b : List ℕ) : End → T
 pub data Keeps (m : PathMap) (b out : List ℕ) : Type 0 where
   both : MeaningKept m b out → LoadedKept b out → Keeps m b out
 
--- the edit is done: the input held a file that is taken, and a file might be put at the output; the output holds the
+-- the edit is done: the input held a file that is taken, which no condition refuses, and a file might be put at the output; the output holds the
 -- input's edited file with its mode, and nothing else changed
 pub record EditDone (input output : List ℕ) (s : Settings) (limit : ℕ) (old new : Seen) : Type 0 where
   pub b : List ℕ
@@ -39,6 +39,7 @@ pub record EditDone (input output : List ℕ) (s : Settings) (limit : ℕ) (old 
   pub read : Stood (now_of old) input limit (found.File b mode)
   pub free : OutputFree (now_of old) output
   pub accepted : IsEditable s b
+  pub unrefused : (r : Refusal) → EditedFails s b r → ⊥
   pub is : IsEdited s b out
   pub only : (o : List ℕ) → IsEdited s b o → o ≡ out
   pub keeps : Keeps s.maps b out
@@ -98,6 +99,7 @@ pub record ListedDone (input output list : List ℕ) (s : Settings) (limit : ℕ
   pub free : OutputFree (now_of old) output
   pub list_free : OutputFree (now_of old) list
   pub accepted : IsEditable s b
+  pub unrefused : (r : Refusal) → EditedFails s b r → ⊥
   pub is : IsEdited s b out
   pub only : (o : List ℕ) → IsEdited s b o → o ≡ out
   pub keeps : Keeps s.maps b out

@@ -4,10 +4,11 @@ use Rattle.std.specs.FinMap as fin
 use Rattle.dw_base.specs.declared.fault.Refusal.{Refusal}
 use Rattle.dw_meaning.specs.Loaded.{LoadedKept}
 use Rattle.dbg_split.specs.DebugFile.{debug_file}
-use Rattle.dbg_split.specs.PairMeanings.{MeansAsOne, ReadAsOne}
+use Rattle.dbg_split.specs.PairMeanings.{MeansAsOne, ReadApart}
 use Rattle.dbg_split.specs.PairViews.{JoinsTo}
 use Rattle.dbg_split.specs.SplitFails.{SplitFails}
 use Rattle.dbg_split.specs.StrippedFile.{stripped_file}
+use Rattle.dw_view.specs.Pairs.{IsPaired}
 use Rattle.file_tree.specs.declared.node.Found.{Found}
 use Rattle.file_tree.specs.declared.node.Found.TheVariants as found
 use Rattle.file_tree.specs.declared.node.Node.TheVariants as node
@@ -27,9 +28,9 @@ pub record IsSplittable (b name : List ℕ) : Type 0 where
   pub unrefused : (r : Refusal) → SplitFails b name r → ⊥
 
 -- what a stripped file and its debug file keep of a file: together they have its sections and mean what it means, each can be read
--- where it can, and what is loaded of the stripped file is what was loaded of it
+-- where it can, they are a pair by this name, and what is loaded of the stripped file is what was loaded of it
 pub data Parts (b name stripped debug : List ℕ) : Type 0 where
-  all : JoinsTo b debug stripped → MeansAsOne b debug stripped → ReadAsOne b name debug stripped → LoadedKept b stripped
+  all : JoinsTo b debug stripped → MeansAsOne b debug stripped → ReadApart b debug stripped → IsPaired stripped debug name → LoadedKept b stripped
       → Parts b name stripped debug
 
 -- the split is done: the input held a file that can be split, and files might be put at both paths; the debug file's path holds the

@@ -5,7 +5,8 @@ ghost use Rattle.std.specs.Option.{ForSome};
 ghost use Rattle.dw_base.specs.FileViews.{view_of};
 ghost use Rattle.dw_base.specs.Layout.{output_limit};
 ghost use Rattle.dw_lines.specs.ViewTables.{TablesFound};
-ghost use Rattle.dbg_job.specs.EditedFiles.{IsEditable, IsEdited};
+ghost use Rattle.dw_base.specs.declared.fault.Refusal.{Refusal};
+ghost use Rattle.dbg_job.specs.EditedFiles.{EditedFails, IsEditable, IsEdited};
 ghost use Rattle.file_tree.specs.Seen.{now_of};
 ghost use Rattle.file_tree.specs.declared.node.Node.TheVariants as node;
 ghost use Rattle.file_tree.specs.Trees.{stands_at, with_node};
@@ -43,6 +44,7 @@ fn edited_bytes<'a>(
     ensures only { IfOk result (λ out. (o : List ℕ) → IsEdited options.now bytes.now.items o → o ≡ out.file) }
     ensures keeps { IfOk result (λ out. Keeps options.now.maps bytes.now.items out.file) }
     ensures tables { IfOk result (λ out. TablesFound (view_of bytes.now.items) out.tables.items) }
+    ensures none { OnOk result ((r : Refusal) → EditedFails options.now bytes.now.items r → ⊥) }
     ensures ends { IfErr result (RewriteEnds path.now options.now bytes.now.items) }
     ensures due { IfErr result (λ e. Where (IsEditable options.now bytes.now.items) (status_of e ≡ 0) (status_of e ≡ 3) ⊎ IsCut (status_of e)) }
     ensures not_done { IfErr result (λ e. 0 ≢ status_of e) }

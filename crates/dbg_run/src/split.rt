@@ -1,7 +1,8 @@
 //! The command `split`: a file in two, one without debug data and symbols that still runs, and a debug file to which it links.
-ghost use Rattle.std.specs.Prelude.{◌≡◌, ◌≢◌, ◌⊎◌, ◌≤◌, true, length, IfOk, IfErr, OnOk, option_map};
+ghost use Rattle.std.specs.Prelude.{◌≡◌, ◌≢◌, ◌⊎◌, ◌≤◌, true, false, length, IfOk, IfErr, OnOk, option_map};
 ghost use Rattle.std.specs.Option.{ForSome};
 ghost use Rattle.dw_base.specs.Layout.{output_limit};
+ghost use Rattle.dw_base.specs.Texts.{has_nul};
 ghost use Rattle.dbg_split.specs.DebugFile.{debug_file};
 ghost use Rattle.dbg_split.specs.SplitFails.{SplitFails};
 ghost use Rattle.dbg_split.specs.StrippedFile.{stripped_file};
@@ -34,6 +35,7 @@ fn split_file<'a>(
     debug: &str,
 ) -> Result<Pair<'a>, End>
     requires small { length bytes.now.items ≤ output_limit }
+    requires plain { has_nul (base_name debug.now) ≡ false }
     ensures splittable { OnOk result (IsSplittable bytes.now.items (base_name debug.now)) }
     ensures stripped { IfOk result (λ pair. pair.stripped.items ≡ stripped_file bytes.now.items (base_name debug.now)) }
     ensures debug { IfOk result (λ pair. pair.debug ≡ debug_file bytes.now.items) }
@@ -84,7 +86,7 @@ fn write_pair<T: Tree>(
 }
 
 /// Reads the input, looks whether the two files may be put, splits the input, and writes the debug file and then the
-/// stripped file.
+/// stripped file. No word of a command has a NUL, so neither does a name of one.
 #[tactic(auto, using(crate::proofs::Rows::split_rows))]
 fn split_steps<T: Tree>(
     alloc: Global,
@@ -93,6 +95,7 @@ fn split_steps<T: Tree>(
     debug: &str,
     tree: &mut T,
 ) -> Result<(), End>
+    requires plain { has_nul (base_name debug.now) ≡ false }
     ensures done { OnOk result (SplitDone input.now stripped.now debug.now (T.seen tree.old) (T.seen tree.new)) }
     ensures ends { IfErr result (SplitEnds input.now stripped.now debug.now (T.seen tree.old) (T.seen tree.new)) }
     ensures due { IfErr result (λ e. ForSome (now_of (T.seen tree.old)) (λ t. SplitDue (base_name debug.now) (stands_at t input.now most_file) (stands_at t stripped.now 0) (stands_at t debug.now 0) (status_of e) ⊎ IsCut (status_of e))) }
@@ -125,6 +128,7 @@ fn split_steps<T: Tree>(
 /// which a file may be executed, and then the stripped file's to the stripped file, with the input's mode.
 #[tactic(auto, using(crate::proofs::Rows::split_rows))]
 pub fn split<T: Tree>(alloc: Global, input: &str, stripped: &str, debug: &str, tree: &mut T) -> End
+    requires plain { has_nul (base_name debug.now) ≡ false }
     ensures ends { SplitEnds input.now stripped.now debug.now (T.seen tree.old) (T.seen tree.new) result }
     ensures done { 0 ≡ status_of result → SplitDone input.now stripped.now debug.now (T.seen tree.old) (T.seen tree.new) }
     ensures due { ForSome (now_of (T.seen tree.old)) (λ t. SplitDue (base_name debug.now) (stands_at t input.now most_file) (stands_at t stripped.now 0) (stands_at t debug.now 0) (status_of result) ⊎ IsCut (status_of result)) }
