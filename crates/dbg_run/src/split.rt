@@ -1,5 +1,5 @@
 //! The command `split`: a file in two, one without debug data and symbols that still runs, and a debug file to which it links.
-ghost use Rattle.std.specs.Prelude.{◌≡◌, ◌≢◌, ◌⊎◌, ◌≤◌, true, false, length, IfOk, IfErr, OnOk, option_map};
+ghost use Rattle.std.specs.Prelude.{◌≡◌, ◌≢◌, ◌⊎◌, ◌≤◌, [], ◌∷◌, true, false, length, IfOk, IfErr, OnOk, option_map};
 ghost use Rattle.std.specs.Option.{ForSome};
 ghost use Rattle.dw_base.specs.Layout.{output_limit};
 ghost use Rattle.dw_base.specs.Texts.{has_nul};
@@ -12,9 +12,10 @@ ghost use Rattle.file_tree.specs.Seen.{now_of};
 ghost use Rattle.file_tree.specs.declared.node.Node.TheVariants as node;
 ghost use Rattle.file_tree.specs.Trees.{stands_at, with_node};
 ghost use Rattle.file_tree.specs.Causes.{Rose};
+ghost use Rattle.file_tree.specs.Moments.{adds_all};
 ghost use Rattle.dbg_ends.specs.Ends.{status_of};
 ghost use Rattle.dbg_ends.specs.Due.{Where, IsCut, IsRefusal};
-ghost use Rattle.dbg_ends.specs.Steps.{BlamesAt, IsSettled, OnlyAtBoth, OutputsEnd};
+ghost use Rattle.dbg_ends.specs.Steps.{BlamesAt, OnlyAtBoth, OutputsEnd, all_stored, file_put};
 ghost use Rattle.dbg_run.specs.Shows.{base_name};
 ghost use Rattle.dbg_run.specs.Splits.{IsSplittable, Parts, SplitDone, SplitDue, SplitEnds};
 
@@ -68,7 +69,7 @@ fn write_pair<T: Tree>(
     ensures done { OnOk result (now_of (T.seen tree.new) ≡ option_map (with_node stripped.now (node.File pair.entry.stripped.items mode)) (option_map (with_node debug.now (node.File pair.entry.debug debug_mode)) (now_of (T.seen tree.old)))) }
     ensures ends { IfErr result (OutputsEnd debug.now stripped.now (T.seen tree.old) (T.seen tree.new)) }
     ensures due { IfErr result (λ e. IsCut (status_of e)) }
-    ensures settled { (T.seen tree.old).tells ≡ true → OnOk result (IsSettled (T.seen tree.new).past) }
+    ensures calls { (T.seen tree.old).tells ≡ true → OnOk result ((T.seen tree.new).past ≡ adds_all (T.seen tree.old).past (file_put debug.now pair.entry.debug debug_mode ∷ file_put stripped.now pair.entry.stripped.items mode ∷ all_stored ∷ [])) }
     ensures not_done { IfErr result (λ e. 0 ≢ status_of e) }
     ensures not_usage { IfErr result (λ e. 2 ≢ status_of e) }
     ensures not_output { IfErr result (λ e. 7 ≢ status_of e) }
