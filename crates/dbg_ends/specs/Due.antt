@@ -47,6 +47,15 @@ pub data IsRefusal (n : ℕ) : Type 0 where
   limit : n ≡ 8 → IsRefusal n
   no_pair : n ≡ 12 → IsRefusal n
 
+-- statuses of a run that come before it has a plan, so before it changes anything
+pub data IsUnplanned (n : ℕ) : Type 0 where
+  usage : n ≡ 2 → IsUnplanned n
+  no_file : n ≡ 4 → IsUnplanned n
+  taken : n ≡ 5 → IsUnplanned n
+  limit : n ≡ 8 → IsUnplanned n
+  other_run : n ≡ 9 → IsUnplanned n
+  plan_text : n ≡ 11 → IsUnplanned n
+
 -- the status is this one only where it is due, and is it wherever it is due, those aside that may come in its place
 pub record Exactly (cut : ℕ → Type 0) (answer status : ℕ) (due : Type 0) : Type 0 where
   pub only : answer ≡ status → due ⊎ cut status

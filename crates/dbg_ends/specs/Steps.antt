@@ -5,10 +5,13 @@ use Rattle.dw_base.specs.declared.fault.Fault.{Fault}
 use Rattle.dw_base.specs.declared.fault.Fault.TheVariants.{Refused}
 use Rattle.dw_base.specs.declared.fault.Refusal.{Refusal}
 use Rattle.file_tree.specs.declared.node.Found.TheVariants as found
+use Rattle.file_tree.specs.declared.node.Node.TheVariants as node
 use Rattle.file_tree.specs.declared.call.Call.TheVariants as call
+use Rattle.file_tree.specs.declared.call.Change.TheVariants as change
 use Rattle.file_tree.specs.declared.call.Effect.TheVariants as effect
 use Rattle.file_tree.specs.Trees.{TreeMap, stands_at}
-use Rattle.file_tree.specs.Seen.{Seen, Past, adds, now_of}
+use Rattle.file_tree.specs.Moments.{LooksOnly, adds_all}
+use Rattle.file_tree.specs.Seen.{Seen, Past, Happened, now_of}
 use Rattle.file_tree.specs.Causes.{Rose, Stood, OnlyAt}
 use Rattle.dbg_ends.specs.Due.{IsFree}
 use Rattle.dbg_ends.specs.declared.end.End.{End}
@@ -60,7 +63,16 @@ pub data OutputsEnd (path beside : List ℕ) (old new : Seen) : End → Type 0 w
   failed : Rose old.faults new.faults → OnlyAtBoth path beside (now_of old) (now_of new) → OutputsEnd path beside old new end.TreeFault
   memory : OnlyAtBoth path beside (now_of old) (now_of new) → OutputsEnd path beside old new end.NoMemory
 
--- the last call stored all changes
-pub record IsSettled (past : Past) : Type 0 where
-  pub before : Past
-  pub is : past ≡ adds before call.Settle effect.Settled
+-- a call set a path to a file
+abbrev pub file_put : List ℕ → List ℕ → ℕ → Happened
+file_put path bytes mode = record { call = call.Put path; effect = effect.Changed (change.Put path (node.File bytes mode)) }
+
+-- a call stored all changes
+abbrev pub all_stored : Happened
+all_stored = record { call = call.Settle; effect = effect.Settled }
+
+-- the tree was looked at, and then these calls were made, in this order
+pub record LooksThen (old new : Past) (calls : List Happened) : Type 0 where
+  pub mid : Past
+  pub looks : LooksOnly old mid
+  pub behind : new ≡ adds_all mid calls

@@ -6,6 +6,7 @@ use dw_base::Refusal;
 use dw_view::Mismatch;
 use file_tree::{Text, TreeErr};
 use std::alloc::AllocError;
+use work_texts::WorkFile;
 
 /// How a command ends. Each end has a status and, but for `Done`, one line on the error sink.
 #[derive(Drop, Debug)]
@@ -26,6 +27,18 @@ pub enum End {
     Taken { path: Text },
     /// The file at the path has this many bytes, more than may be read.
     Limit { path: Text, size: u64 },
+    /// More paths lie below the build root than may.
+    Entries,
+    /// The path is longer than a path may be.
+    LongPath { path: Text },
+    /// The plan of a run would have more bytes than may be read.
+    LongPlan,
+    /// The work folder is of a run with another key, of which the field of this number is the first that differs.
+    OtherRun { field: u8 },
+    /// The file at the path isn't the one that was planned.
+    Changed { path: Text },
+    /// The text of the work folder isn't one that this program writes: its first bad field begins at this place.
+    PlanText { file: WorkFile, at: u64 },
     /// A call of the tree failed.
     TreeFault,
     /// A write to the output failed.
@@ -74,6 +87,12 @@ pub fn status(end: &End) -> u8
         End::TreeFault => 6,
         End::OutputFault => 7,
         End::Limit { .. } => 8,
+        End::Entries => 8,
+        End::LongPath { .. } => 8,
+        End::LongPlan => 8,
+        End::OtherRun { .. } => 9,
+        End::Changed { .. } => 10,
+        End::PlanText { .. } => 11,
         End::NotAPair(_) => 12,
         End::NoMemory => 13,
     }

@@ -1,15 +1,17 @@
 //! The step that reads an input.
-ghost use Rattle.std.specs.Prelude.{◌≡◌, ◌≢◌, ◌≤◌, ◌⊎◌, length, IfOk, IfErr};
+ghost use Rattle.std.specs.Prelude.{◌≡◌, ◌≢◌, ◌≤◌, ◌⊎◌, true, length, IfOk, IfErr};
 ghost use Rattle.std.specs.Option.{ForSome};
 ghost use Rattle.file_tree.specs.declared.node.Found.TheVariants as found;
 ghost use Rattle.file_tree.specs.Seen.{now_of};
 ghost use Rattle.file_tree.specs.Trees.{stands_at};
 ghost use Rattle.file_tree.specs.Causes.{Rose, Stood, Calm};
+ghost use Rattle.file_tree.specs.Moments.{LooksOnly};
 ghost use Rattle.dbg_ends.specs.Ends.{status_of};
 ghost use Rattle.dbg_ends.specs.Due.{InputDue, IsCut};
 ghost use Rattle.dbg_ends.specs.Steps.{InputEnds};
 
 use crate::end::End;
+use crate::looking::look;
 use file_tree::{Found, Text, Tree};
 use std::alloc::Global;
 
@@ -32,9 +34,10 @@ pub fn read_input<T: Tree>(
     ensures not_output { IfErr result (λ e. 7 ≢ status_of e) }
     ensures fault { IfErr result (λ e. status_of e ≡ 6 → Rose (T.seen tree.old).faults (T.seen tree.new).faults) }
     ensures kept { Calm (T.seen tree.old) (T.seen tree.new) }
+    ensures looks { (T.seen tree.old).tells ≡ true → LooksOnly (T.seen tree.old).past (T.seen tree.new).past }
     ensures tells { (T.seen tree.new).tells ≡ (T.seen tree.old).tells }
 {
-    let found = tree.read(path, limit)?;
+    let found = look(path, limit, tree)?;
     match found {
         Found::File { bytes, mode } => Ok((bytes.into_vec(), mode)),
         Found::Absent => Err(End::Absent {

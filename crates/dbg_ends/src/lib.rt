@@ -31,6 +31,7 @@ pub mod end;
 pub mod fault;
 pub mod input;
 pub mod line;
+mod looking;
 pub mod output;
 pub mod telling;
 

@@ -2,13 +2,14 @@
 ghost use Rattle.std.specs.Prelude.{◌≡◌, IfOk};
 ghost use Rattle.std.specs.String.{string_bytes};
 ghost use Rattle.dbg_ends.specs.declared.end.End.TheVariants as end;
-ghost use Rattle.dbg_ends.specs.Ends.{line_of, mismatch_text};
+ghost use Rattle.dbg_ends.specs.Ends.{field_text, line_of, mismatch_text, work_file_text};
 
 use crate::end::End;
 use dw_base::Refusal;
 use dw_view::Mismatch;
 use job_types::kind_name;
 use std::alloc::{AllocError, Global};
+use work_texts::WorkFile;
 
 /// The line of a refusal of the file at the path.
 #[tactic(auto, unfolding(crate::specs::Ends::line_of))]
@@ -39,6 +40,51 @@ fn mismatch_name(mismatch: &Mismatch) -> &'static str
         Mismatch::Name { .. } => "name",
         Mismatch::Sum { .. } => "sum",
     }
+}
+
+/// The option of the field of this number in a run's key, as it is printed; nothing where there is no such field.
+#[tactic(auto, using(crate::proofs::LineLaws::field_rules))]
+fn field_name(field: u8) -> &'static str
+    ensures text { result.now ≡ field_text field }
+{
+    match field {
+        0 => "base-dir",
+        1 => "dest-dir",
+        2 => "build-id",
+        3 => "seed",
+        4 => "skip-refused",
+        5 => "max-file",
+        _ => "",
+    }
+}
+
+/// The line of a work folder of a run with another key.
+#[tactic(auto, unfolding(crate::specs::Ends::line_of))]
+fn other_run_line(alloc: Global, field: u8) -> Result<String, AllocError>
+    ensures text { IfOk result (λ s. string_bytes s ≡ line_of (end.OtherRun field)) }
+{
+    let option = field_name(field);
+    format!(in alloc; "other run: {option}\n")
+}
+
+/// The name of a text of the work folder.
+#[tactic(auto, unfolding(crate::specs::Ends::work_file_text))]
+fn work_file_name(file: WorkFile) -> &'static str
+    ensures text { result.now ≡ work_file_text file }
+{
+    match file {
+        WorkFile::Plan => "plan",
+        WorkFile::Finished => "finished",
+    }
+}
+
+/// The line of a text of the work folder that has its first bad field at this place.
+#[tactic(auto, unfolding(crate::specs::Ends::line_of))]
+fn plan_text_line(alloc: Global, file: WorkFile, at: u64) -> Result<String, AllocError>
+    ensures text { IfOk result (λ s. string_bytes s ≡ line_of (end.PlanText file at)) }
+{
+    let name = work_file_name(file);
+    format!(in alloc; "plan text: {name} offset {at}\n")
 }
 
 /// The line where there was not enough memory.
@@ -75,6 +121,18 @@ pub fn line(alloc: Global, end: &End) -> Result<String, AllocError>
             format!(in alloc; "taken: {path}\n")
         }
         End::Limit { path, size } => limit_line(alloc, path.as_str(), *size),
+        End::Entries => String::from_str(alloc, "limit: entries\n"),
+        End::LongPath { path } => {
+            let path = path.as_str();
+            format!(in alloc; "limit: path {path}\n")
+        }
+        End::LongPlan => String::from_str(alloc, "limit: plan\n"),
+        End::OtherRun { field } => other_run_line(alloc, *field),
+        End::Changed { path } => {
+            let path = path.as_str();
+            format!(in alloc; "changed: {path}\n")
+        }
+        End::PlanText { file, at } => plan_text_line(alloc, *file, *at),
         End::NotAPair(mismatch) => {
             let why = mismatch_name(mismatch);
             format!(in alloc; "not a pair: {why}\n")

@@ -1,15 +1,17 @@
 //! The steps that look at an output's path and that write it.
-ghost use Rattle.std.specs.Prelude.{◌≡◌, ◌≢◌, ◌≤◌, ◌⊎◌, true, flat_map, IfErr, OnOk, option_map};
+ghost use Rattle.std.specs.Prelude.{◌≡◌, ◌≢◌, ◌≤◌, ◌⊎◌, [], ◌∷◌, true, flat_map, IfErr, OnOk, option_map};
 ghost use Rattle.std.specs.Option.{ForSome};
 ghost use Rattle.file_tree.specs.declared.node.Node.TheVariants as node;
 ghost use Rattle.file_tree.specs.Seen.{now_of};
 ghost use Rattle.file_tree.specs.Trees.{stands_at, with_node};
 ghost use Rattle.file_tree.specs.Causes.{Rose, Calm, OnlyAt};
+ghost use Rattle.file_tree.specs.Moments.{LooksOnly, adds_all};
 ghost use Rattle.dbg_ends.specs.Ends.{status_of};
 ghost use Rattle.dbg_ends.specs.Due.{OutputDue, IsCut};
-ghost use Rattle.dbg_ends.specs.Steps.{OutputTaken, OutputFree, OutputEnds, OutputsEnd, OnlyAtBoth, IsSettled};
+ghost use Rattle.dbg_ends.specs.Steps.{OutputTaken, OutputFree, OutputEnds, OutputsEnd, OnlyAtBoth, file_put, all_stored};
 
 use crate::end::End;
+use crate::looking::look;
 use file_tree::{Blob, Found, Node, Text, Tree};
 use std::alloc::Global;
 
@@ -25,9 +27,10 @@ pub fn free_output<T: Tree>(alloc: Global, path: &str, tree: &mut T) -> Result<(
     ensures not_output { IfErr result (λ e. 7 ≢ status_of e) }
     ensures fault { IfErr result (λ e. status_of e ≡ 6 → Rose (T.seen tree.old).faults (T.seen tree.new).faults) }
     ensures kept { Calm (T.seen tree.old) (T.seen tree.new) }
+    ensures looks { (T.seen tree.old).tells ≡ true → LooksOnly (T.seen tree.old).past (T.seen tree.new).past }
     ensures tells { (T.seen tree.new).tells ≡ (T.seen tree.old).tells }
 {
-    let found = tree.read(path, 0)?;
+    let found = look(path, 0, tree)?;
     match found {
         Found::Absent => Ok(()),
         Found::File { .. } => Ok(()),
@@ -47,7 +50,7 @@ fn write_output<T: Tree>(path: &str, bytes: Vec<u8>, mode: u32, tree: &mut T) ->
     ensures done { OnOk result (now_of (T.seen tree.new) ≡ option_map (with_node path.now (node.File bytes.items mode)) (now_of (T.seen tree.old))) }
     ensures ends { IfErr result (OutputEnds path.now (T.seen tree.old) (T.seen tree.new)) }
     ensures due { IfErr result (λ e. IsCut (status_of e)) }
-    ensures settled { (T.seen tree.old).tells ≡ true → OnOk result (IsSettled (T.seen tree.new).past) }
+    ensures calls { (T.seen tree.old).tells ≡ true → OnOk result ((T.seen tree.new).past ≡ adds_all (T.seen tree.old).past (file_put path.now bytes.items mode ∷ all_stored ∷ [])) }
     ensures not_done { IfErr result (λ e. 0 ≢ status_of e) }
     ensures not_usage { IfErr result (λ e. 2 ≢ status_of e) }
     ensures not_output { IfErr result (λ e. 7 ≢ status_of e) }
@@ -66,6 +69,7 @@ fn put_output<T: Tree>(path: &str, bytes: Vec<u8>, mode: u32, tree: &mut T) -> R
     ensures done { OnOk result (now_of (T.seen tree.new) ≡ option_map (with_node path.now (node.File bytes.items mode)) (now_of (T.seen tree.old))) }
     ensures ends { IfErr result (OutputEnds path.now (T.seen tree.old) (T.seen tree.new)) }
     ensures due { IfErr result (λ e. IsCut (status_of e)) }
+    ensures calls { (T.seen tree.old).tells ≡ true → OnOk result ((T.seen tree.new).past ≡ adds_all (T.seen tree.old).past (file_put path.now bytes.items mode ∷ [])) }
     ensures not_done { IfErr result (λ e. 0 ≢ status_of e) }
     ensures not_usage { IfErr result (λ e. 2 ≢ status_of e) }
     ensures not_output { IfErr result (λ e. 7 ≢ status_of e) }
@@ -88,6 +92,7 @@ fn put_pieces<T: Tree>(path: &str, pieces: &[&[u8]], mode: u32, tree: &mut T) ->
     ensures done { OnOk result (now_of (T.seen tree.new) ≡ option_map (with_node path.now (node.File (flat_map (λ piece. piece.now) pieces.now) mode)) (now_of (T.seen tree.old))) }
     ensures ends { IfErr result (OutputEnds path.now (T.seen tree.old) (T.seen tree.new)) }
     ensures due { IfErr result (λ e. IsCut (status_of e)) }
+    ensures calls { (T.seen tree.old).tells ≡ true → OnOk result ((T.seen tree.new).past ≡ adds_all (T.seen tree.old).past (file_put path.now (flat_map (λ piece. piece.now) pieces.now) mode ∷ [])) }
     ensures not_done { IfErr result (λ e. 0 ≢ status_of e) }
     ensures not_usage { IfErr result (λ e. 2 ≢ status_of e) }
     ensures not_output { IfErr result (λ e. 7 ≢ status_of e) }
@@ -111,7 +116,7 @@ pub fn write_in_pieces<T: Tree>(
     ensures done { OnOk result (now_of (T.seen tree.new) ≡ option_map (with_node path.now (node.File (flat_map (λ piece. piece.now) pieces.now) mode)) (now_of (T.seen tree.old))) }
     ensures ends { IfErr result (OutputEnds path.now (T.seen tree.old) (T.seen tree.new)) }
     ensures due { IfErr result (λ e. IsCut (status_of e)) }
-    ensures settled { (T.seen tree.old).tells ≡ true → OnOk result (IsSettled (T.seen tree.new).past) }
+    ensures calls { (T.seen tree.old).tells ≡ true → OnOk result ((T.seen tree.new).past ≡ adds_all (T.seen tree.old).past (file_put path.now (flat_map (λ piece. piece.now) pieces.now) mode ∷ all_stored ∷ [])) }
     ensures not_done { IfErr result (λ e. 0 ≢ status_of e) }
     ensures not_usage { IfErr result (λ e. 2 ≢ status_of e) }
     ensures not_output { IfErr result (λ e. 7 ≢ status_of e) }
@@ -138,7 +143,7 @@ pub fn write_pieces<T: Tree>(
     ensures done { OnOk result (now_of (T.seen tree.new) ≡ option_map (with_node beside.now (node.File more.items more_mode)) (option_map (with_node path.now (node.File (flat_map (λ piece. piece.now) pieces.now) mode)) (now_of (T.seen tree.old)))) }
     ensures ends { IfErr result (OutputsEnd path.now beside.now (T.seen tree.old) (T.seen tree.new)) }
     ensures due { IfErr result (λ e. IsCut (status_of e)) }
-    ensures settled { (T.seen tree.old).tells ≡ true → OnOk result (IsSettled (T.seen tree.new).past) }
+    ensures calls { (T.seen tree.old).tells ≡ true → OnOk result ((T.seen tree.new).past ≡ adds_all (T.seen tree.old).past (file_put path.now (flat_map (λ piece. piece.now) pieces.now) mode ∷ file_put beside.now more.items more_mode ∷ all_stored ∷ [])) }
     ensures not_done { IfErr result (λ e. 0 ≢ status_of e) }
     ensures not_usage { IfErr result (λ e. 2 ≢ status_of e) }
     ensures not_output { IfErr result (λ e. 7 ≢ status_of e) }

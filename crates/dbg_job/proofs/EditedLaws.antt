@@ -16,7 +16,7 @@ use Rattle.dw_meaning.specs.Loaded.{LoadedKept}
 use Rattle.dw_meaning.proofs.EditRowLaws.{edit-excludes}
 use Rattle.build_ident.specs.IdFails.{IdFails}
 use Rattle.job_types.specs.Settings.{Settings}
-use Rattle.dbg_job.specs.EditedFiles.{EditedFails, IdRefuses, IsAnew, IsEditable, IsEdited, IsMapped, finished}
+use Rattle.dbg_job.specs.EditedFiles.{EditedFails, IdRefuses, IsAnew, IsEditOf, IsEditable, IsEdited, IsMapped, finished}
 use Rattle.dbg_job.specs.EditedFiles.EditedFails.{edit, id}
 use Rattle.dbg_job.specs.EditedFiles.IdRefuses.{elf as elf_refuses, id as id_refuses}
 use Rattle.dbg_job.specs.NewIds.{IdFits, with_new_id}
@@ -86,8 +86,13 @@ refused-anew s b NoMemory anew h = tt
 refused-anew s b (Refused r) anew (elf_refuses h) = edit (file (elf_row h))
 refused-anew s b (Refused r) anew (id_refuses reads h) = id anew reads h
 
+-- a file that is taken isn't refused
+pub editable-excludes : (s : Settings) (b : List ℕ) (r : Refusal) → IsEditable s b → EditedFails s b r → ⊥
+editable-excludes s b r w (edit fails) = edit-excludes s.maps b r w.accepted fails
+editable-excludes s b r w (id anew reads fails) = (w.id anew).none r fails
+
 -- with the build-id as it is
-plain-finished : (s : Settings) (out : List ℕ) → s.build_id ≡ false → finished s out ≡ out
+pub plain-finished : (s : Settings) (out : List ℕ) → s.build_id ≡ false → finished s out ≡ out
 plain-finished s out plain = rw plain refl
 
 pub editable-plain : (s : Settings) (b out : List ℕ) → s.build_id ≡ false → IsMapped s.maps b out → IsEditable s b
@@ -100,15 +105,18 @@ editable-plain s b out plain w = record { accepted = w.accepted; id = λ anew. a
 pub edited-plain : (s : Settings) (b out : List ℕ) → s.build_id ≡ false → IsMapped s.maps b out → IsEdited s b out
 edited-plain s b out plain w = record { mapped = out; output = w.output; is = sym (plain-finished s out plain) }
 
+pub edit-plain : (s : Settings) (b out : List ℕ) → s.build_id ≡ false → IsMapped s.maps b out → IsEditOf s b out
+edit-plain s b out plain w = record { map = w.map; bytes = w.bytes; editable = editable-plain s b out plain w; edited = edited-plain s b out plain w }
+
 pub only-plain : (s : Settings) (m : PathMap) (b out : List ℕ) → s.build_id ≡ false → m ≡ s.maps → ((o : List ℕ) → IsOutput m b o → o ≡ out)
     → (o : List ℕ) → IsEdited s b o → o ≡ out
 only-plain s m b out plain maps only o is =
     is.is ∙ plain-finished s is.mapped plain ∙ only is.mapped (subst (λ (x : PathMap). IsOutput x b is.mapped) (sym maps) is.output)
 
-pub ruleset plain_rules = (refused-edit, editable-plain, edited-plain)
+pub ruleset plain_rules = (refused-edit, editable-plain, edited-plain, edit-plain, editable-excludes)
 
 -- and with a new one
-anew-finished : (s : Settings) (out : List ℕ) → s.build_id ≡ true → finished s out ≡ with_new_id s.seed out
+pub anew-finished : (s : Settings) (out : List ℕ) → s.build_id ≡ true → finished s out ≡ with_new_id s.seed out
 anew-finished s out anew = rw anew refl
 
 pub editable-anew : (s : Settings) (b new : List ℕ) → IsAnew s.maps s.seed b new → IdFits b → IsEditable s b
@@ -116,6 +124,10 @@ editable-anew s b new w fits = record { accepted = w.output.accepted; id = λ an
 
 pub edited-anew : (s : Settings) (b new : List ℕ) → s.build_id ≡ true → IsAnew s.maps s.seed b new → IsEdited s b new
 edited-anew s b new anew w = record { mapped = w.mapped; output = w.output.output; is = w.is ∙ sym (anew-finished s w.mapped anew) }
+
+pub edit-anew : (s : Settings) (b new : List ℕ) → s.build_id ≡ true → IsAnew s.maps s.seed b new → IdFits b → IsEditOf s b new
+edit-anew s b new anew w fits =
+    record { map = w.output.map; bytes = w.output.bytes; editable = editable-anew s b new w fits; edited = edited-anew s b new anew w }
 
 pub only-anew : (s : Settings) (m : PathMap) (seed b new : List ℕ) → s.build_id ≡ true → m ≡ s.maps → seed ≡ s.seed → IsAnew m seed b new
     → (o : List ℕ) → IsEdited s b o → o ≡ new
@@ -129,9 +141,4 @@ anew-small m seed b new w = omega (arith, w.long, output-small m b w.mapped w.ou
 pub fits-always : (b new : List ℕ) → IdFits new → IdFits b → IdFits new
 fits-always b new fits old = fits
 
-pub ruleset edited_rules = (refused-edit, refused-anew, editable-anew, edited-anew, anew-small, fits-always)
-
--- a file that is taken isn't refused
-pub editable-excludes : (s : Settings) (b : List ℕ) (r : Refusal) → IsEditable s b → EditedFails s b r → ⊥
-editable-excludes s b r w (edit fails) = edit-excludes s.maps b r w.accepted fails
-editable-excludes s b r w (id anew reads fails) = (w.id anew).none r fails
+pub ruleset edited_rules = (refused-edit, refused-anew, editable-anew, edited-anew, edit-anew, editable-excludes, anew-small, fits-always)

@@ -1,8 +1,11 @@
+pub mod EditKeptLaws
 pub mod EditedLaws
 pub mod FixedEndLaws
 pub mod IdKeptLaws
 pub mod IdPlaceLaws
 pub mod LeavingLaws
+pub mod MadeLaws
+pub mod MappedKeptLaws
 pub mod NewIdLaws
 pub mod NoteKeptLaws
 pub mod OtherIdLaws
@@ -13,6 +16,7 @@ pub mod OutcomeLaws
 pub mod OutcomeOneLaws
 pub mod OutputLaws
 pub mod PlaceLaws
+pub mod RisingNameLaws
 pub mod ShapeLaws
 pub mod SourceLaws
 pub mod SplitRowLaws

@@ -1,12 +1,14 @@
 -- A new build-id in the output of a file: its bytes belong to nothing else there, so the output means what it meant, and what is loaded of
 -- it is as it was.
-use Rattle.std.proofs.Common.{Bool, true, false, ◌≡◌, ◌≢◌, ◌⊎◌, inl, inr, ℕ, ◌+◌, ◌-◌, ◌*◌, ◌<◌, ◌≤◌, List, ◌++◌, length, take, drop, Option, Some, None, sym, ap, ◌∙◌, refl, subst, arith}
+use Rattle.std.proofs.Common.{Bool, true, false, ◌≡◌, ◌≢◌, ◌⊎◌, inl, inr, ℕ, zero, suc, ◌+◌, ◌-◌, ◌*◌, ◌/◌, ◌<◌, ◌≤◌, List, ◌++◌, length, take, drop, Option, Some, None, sym, ap, ◌∙◌, refl, subst, arith}
 use Rattle.std.proofs.lemmas.Bool.{cases_lt}
 use Rattle.std.proofs.lemmas.List.{get_or-append-add, get_or-drop, get_or-take, get_or_append_left, length-append, length-drop, length-take-le}
 use Rattle.std.specs.Prelude.{slice_index}
 use Rattle.dw_base.specs.Elf.{class_of, contents_of, e_phnum, e_phoff, e_shoff, ehdr_size, is_empty_kind, nth_section, order_of, phdr_size, section_count}
 use Rattle.dw_base.specs.ElfFails.{ElfReads}
-use Rattle.dw_base.specs.Notes.{Descriptor, id_in}
+use Rattle.std.specs.Int.{w32, to_be_bytes}
+use Rattle.sha1.specs.Sha1.{digest_bytes, hash_after, padded_message, sha1}
+use Rattle.dw_base.specs.Notes.{Descriptor, id_in, zeroed}
 use Rattle.dw_base.specs.Paths.{PathMap}
 use Rattle.dw_base.specs.ViewData.{mapped}
 use Rattle.dw_base.specs.declared.records.Section.{Section}
@@ -87,10 +89,13 @@ id-apart m b out i d w reads fits is =
 
 -- ### The new id
 
+pub id-within : (b : List ℕ) (i : ℕ) (d : Descriptor) → ElfReads b → IdLies b i d → id_place b i d + d.size ≤ length b
+id-within b i d reads lies =
+    let some : (nth_section b i).size ≢ 0 = λ none. omega (arith, none, lies.ends, lies.some) in
+    omega (arith, (reads.debug.sections.all i lies.within).place.lies lies.full some, lies.ends)
+
 id-inside : (b : List ℕ) (i : ℕ) (d : Descriptor) → IdApart b i d → id_place b i d + d.size ≤ length b
-id-inside b i d w =
-    let some : (nth_section b i).size ≢ 0 = λ none. omega (arith, none, w.lies.ends, w.lies.some) in
-    omega (arith, (w.reads.debug.sections.all i w.lies.within).place.lies w.lies.full some, w.lies.ends)
+id-inside b i d w = id-within b i d w.reads w.lies
 
 put-differs : (seed b : List ℕ) (at n : ℕ) → at + n ≤ length b → length (with_id seed b at n) ≡ length b → DiffersAt at n b (with_id seed b at n)
 unfolding with_id
@@ -123,6 +128,48 @@ new-id-is seed b i d is = ap (new_id_in seed b) (id-is b i d is)
 none-is : (seed b : List ℕ) → id_section b ≡ None → with_new_id seed b ≡ b
 unfolding with_new_id
 none-is seed b none = ap (new_id_in seed b) (no-id b none)
+
+-- it is as long as the one before: a digest has 20 bytes (FIPS 180-4)
+word-long : (n : ℕ) → length (to_be_bytes w32 n) ≡ 4
+word-long n = refl
+
+digest-long : (h : List ℕ) (n : ℕ) → length (digest_bytes h n) ≡ n * 4
+unfolding digest_bytes
+digest-long h zero = refl
+digest-long h (suc n) =
+    omega (arith, length-append (digest_bytes h n) (to_be_bytes w32 (slice_index h n)), digest-long h n, word-long (slice_index h n))
+
+sha1-long : (xs : List ℕ) → length (sha1 xs) ≡ 20
+unfolding sha1
+sha1-long xs = digest-long (hash_after (padded_message xs) (length (padded_message xs) / 64)) 5
+
+id-long : (seed b : List ℕ) (at n : ℕ) → n ≤ 20 → length (id_of seed b at n) ≡ n
+unfolding id_of
+id-long seed b at n wide =
+    let whole = sha1-long (seed ++ zeroed (record { place = at; size = n }) b) in
+    length-take-le n (sha1 (seed ++ zeroed (record { place = at; size = n }) b)) (omega (arith, whole, wide))
+
+put-long : (seed b : List ℕ) (at n : ℕ) → at + n ≤ length b → n ≤ 20 → length (with_id seed b at n) ≡ length b
+unfolding with_id
+put-long seed b at n inside wide =
+    omega (
+      arith,
+      length-append (take at b ++ id_of seed b at n) (drop (at + n) b),
+      length-append (take at b) (id_of seed b at n),
+      length-take-le at b (omega (arith, inside)),
+      id-long seed b at n wide,
+      length-drop (at + n) b,
+      inside,
+    )
+
+pub new-long : (seed b : List ℕ) → ElfReads b → IdFits b → length (with_new_id seed b) ≡ length b
+new-long seed b reads fits = by_id (has-id b fits)
+  where
+    by_id : HasId b → length (with_new_id seed b) ≡ length b
+    by_id (without none) = ap length (none-is seed b none)
+    by_id (with i d there) =
+        let lies = id-lies b i d there in
+        ap length (new-id-is seed b i d there) ∙ put-long seed b (id_place b i d) d.size (id-within b i d reads lies) lies.wide
 
 -- the file with its new id is the file with other bytes in its place, or the file itself
 pub data NewId (b new : List ℕ) : Type 0 where

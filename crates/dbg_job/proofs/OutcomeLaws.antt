@@ -9,18 +9,26 @@ use Rattle.dw_base.specs.LayoutReads.{is_known_kind}
 use Rattle.dw_base.specs.Numbers.{spelled}
 use Rattle.dw_base.specs.Paths.{PathMap}
 use Rattle.dw_base.specs.Refusals.{Blames}
-use Rattle.dw_base.specs.ViewData.{mapped}
+use Rattle.dw_base.specs.DebugData.{DebugData}
+use Rattle.dw_base.specs.FileViews.{view_of}
+use Rattle.dw_base.specs.RelocationRows.{moving_sections}
+use Rattle.dw_base.specs.Texts.{has_nul}
+use Rattle.dw_base.specs.ViewData.{debug_data, mapped}
+use Rattle.dw_base.specs.ViewFails.{ViewReads}
 use Rattle.dw_base.specs.declared.elf_numbers.TheConstants.{ELFMAG}
 use Rattle.dw_base.specs.declared.fault.Fault.{Fault}
 use Rattle.dw_base.specs.declared.fault.Fault.TheVariants.{NoMemory, Refused}
 use Rattle.dw_base.specs.declared.fault.Refusal.{Refusal}
 use Rattle.dw_base.specs.declared.shared.Order.TheVariants.{Little}
 use Rattle.dw_base.proofs.ElfLaws.{ehdr_size-least, elf_excludes}
-use Rattle.dw_meaning.specs.FileMeanings.{MeaningKept, file_body}
+use Rattle.dw_meaning.specs.FileMeanings.{MeaningKept, file_body, file_data}
 use Rattle.dw_meaning.specs.Loaded.{LoadedKept}
+use Rattle.dw_meaning.specs.RelocationFails.{RelocationsReadIn}
+use Rattle.dw_view.specs.PairViews.{pair_view}
+use Rattle.dw_view.specs.Pairs.{IsPaired}
 use Rattle.build_ident.specs.IdFails.{IdFails}
 use Rattle.dbg_split.specs.DebugFile.{debug_file}
-use Rattle.dbg_split.specs.PairMeanings.{MeansAsOne, ReadAsOne}
+use Rattle.dbg_split.specs.PairMeanings.{MeansAsOne, ReadApart}
 use Rattle.dbg_split.specs.SplitFails.{SplitFails}
 use Rattle.dbg_split.specs.SplitFails.SplitFails.{elf as elf_fails, long_debug as debug_fails, long_stripped as stripped_fails, shape as shape_fails}
 use Rattle.dbg_split.specs.StrippedFile.{stripped_file}
@@ -29,11 +37,12 @@ use Rattle.job_types.specs.declared.outcome.LeftWhy.{LeftWhy}
 use Rattle.job_types.specs.declared.outcome.LeftWhy.TheVariants.{NoElf}
 use Rattle.job_types.specs.declared.outcome.Outcome.{Outcome}
 use Rattle.job_types.specs.declared.outcome.Outcome.TheVariants as outcome
-use Rattle.dbg_job.specs.EditedFiles.{EditedFails, IsEditable, IsEdited}
+use Rattle.dbg_job.specs.EditedFiles.{EditedFails, IsEditOf, IsEditable, IsEdited}
 use Rattle.dbg_job.specs.Leaving.{IsLeft, IsTaken, begins_as_elf, has_link, has_work}
 use Rattle.dbg_job.specs.Leaving.IsLeft.{no_elf, other_type, linked, nothing}
 use Rattle.dbg_job.specs.NewIds.{IdFits, id_bytes}
-use Rattle.dbg_job.specs.Outcomes.{AreSourcesOf, IsOutcome, OutcomeFails, OutcomeKeeps, PairFails, PairKeeps, PairTooLong}
+use Rattle.dbg_job.specs.Outcomes.{AreSourcesOf, IsMade, IsOutcome, IsSplitOf, OutcomeFails, OutcomeKeeps, PairFails, PairKeeps, PairTooLong}
+use Rattle.dbg_job.specs.Outcomes.IsMade.{left as made_left, edited as made_edited, split as made_split}
 use Rattle.dbg_job.specs.Outcomes.IsOutcome.{left as is_left, edited as is_edited, split as is_split}
 use Rattle.dbg_job.specs.Outcomes.OutcomeFails.{elf as elf_row, edit as edit_row, pair as pair_row}
 use Rattle.dbg_job.specs.Outcomes.OutcomeKeeps.{left as keeps_left, edited as keeps_edited, split as keeps_split}
@@ -116,16 +125,33 @@ refused-split s b name file NoMemory taken loaded is kept sections h = tt
 refused-split s b name file (Refused r) taken loaded is kept sections h =
     pair_row taken loaded (split-row s b name file r taken loaded is kept.new.reads.elf sections h)
 
+pub refused-parts : (s : Settings) (b name file x : List ℕ) (f : Fault) → IsTaken b → is_loaded_kind b ≡ true → IsEdited s b file → MeaningKept s.maps b file
+    → SameSections b file → x ≡ file → Blames (SplitFails x name) f → Blames (OutcomeFails s b name) f
+refused-parts s b name file x f taken loaded is kept sections same h =
+    refused-split s b name file f taken loaded is kept sections (subst (λ (y : List ℕ). Blames (SplitFails y name) f) same h)
+
 -- ### What is kept
+
+-- no relocation stands on the debug data of the two that doesn't stand on those of the file
+pair-relocations : (file debug stripped : List ℕ) → MeansAsOne file debug stripped → RelocationsReadIn (file_data file) (moving_sections (view_of file))
+    → RelocationsReadIn (debug_data (pair_view debug stripped)) (moving_sections (pair_view debug stripped))
+pair-relocations file debug stripped one reads =
+    subst (λ (d : DebugData). RelocationsReadIn d (moving_sections (pair_view debug stripped))) (sym one.same_data)
+    (subst (λ (ns : List ℕ). RelocationsReadIn (file_data file) ns) (sym one.same_moving) reads)
 
 pair-keeps : (m : PathMap) (b file debug stripped : List ℕ) → MeaningKept m b file → MeansAsOne file debug stripped → PairKeeps m b debug stripped
 pair-keeps m b file debug stripped kept one = record {
   meaning = kept.meaning;
   old = kept.old;
   new = one.means (mapped m kept.meaning) kept.new;
+  relocations = pair-relocations file debug stripped one kept.new.reads.relocations.on_data;
   old_one = kept.old_one;
   new_one = λ x is. one.one (mapped m kept.meaning) x kept.new is;
 }
+
+-- what was edited can be read for its sections
+view-reads : (m : PathMap) (b file : List ℕ) → MeaningKept m b file → ViewReads file
+view-reads m b file kept = record { sections = kept.new.reads.names; relocations = kept.new.reads.relocations.sections }
 
 -- the outcome of a pair
 pub split-is : (s : Settings) (b name file stripped debug : List ℕ) (id : Option (List ℕ)) (names : List (List ℕ)) (o : Outcome) → IsTaken b → is_loaded_kind b ≡ true
@@ -137,9 +163,20 @@ split-is s b name file stripped debug id names o taken loaded is sources strips 
     (is_split taken loaded is sources)
 
 pub split-keeps : (m : PathMap) (b name file stripped debug : List ℕ) (id : Option (List ℕ)) (names : List (List ℕ)) (o : Outcome) → MeaningKept m b file → LoadedKept b file
-    → MeansAsOne file debug stripped → ReadAsOne file name debug stripped → LoadedKept file stripped → o ≡ outcome.Split stripped debug id names → OutcomeKeeps m b name o
-split-keeps m b name file stripped debug id names o kept loaded one read here made =
-    subst (OutcomeKeeps m b name) (sym made) (keeps_split (pair-keeps m b file debug stripped kept one) (record { same = here.same ∙ loaded.same }) read.paired)
+    → MeansAsOne file debug stripped → ReadApart file debug stripped → (has_nul name ≡ false → IsPaired stripped debug name) → LoadedKept file stripped
+    → o ≡ outcome.Split stripped debug id names → OutcomeKeeps m b name o
+split-keeps m b name file stripped debug id names o kept loaded one read paired here made =
+    subst (OutcomeKeeps m b name) (sym made)
+    (keeps_split (pair-keeps m b file debug stripped kept one) (read.debug_reads (view-reads m b file kept)) (read.stripped_reads (view-reads m b file kept))
+    (record { same = here.same ∙ loaded.same }) paired)
+
+pub made-split : (s : Settings) (b name file stripped debug : List ℕ) (id : Option (List ℕ)) (names : List (List ℕ)) (o : Outcome) → IsTaken b → is_loaded_kind b ≡ true
+    → IdFits b → IsEditOf s b file → IsSplitOf file name → AreSourcesOf s b names → stripped ≡ stripped_file file name → debug ≡ debug_file file → id ≡ id_bytes file
+    → o ≡ outcome.Split stripped debug id names → IsMade s b name o
+made-split s b name file stripped debug id names o taken loaded fits is parts sources strips debugs ids made =
+    subst (IsMade s b name) (sym (made ∙ ap (λ (x : List ℕ). outcome.Split x debug id names) strips ∙ ap (λ (x : List ℕ). outcome.Split (stripped_file file name) x id names) debugs
+    ∙ ap (λ (x : Option (List ℕ)). outcome.Split (stripped_file file name) (debug_file file) x names) ids))
+    (made_split taken loaded fits is parts sources)
 
 -- and that of an edited file
 pub edited-is : (s : Settings) (b name file bytes : List ℕ) (names : List (List ℕ)) → IsTaken b → is_loaded_kind b ≡ false → IsEdited s b file → AreSourcesOf s b names
@@ -152,7 +189,12 @@ pub edited-keeps : (m : PathMap) (b name file bytes : List ℕ) (names : List (L
 edited-keeps m b name file bytes names kept loaded same =
     subst (λ (x : List ℕ). OutcomeKeeps m b name (outcome.Edited x names)) (sym same) (keeps_edited kept loaded)
 
-pub ruleset edited_rules = (refused-edit, edited-excludes, edited-is, edited-keeps)
+pub made-edited : (s : Settings) (b name file bytes : List ℕ) (names : List (List ℕ)) → IsTaken b → is_loaded_kind b ≡ false → IsEditOf s b file → AreSourcesOf s b names
+    → bytes ≡ file → IsMade s b name (outcome.Edited bytes names)
+made-edited s b name file bytes names taken free is sources same =
+    subst (λ (x : List ℕ). IsMade s b name (outcome.Edited x names)) (sym same) (made_edited taken free is sources)
+
+pub ruleset edited_rules = (refused-edit, edited-excludes, edited-is, edited-keeps, made-edited)
 
 pub ruleset split_rules = (refused-id, refused-edit, refused-split, split-excludes, split-is, split-keeps)
 
@@ -163,9 +205,12 @@ left-is s b name why is = is_left is
 pub left-keeps : (m : PathMap) (b name : List ℕ) (why : LeftWhy) → OutcomeKeeps m b name (outcome.Left why)
 left-keeps m b name why = keeps_left
 
-pub ruleset read_rules = (left-is, left-keeps, left-excludes)
+pub made-left : (s : Settings) (b name : List ℕ) (why : LeftWhy) → IsLeft b why → IsMade s b name (outcome.Left why)
+made-left s b name why is = made_left is
+
+pub ruleset read_rules = (left-is, left-keeps, left-excludes, made-left)
 
 pub no-elf : (b : List ℕ) (t : Bool) → t ≡ begins_as_elf b → t ≡ false → IsLeft b NoElf
 no-elf b t is none = no_elf (sym is ∙ none)
 
-pub ruleset whole_rules = (refused-elf, no-elf, left-is, left-keeps, left-excludes)
+pub ruleset whole_rules = (refused-elf, no-elf, left-is, left-keeps, left-excludes, made-left)

@@ -116,7 +116,7 @@ empty-is : (m : PathMap) (b : List ℕ) (r : DataReadings) (i : ℕ) → is_empt
 unfolding full_body
 empty-is m b r i empty = rw empty refl
 
-no-contents : (b : List ℕ) (i : ℕ) → is_empty_kind (nth_section b i) ≡ true → contents_of b i ≡ []
+pub no-contents : (b : List ℕ) (i : ℕ) → is_empty_kind (nth_section b i) ≡ true → contents_of b i ≡ []
 unfolding contents_of
 no-contents b i empty = contents-empty b (nth_section b i) empty
 
@@ -148,7 +148,7 @@ full-kept m b r i w lt unread none = by_kind (cases_Bool (is_empty_kind (nth_sec
 
 -- ### So the output reads back
 
-can-map : (m : PathMap) (b out : List ℕ) (w : IsMapped m b out) → CanMap m b w.accepted.readings
+pub can-map : (m : PathMap) (b out : List ℕ) (w : IsMapped m b out) → CanMap m b w.accepted.readings
 can-map m b out w = record { map = w.map; bytes = w.bytes; reads = w.accepted.reads; fits = w.accepted.fits }
 
 -- the bodies of the output

@@ -30,6 +30,13 @@ pub record IsEditable (s : Settings) (b : List ℕ) : Type 0 where
   pub accepted : IsAccepted s.maps b
   pub id : s.build_id ≡ true → IdFits b
 
+-- the file is taken, and this is what it is made into: its edited file. A file has bytes, and a map maps texts to texts
+pub record IsEditOf (s : Settings) (b file : List ℕ) : Type 0 where
+  pub map : IsPathMap s.maps
+  pub bytes : (k : ℕ) → slice_index b k < 256
+  pub editable : IsEditable s b
+  pub edited : IsEdited s b file
+
 -- why nothing is known of the build-id of a file, or something is wrong with it: its records can't be read, or a row of its build-id
 pub data IdRefuses (b : List ℕ) : Refusal → Type 0 where
   elf : {r : Refusal} → ElfFails b r → IdRefuses b r

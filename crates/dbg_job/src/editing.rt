@@ -6,11 +6,12 @@ ghost use Rattle.std.specs.Prelude.{◌≡◌, ◌≤◌, ℕ, List, length, tru
 ghost use Rattle.dw_base.specs.FileViews.{view_of};
 ghost use Rattle.dw_base.specs.Layout.{output_limit};
 ghost use Rattle.dw_base.specs.Refusals.{Blames};
+ghost use Rattle.dw_base.specs.declared.fault.Refusal.{Refusal};
 ghost use Rattle.dw_lines.specs.ViewTables.{TablesFound};
 ghost use Rattle.dw_meaning.specs.EditRows.{EditFails};
 ghost use Rattle.dw_meaning.specs.FileMeanings.{IsOutput, MeaningKept};
 ghost use Rattle.dw_meaning.specs.Loaded.{LoadedKept};
-ghost use Rattle.dbg_job.specs.EditedFiles.{EditedFails, IdRefuses, IsAnew, IsEditable, IsEdited, IsMapped};
+ghost use Rattle.dbg_job.specs.EditedFiles.{EditedFails, IdRefuses, IsAnew, IsEditOf, IsEditable, IsEdited, IsMapped};
 ghost use Rattle.dbg_job.specs.SameSections.{SameSections};
 ghost use Rattle.dbg_job.specs.NewIds.{IdFits, with_new_id};
 
@@ -93,6 +94,8 @@ fn edited_plain<'a>(
     ensures fits { IfOk result (λ out. IdFits bytes.now → IdFits out.file) }
     ensures sections { IfOk result (λ out. SameSections bytes.now out.file) }
     ensures tables { IfOk result (λ out. TablesFound (view_of bytes.now) out.tables.items) }
+    ensures made { IfOk result (λ out. IsEditOf options.now bytes.now out.file) }
+    ensures none { OnOk result ((r : Refusal) → EditedFails options.now bytes.now r → ⊥) }
     ensures refused { IfErr result (Blames (EditedFails options.now bytes.now)) }
 {
     let out = mapped_file(alloc, bytes, &options.maps)?;
@@ -117,6 +120,8 @@ fn edited_anew<'a>(
     ensures fits { IfOk result (λ out. IdFits bytes.now → IdFits out.file) }
     ensures sections { IfOk result (λ out. SameSections bytes.now out.file) }
     ensures tables { IfOk result (λ out. TablesFound (view_of bytes.now) out.tables.items) }
+    ensures made { IfOk result (λ out. IsEditOf options.now bytes.now out.file) }
+    ensures none { OnOk result ((r : Refusal) → EditedFails options.now bytes.now r → ⊥) }
     ensures refused { IfErr result (Blames (EditedFails options.now bytes.now)) }
 {
     id_fits_in(alloc, bytes)?;
@@ -144,6 +149,8 @@ pub fn edited<'a>(alloc: Global, bytes: &'a [u8], options: &Options) -> Result<R
     ensures fits { IfOk result (λ out. IdFits bytes.now → IdFits out.file) }
     ensures sections { IfOk result (λ out. SameSections bytes.now out.file) }
     ensures tables { IfOk result (λ out. TablesFound (view_of bytes.now) out.tables.items) }
+    ensures made { IfOk result (λ out. IsEditOf options.now bytes.now out.file) }
+    ensures none { OnOk result ((r : Refusal) → EditedFails options.now bytes.now r → ⊥) }
     ensures refused { IfErr result (Blames (EditedFails options.now bytes.now)) }
 {
     if options.build_id {

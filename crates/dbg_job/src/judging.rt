@@ -10,7 +10,7 @@ ghost use Rattle.dw_base.specs.declared.fault.Refusal.{Refusal};
 ghost use Rattle.job_types.specs.declared.outcome.Outcome.{Outcome as OutcomeOf};
 ghost use Rattle.job_types.specs.declared.outcome.Outcome.TheVariants as outcome;
 ghost use Rattle.dbg_job.specs.Leaving.{IsTaken};
-ghost use Rattle.dbg_job.specs.Outcomes.{IsOutcome, OutcomeFails, OutcomeKeeps};
+ghost use Rattle.dbg_job.specs.Outcomes.{IsMade, IsOutcome, OutcomeFails, OutcomeKeeps};
 
 use crate::editing::edited;
 use crate::leaving::{begins_as_elf, why_left};
@@ -34,6 +34,7 @@ fn edited_outcome(
 ) -> Result<Outcome, Fault>
     requires taken { IsTaken elf.now.bytes.now }
     requires free { is_loaded_kind elf.now.bytes.now ≡ false }
+    ensures made { IfOk result (IsMade options.now elf.now.bytes.now debug_name.now) }
     ensures outcome { IfOk result (IsOutcome options.now elf.now.bytes.now debug_name.now) }
     ensures keeps { IfOk result (OutcomeKeeps options.now.maps elf.now.bytes.now debug_name.now) }
     ensures none { OnOk result ((r : Refusal) → OutcomeFails options.now elf.now.bytes.now debug_name.now r → ⊥) }
@@ -57,6 +58,7 @@ fn split_outcome(
 ) -> Result<Outcome, Fault>
     requires taken { IsTaken elf.now.bytes.now }
     requires loaded { is_loaded_kind elf.now.bytes.now ≡ true }
+    ensures made { IfOk result (IsMade options.now elf.now.bytes.now debug_name.now) }
     ensures outcome { IfOk result (IsOutcome options.now elf.now.bytes.now debug_name.now) }
     ensures keeps { IfOk result (OutcomeKeeps options.now.maps elf.now.bytes.now debug_name.now) }
     ensures none { OnOk result ((r : Refusal) → OutcomeFails options.now elf.now.bytes.now debug_name.now r → ⊥) }
@@ -96,6 +98,7 @@ fn outcome_of(
     debug_name: &[u8],
 ) -> Result<Outcome, Fault>
     requires reads { ElfReads elf.now.bytes.now }
+    ensures made { IfOk result (IsMade options.now elf.now.bytes.now debug_name.now) }
     ensures outcome { IfOk result (IsOutcome options.now elf.now.bytes.now debug_name.now) }
     ensures keeps { IfOk result (OutcomeKeeps options.now.maps elf.now.bytes.now debug_name.now) }
     ensures none { OnOk result ((r : Refusal) → OutcomeFails options.now elf.now.bytes.now debug_name.now r → ⊥) }
@@ -115,6 +118,7 @@ fn taken_outcome(
     debug_name: &[u8],
 ) -> Result<Outcome, Fault>
     requires taken { IsTaken elf.now.bytes.now }
+    ensures made { IfOk result (IsMade options.now elf.now.bytes.now debug_name.now) }
     ensures outcome { IfOk result (IsOutcome options.now elf.now.bytes.now debug_name.now) }
     ensures keeps { IfOk result (OutcomeKeeps options.now.maps elf.now.bytes.now debug_name.now) }
     ensures none { OnOk result ((r : Refusal) → OutcomeFails options.now elf.now.bytes.now debug_name.now r → ⊥) }
@@ -144,6 +148,7 @@ pub fn outcome(
     debug_name: &[u8],
 ) -> Result<Outcome, Fault>
     requires small { length bytes.now ≤ output_limit }
+    ensures made { IfOk result (IsMade options.now bytes.now debug_name.now) }
     ensures outcome { IfOk result (IsOutcome options.now bytes.now debug_name.now) }
     ensures only { IfOk result (λ o. (p : OutcomeOf) → IsOutcome options.now bytes.now debug_name.now p → p ≡ o) }
     ensures keeps { IfOk result (OutcomeKeeps options.now.maps bytes.now debug_name.now) }

@@ -20,6 +20,7 @@
 
 mod editing;
 mod judging;
+mod laws;
 mod leaving;
 mod naming;
 mod new_ids;
@@ -28,4 +29,5 @@ pub use dw_rewrite::Rewritten;
 pub use editing::edited;
 pub use job_types::{LeftWhy, Options, Outcome, Sources};
 pub use judging::outcome;
+pub use laws::outcome_laws;
 pub use naming::source_names;

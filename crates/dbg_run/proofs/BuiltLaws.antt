@@ -43,23 +43,23 @@ built_these words k is edit split show = built_from (command words) k is edit sp
 -- ### The second output's path is another one than the first's
 
 -- this holds of what is there
-abbrev All : {A : Type 0} → (A → Type 0) → Option A → Type 0
+abbrev pub All : {A : Type 0} → (A → Type 0) → Option A → Type 0
 All P None = ⊤
 All P (Some x) = P x
 
-any : {A : Type 0} (x : Option A) → All (λ (a : A). ⊤) x
+pub any : {A : Type 0} (x : Option A) → All (λ (a : A). ⊤) x
 any None = tt
 any (Some a) = tt
 
-all_then : {A B : Type 0} (Q : A → Type 0) (P : B → Type 0) (f : A → Option B) (x : Option A) → All Q x → ((a : A) → Q a → All P (f a)) → All P (option_and_then f x)
+pub all_then : {A B : Type 0} (Q : A → Type 0) (P : B → Type 0) (f : A → Option B) (x : Option A) → All Q x → ((a : A) → Q a → All P (f a)) → All P (option_and_then f x)
 all_then Q P f None q step = tt
 all_then Q P f (Some a) q step = step a q
 
-all_map : {A B : Type 0} (Q : A → Type 0) (P : B → Type 0) (f : A → B) (x : Option A) → All Q x → ((a : A) → Q a → P (f a)) → All P (option_map f x)
+pub all_map : {A B : Type 0} (Q : A → Type 0) (P : B → Type 0) (f : A → B) (x : Option A) → All Q x → ((a : A) → Q a → P (f a)) → All P (option_map f x)
 all_map Q P f None q step = tt
 all_map Q P f (Some a) q step = step a q
 
-all_if : {A : Type 0} (P : A → Type 0) (t : Bool) (x y : Option A) → All P x → All P y → All P (if t then x else y)
+pub all_if : {A : Type 0} (P : A → Type 0) (t : Bool) (x y : Option A) → All P x → All P y → All P (if t then x else y)
 all_if P true x y one other = one
 all_if P false x y one other = other
 

@@ -1,5 +1,5 @@
 -- Laws on the steps of an edit.
-use Rattle.std.proofs.Common.{◌≡◌, ◌⊎◌, inl, inr, ℕ, true, List, Some, refl, sym, ap, ◌∙◌, subst, arith}
+use Rattle.std.proofs.Common.{◌≡◌, ◌⊎◌, inl, inr, ℕ, true, List, [], ◌∷◌, Some, refl, sym, ap, ◌∙◌, subst, arith}
 use Rattle.std.specs.Prelude.{Option, is_some, option_map}
 use Rattle.job_types.specs.Settings.{Settings}
 use Rattle.dbg_job.specs.EditedFiles.{EditedFails, IsEditable, IsEdited}
@@ -9,7 +9,8 @@ use Rattle.file_tree.specs.declared.node.Found.{Found}
 use Rattle.file_tree.specs.declared.node.Found.TheVariants as found
 use Rattle.file_tree.specs.declared.node.Node.TheVariants as node
 use Rattle.file_tree.specs.Causes.{Calm, OnlyAt, Stood}
-use Rattle.file_tree.specs.Seen.{Seen, now_of}
+use Rattle.file_tree.specs.Moments.{LooksOnly, adds_all}
+use Rattle.file_tree.specs.Seen.{Seen, Past, Happened, now_of}
 use Rattle.file_tree.specs.Trees.{TreeMap, stands_at, with_node}
 use Rattle.dbg_ends.specs.declared.end.End.{End}
 use Rattle.dbg_ends.specs.declared.end.End.TheVariants as end
@@ -17,8 +18,9 @@ use Rattle.dbg_ends.specs.Due.{InputDue, IsCut, IsFree, OutputDue, Where}
 use Rattle.dbg_ends.specs.Due.{Where as where_}
 use Rattle.dbg_ends.specs.Due.IsCut.{tree_fault, no_memory}
 use Rattle.dbg_ends.specs.Ends.{status_of}
-use Rattle.dbg_ends.specs.Steps.{InputEnds, IsSettled, OutputFree, OutputTaken, OutputEnds, OutputsEnd, OnlyAtBoth}
+use Rattle.dbg_ends.specs.Steps.{InputEnds, LooksThen, OutputFree, OutputTaken, OutputEnds, OutputsEnd, OnlyAtBoth, all_stored, file_put}
 use Rattle.dbg_ends.specs.Steps.{InputEnds as inputs, OutputTaken as outputs, OutputEnds as written, OutputsEnd as both_written}
+use Rattle.dbg_ends.proofs.LookLaws.{looks-then}
 use Rattle.dbg_run.specs.Edits.{EditDone, EditDue, EditEnds, EditUnopposed, IsListText, Keeps, ListedDone, ListedDue, ListedEnds, ListedUnopposed, RewriteEnds, list_mode}
 use Rattle.dbg_run.specs.Edits.{EditEnds as edits, ListedEnds as listed, RewriteEnds as rewrites}
 
@@ -77,33 +79,41 @@ edit_due input output s limit old mid b mode t read calm free accepted tells =
     subst (λ (x : Found). EditDue s x (stands_at t output 0) 0) (sym (read.is t tells))
     (free_due (stands_at t output 0) 0 (Where (IsEditable s b) (0 ≡ 0) (0 ≡ 3)) ((free_before old mid output calm free).is t tells) (where_.here accepted refl))
 
+-- two spans of looks, and then other calls
+pub looks-and : (old mid far new : Past) (calls : List Happened) → LooksOnly old mid → LooksOnly mid far → new ≡ adds_all far calls → LooksThen old new calls
+looks-and old mid far new calls first then_ made = record { mid = far; looks = looks-then old mid far first then_; behind = made }
+
 -- an edit is done where each of its steps is
 pub edit_done : (input output : List ℕ) (s : Settings) (limit : ℕ) (old mid far new : Seen) (b out : List ℕ) (mode : ℕ)
     → Stood (now_of old) input limit (found.File b mode) → Calm old mid → mid.tells ≡ old.tells → OutputFree (now_of mid) output → Calm mid far
-    → far.tells ≡ mid.tells → IsEditable s b → IsEdited s b out → ((o : List ℕ) → IsEdited s b o → o ≡ out) → Keeps s.maps b out
-    → now_of new ≡ option_map (with_node output (node.File out mode)) (now_of far) → (far.tells ≡ true → IsSettled new.past) → EditDone input output s limit old new
-edit_done input output s limit old mid far new b out mode read calm tells free still tell accepted is only keeps written settled = record {
+    → far.tells ≡ mid.tells → IsEditable s b → ((r : Refusal) → EditedFails s b r → ⊥) → IsEdited s b out → ((o : List ℕ) → IsEdited s b o → o ≡ out)
+    → Keeps s.maps b out → now_of new ≡ option_map (with_node output (node.File out mode)) (now_of far) → (old.tells ≡ true → LooksOnly old.past mid.past) → (mid.tells ≡ true → LooksOnly mid.past far.past)
+    → (far.tells ≡ true → new.past ≡ adds_all far.past (file_put output out mode ∷ all_stored ∷ [])) → EditDone input output s limit old new
+edit_done input output s limit old mid far new b out mode read calm tells free still tell accepted none is only keeps written first then_ made = record {
   b = b;
   mode = mode;
   out = out;
   read = read;
   free = free_before old mid output calm free;
   accepted = accepted;
+  unrefused = none;
   is = is;
   only = only;
   keeps = keeps;
   written = written ∙ ap (option_map (with_node output (node.File out mode))) (still.now ∙ calm.now);
-  settled = λ told. settled (tell ∙ tells ∙ told);
+  calls = λ known. looks-and old.past mid.past far.past new.past _ (first known) (then_ (tells ∙ known)) (made (tell ∙ tells ∙ known));
 }
 
 -- and so is one with a list
 pub listed_done : (input output list : List ℕ) (s : Settings) (limit : ℕ) (old mid far last new : Seen) (b out text : List ℕ) (mode : ℕ)
     → Stood (now_of old) input limit (found.File b mode) → Calm old mid → mid.tells ≡ old.tells → OutputFree (now_of mid) output → Calm mid far
-    → far.tells ≡ mid.tells → OutputFree (now_of far) list → Calm far last → last.tells ≡ far.tells → IsEditable s b → IsEdited s b out
+    → far.tells ≡ mid.tells → OutputFree (now_of far) list → Calm far last → last.tells ≡ far.tells → IsEditable s b → ((r : Refusal) → EditedFails s b r → ⊥) → IsEdited s b out
     → ((o : List ℕ) → IsEdited s b o → o ≡ out) → Keeps s.maps b out → IsListText s.maps b text
     → now_of new ≡ option_map (with_node list (node.File text list_mode)) (option_map (with_node output (node.File out mode)) (now_of last))
-    → (last.tells ≡ true → IsSettled new.past) → ListedDone input output list s limit old new
-listed_done input output list s limit old mid far last new b out text mode read calm tells free still tell also rest told accepted is only keeps listed written settled = record {
+    → (old.tells ≡ true → LooksOnly old.past mid.past) → (mid.tells ≡ true → LooksOnly mid.past far.past) → (far.tells ≡ true → LooksOnly far.past last.past)
+    → (last.tells ≡ true → new.past ≡ adds_all last.past (file_put output out mode ∷ file_put list text list_mode ∷ all_stored ∷ []))
+    → ListedDone input output list s limit old new
+listed_done input output list s limit old mid far last new b out text mode read calm tells free still tell also rest told accepted none is only keeps listed written first then_ last_ made = record {
   b = b;
   mode = mode;
   out = out;
@@ -112,13 +122,16 @@ listed_done input output list s limit old mid far last new b out text mode read 
   free = free_before old mid output calm free;
   list_free = free_before old mid list calm (free_before mid far list still also);
   accepted = accepted;
+  unrefused = none;
   is = is;
   only = only;
   keeps = keeps;
   listed = listed;
   written = written
       ∙ ap (λ (x : Option TreeMap). option_map (with_node list (node.File text list_mode)) (option_map (with_node output (node.File out mode)) x)) (rest.now ∙ still.now ∙ calm.now);
-  settled = λ known. settled (told ∙ tell ∙ tells ∙ known);
+  calls = λ known.
+      looks-and old.past far.past last.past new.past _ (looks-then old.past mid.past far.past (first known) (then_ (tells ∙ known))) (last_ (tell ∙ tells ∙ known))
+      (made (told ∙ tell ∙ tells ∙ known));
 }
 
 -- one that ends for want of memory for the list, or at the writing

@@ -163,10 +163,10 @@ of_stripped P input stripped debug old new done holds = record {
 }
 
 parts_mean : (b name s d : List ℕ) → Parts b name s d → MeansAsOne b d s
-parts_mean b name s d (all joins means read loaded) = means
+parts_mean b name s d (all joins means read paired loaded) = means
 
 parts_loaded : (b name s d : List ℕ) → Parts b name s d → LoadedKept b s
-parts_loaded b name s d (all joins means read loaded) = loaded
+parts_loaded b name s d (all joins means read paired loaded) = loaded
 
 -- a list's path is another one than the output's, and a debug file's another one than the stripped file's
 abbrev OutputsApart : Option Command → Type 0

@@ -1,3 +1,4 @@
+pub mod BareLaws
 pub mod BuiltLaws
 pub mod EditLaws
 pub mod SourceLaws

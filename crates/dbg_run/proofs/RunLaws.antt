@@ -10,7 +10,8 @@ use Rattle.file_tree.specs.Causes.{Rose, Calm, OnlyAt}
 use Rattle.file_tree.specs.Heard.{Heard}
 use Rattle.dbg_ends.specs.declared.end.End.{End}
 use Rattle.dbg_ends.specs.declared.end.End.TheVariants as end
-use Rattle.dbg_ends.specs.Due.{Where, InputDue, OutputDue, IsCut, Exactly}
+use Rattle.dbg_ends.specs.Due.{Where, InputDue, OutputDue, IsCut, IsRefusal, IsUnplanned, Exactly}
+use Rattle.dbg_ends.specs.Due.{IsRefusal as refusal, IsUnplanned as unplanned}
 use Rattle.dbg_ends.specs.Due.{IsCut as cut}
 use Rattle.dbg_ends.specs.Due.Where.{here, elsewhere}
 use Rattle.dbg_ends.specs.Steps.{OutputEnds as output_, OutputsEnd as both_}
@@ -29,7 +30,7 @@ use Rattle.dbg_run.specs.Shows.{AreElf, AreLinked, HasBegun, IsShowable, ShowDue
 use Rattle.dbg_run.specs.Shows.{HasBegun as begun_}
 use Rattle.dbg_run.specs.Splits.{IsSplittable, SplitDue, SplitEnds}
 use Rattle.dbg_run.specs.Edits.{EditEnds as edit, ListedEnds as listed}
-use Rattle.dbg_run.specs.Runs.{Cuts, EditWays, Ends, Due, MayWrite, Unopposed}
+use Rattle.dbg_run.specs.Runs.{Cuts, EditWays, Ends, Due, KeptBy, MayWrite, Unopposed}
 use Rattle.dbg_run.specs.Runs.{Ends as ends}
 
 -- want of memory may come in place of every status
@@ -214,6 +215,35 @@ pub silent_told : (c : Option Command) (answer status : ℕ) → (answer ≡ sta
 silent_told (Some (Show file debug)) answer status (inl same) un begun = un (subst HasBegun (sym same) begun)
 silent_told (Some (Show file debug)) answer status (inr want) un begun = un (begun_.wanting want)
 silent_told c answer status told un begun = begun
+
+-- a refusal that is told came
+refusal_memory : IsRefusal 13 → ⊥
+refusal_memory (refusal.usage e) = cc
+refusal_memory (refusal.refused e) = cc
+refusal_memory (refusal.no_file e) = cc
+refusal_memory (refusal.taken e) = cc
+refusal_memory (refusal.limit e) = cc
+refusal_memory (refusal.no_pair e) = cc
+
+unplanned_memory : IsUnplanned 13 → ⊥
+unplanned_memory (unplanned.usage e) = cc
+unplanned_memory (unplanned.no_file e) = cc
+unplanned_memory (unplanned.taken e) = cc
+unplanned_memory (unplanned.limit e) = cc
+unplanned_memory (unplanned.other_run e) = cc
+unplanned_memory (unplanned.plan_text e) = cc
+
+kept_memory : (c : Option Command) → KeptBy c 13 → ⊥
+kept_memory None kept = refusal_memory kept
+kept_memory (Some (Edit input output o list)) kept = refusal_memory kept
+kept_memory (Some (Split input stripped debug)) kept = refusal_memory kept
+kept_memory (Some (Run root o jobs)) kept = unplanned_memory kept
+kept_memory (Some (Show file debug)) kept = refusal_memory kept
+kept_memory (Some (Exercise seed units)) kept = refusal_memory kept
+
+pub kept_told : (c : Option Command) (answer status : ℕ) → (answer ≡ status) ⊎ (answer ≡ 13) → KeptBy c answer → KeptBy c status
+kept_told c answer status (inl same) kept = subst (KeptBy c) same kept
+kept_told c answer status (inr want) kept = absurd (kept_memory c (subst (KeptBy c) want kept))
 
 -- an end that is told is how the run ended, or want of memory is
 pub told_run : (words : List (List ℕ)) (old new : Seen) (heard said : Heard) (e : End) (before after : Heard) (answer : ℕ)

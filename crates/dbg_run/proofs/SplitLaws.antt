@@ -1,13 +1,14 @@
 -- Laws on the steps of a split.
-use Rattle.std.proofs.Common.{◌≡◌, ◌≢◌, ◌⊎◌, inl, inr, ℕ, true, List, Some, refl, sym, ap, ◌∙◌, subst}
+use Rattle.std.proofs.Common.{◌≡◌, ◌≢◌, ◌⊎◌, inl, inr, ℕ, true, false, List, [], ◌∷◌, Some, refl, sym, ap, ◌∙◌, subst}
 use Rattle.std.specs.Prelude.{Option, option_map}
 use Rattle.std.specs.Option.{ForSome}
 use Rattle.dw_base.specs.Refusals.{Blames}
+use Rattle.dw_base.specs.Texts.{has_nul}
 use Rattle.dw_base.specs.declared.fault.Fault.{Fault}
 use Rattle.dw_base.specs.declared.fault.Refusal.{Refusal}
 use Rattle.dw_meaning.specs.Loaded.{LoadedKept}
 use Rattle.dbg_split.specs.DebugFile.{debug_file}
-use Rattle.dbg_split.specs.PairMeanings.{MeansAsOne, ReadAsOne}
+use Rattle.dbg_split.specs.PairMeanings.{MeansAsOne, ReadApart}
 use Rattle.dbg_split.specs.PairViews.{JoinsTo}
 use Rattle.dbg_split.specs.SplitFails.{SplitFails}
 use Rattle.dbg_split.specs.StrippedFile.{stripped_file}
@@ -15,6 +16,7 @@ use Rattle.file_tree.specs.declared.node.Found.{Found}
 use Rattle.file_tree.specs.declared.node.Found.TheVariants as found
 use Rattle.file_tree.specs.declared.node.Node.TheVariants as node
 use Rattle.file_tree.specs.Causes.{Calm, Stood}
+use Rattle.file_tree.specs.Moments.{LooksOnly, adds_all}
 use Rattle.file_tree.specs.Seen.{Seen, now_of}
 use Rattle.file_tree.specs.Trees.{TreeMap, stands_at, with_node}
 use Rattle.job_types.specs.Modes.{not_executable}
@@ -25,18 +27,20 @@ use Rattle.dbg_ends.specs.Due.{Where, IsCut}
 use Rattle.dbg_ends.specs.Due.IsCut.{no_memory}
 use Rattle.dbg_ends.specs.Due.Where.{elsewhere}
 use Rattle.dbg_ends.specs.Ends.{status_of}
-use Rattle.dbg_ends.specs.Steps.{BlamesAt, FaultEnds, IsSettled, OnlyAtBoth, OutputFree}
+use Rattle.dbg_ends.specs.Steps.{BlamesAt, FaultEnds, OnlyAtBoth, OutputFree, all_stored, file_put}
 use Rattle.dbg_ends.specs.Steps.{BlamesAt as blames, OutputsEnd as both_written}
+use Rattle.dbg_ends.proofs.LookLaws.{looks-then}
 use Rattle.dbg_ends.proofs.StepLaws.{blames_at}
 use Rattle.dbg_run.specs.Shows.{base_name}
 use Rattle.dbg_run.specs.Splits.{IsSplittable, Parts, SplitDone, SplitDue, SplitEnds, SplitUnopposed}
 use Rattle.dbg_run.specs.Splits.{Parts as parts, SplitEnds as splits}
 use Rattle.dw_base.specs.FileViews.{view_of}
 use Rattle.dw_view.specs.PairViews.{pair_view}
+use Rattle.dw_view.specs.Pairs.{IsPaired}
 use Rattle.dbg_show.specs.Shows.{IsShown}
 use Rattle.file_tree.specs.Heard.{Heard}
 use Rattle.dbg_run.proofs.ShowLaws.{shows_alike}
-use Rattle.dbg_run.proofs.EditLaws.{both_completes, calm_both, free_before, free_due, input_completes, output_completes, same_both, same_bytes}
+use Rattle.dbg_run.proofs.EditLaws.{both_completes, calm_both, calm_then, free_before, free_due, input_completes, looks-and, output_completes, same_both, same_bytes}
 
 -- ### The two files
 
@@ -48,9 +52,10 @@ both_same path beside tree = same_both path beside tree tree refl
 pub is_splittable : (b name x n : List ℕ) → x ≡ b → n ≡ name → ((r : Refusal) → SplitFails x n r → ⊥) → IsSplittable b name
 is_splittable b name x n of_bytes of_name none = record { unrefused = subst (λ (m : List ℕ). (r : Refusal) → SplitFails b m r → ⊥) of_name (subst (λ (y : List ℕ). (r : Refusal) → SplitFails y n r → ⊥) of_bytes none) }
 
-pub are_parts : (b name x n s d : List ℕ) → x ≡ b → n ≡ name → JoinsTo x d s → MeansAsOne x d s → ReadAsOne x n d s → LoadedKept x s → Parts b name s d
-are_parts b name x n s d of_bytes of_name joins means read loaded =
-    subst (λ (m : List ℕ). Parts b m s d) of_name (subst (λ (y : List ℕ). Parts y n s d) of_bytes (parts.all joins means read loaded))
+pub are_parts : (b name x n s d : List ℕ) → x ≡ b → n ≡ name → JoinsTo x d s → MeansAsOne x d s → ReadApart x d s
+    → (has_nul n ≡ false → IsPaired s d n) → has_nul name ≡ false → LoadedKept x s → Parts b name s d
+are_parts b name x n s d of_bytes of_name joins means read paired plain loaded =
+    subst (λ (m : List ℕ). Parts b m s d) of_name (subst (λ (y : List ℕ). Parts y n s d) of_bytes (parts.all joins means read (paired (ap has_nul of_name ∙ plain)) loaded))
 
 -- what a fault of the splitting is blamed for, its end is
 pub split_blames : (path b name x n : List ℕ) (f : Fault) (e : End) → x ≡ b → n ≡ name → Blames (SplitFails x n) f → FaultEnds path f e → BlamesAt (SplitFails b name) path e
@@ -75,6 +80,14 @@ parting_due input stripped debug old mid far b mode n read calm free still also 
     (free_due (stands_at t stripped 0) n _ ((free_before old mid stripped calm free).is t tells)
     (free_due (stands_at t debug 0) n _ ((free_before old mid debug calm (free_before mid far debug still also)).is t tells) due)))
 
+-- and it ends so
+pub split_parting : (input stripped debug : List ℕ) (old mid far last : Seen) (b : List ℕ) (mode : ℕ) (e : End) → Stood (now_of old) input most_file (found.File b mode)
+    → Calm old mid → OutputFree (now_of mid) stripped → Calm mid far → OutputFree (now_of far) debug → Calm far last
+    → BlamesAt (SplitFails b (base_name debug)) input e → SplitEnds input stripped debug old last e
+split_parting input stripped debug old mid far last b mode e read calm free still also rest row =
+    splits.splitting read (free_before old mid stripped calm free) (free_before old mid debug calm (free_before mid far debug still also)) row
+    (calm_then old mid last calm (calm_then mid far last still rest))
+
 -- ### The whole
 
 -- a split is done where each of its steps is
@@ -83,8 +96,10 @@ pub split_done : (input stripped debug : List ℕ) (old mid far last new : Seen)
     → far.tells ≡ mid.tells → OutputFree (now_of far) debug → Calm far last → last.tells ≡ far.tells → IsSplittable b (base_name debug)
     → s ≡ stripped_file b (base_name debug) → d ≡ debug_file b → other ≡ not_executable mode → Parts b (base_name debug) s d
     → now_of new ≡ option_map (with_node stripped (node.File s mode)) (option_map (with_node debug (node.File d other)) (now_of last))
-    → (last.tells ≡ true → IsSettled new.past) → SplitDone input stripped debug old new
-split_done input stripped debug old mid far last new b s d mode other read calm tells free still tell also rest told splittable s_is d_is mode_is both written settled =
+    → (old.tells ≡ true → LooksOnly old.past mid.past) → (mid.tells ≡ true → LooksOnly mid.past far.past) → (far.tells ≡ true → LooksOnly far.past last.past)
+    → (last.tells ≡ true → new.past ≡ adds_all last.past (file_put debug d other ∷ file_put stripped s mode ∷ all_stored ∷ []))
+    → SplitDone input stripped debug old new
+split_done input stripped debug old mid far last new b s d mode other read calm tells free still tell also rest told splittable s_is d_is mode_is both written first then_ last_ made =
     record {
       b = b;
       mode = mode;
@@ -98,7 +113,12 @@ split_done input stripped debug old mid far last new b s d mode other read calm 
           ∙ ap (λ (x : List ℕ). option_map (with_node stripped (node.File x mode)) (option_map (with_node debug (node.File d other)) (now_of old))) s_is
           ∙ ap (λ (y : List ℕ). option_map (with_node stripped (node.File (stripped_file b (base_name debug)) mode)) (option_map (with_node debug (node.File y other)) (now_of old))) d_is
           ∙ ap (λ (m : ℕ). option_map (with_node stripped (node.File (stripped_file b (base_name debug)) mode)) (option_map (with_node debug (node.File (debug_file b) m)) (now_of old))) mode_is;
-      settled = λ known. settled (told ∙ tell ∙ tells ∙ known);
+      calls = λ known.
+          looks-and old.past far.past last.past new.past _ (looks-then old.past mid.past far.past (first known) (then_ (tells ∙ known))) (last_ (tell ∙ tells ∙ known))
+          (made (told ∙ tell ∙ tells ∙ known)
+          ∙ ap (λ (x : List ℕ). adds_all last.past (file_put debug d other ∷ file_put stripped x mode ∷ all_stored ∷ [])) s_is
+          ∙ ap (λ (y : List ℕ). adds_all last.past (file_put debug y other ∷ file_put stripped (stripped_file b (base_name debug)) mode ∷ all_stored ∷ [])) d_is
+          ∙ ap (λ (m : ℕ). adds_all last.past (file_put debug (debug_file b) m ∷ file_put stripped (stripped_file b (base_name debug)) mode ∷ all_stored ∷ [])) mode_is);
     }
 
 blames_complete : (path b name : List ℕ) (e : End) → ((r : Refusal) → SplitFails b name r → ⊥) → BlamesAt (SplitFails b name) path e → IsCut (status_of e)
@@ -138,4 +158,4 @@ split_memory input stripped debug old new e (splits.done d) undone = absurd (und
 
 -- the stripped file and the debug file are shown together as the file is
 pub parts_shown : (b name s d : List ℕ) (heard said : Heard) → Parts b name s d → IsShown (view_of b) heard said → IsShown (pair_view d s) heard said
-parts_shown b name s d heard said (parts.all joins means read loaded) shown = shows_alike (view_of b) (pair_view d s) heard said (sym means.same_data) (sym means.same_moving) shown
+parts_shown b name s d heard said (parts.all joins means read paired loaded) shown = shows_alike (view_of b) (pair_view d s) heard said (sym means.same_data) (sym means.same_moving) shown

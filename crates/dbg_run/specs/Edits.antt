@@ -1,6 +1,6 @@
 -- The command `edit`, without a list of sources and with one: how each of its steps may end, when it is done, and which status
 -- is due.
-use Rattle.std.specs.Prelude.{◌≡◌, ℕ, true, List, Option, Some, option_map}
+use Rattle.std.specs.Prelude.{◌≡◌, ℕ, true, List, [], ◌∷◌, Option, Some, option_map}
 use Rattle.dw_base.specs.declared.fault.Refusal.{Refusal}
 use Rattle.dw_meaning.specs.FileMeanings.{file_data, MeaningKept}
 use Rattle.dw_meaning.specs.Loaded.{LoadedKept}
@@ -17,7 +17,7 @@ use Rattle.file_tree.specs.Causes.{Stood, Calm, OnlyAt}
 use Rattle.dbg_ends.specs.declared.end.End.{End}
 use Rattle.dbg_ends.specs.declared.end.End.TheVariants as end
 use Rattle.dbg_ends.specs.Due.{Where, InputDue, IsFree, OutputDue}
-use Rattle.dbg_ends.specs.Steps.{InputEnds, OutputTaken, OutputFree, OutputEnds, OutputsEnd, OnlyAtBoth, IsSettled}
+use Rattle.dbg_ends.specs.Steps.{InputEnds, OutputTaken, OutputFree, OutputEnds, OutputsEnd, OnlyAtBoth, LooksThen, all_stored, file_put}
 use Rattle.dw_base.specs.Texts.{laid_texts}
 use Rattle.dw_sources.specs.Sources.{AreSources}
 
@@ -30,8 +30,8 @@ pub data RewriteEnds (path : List ℕ) (s : Settings) (b : List ℕ) : End → T
 pub data Keeps (m : PathMap) (b out : List ℕ) : Type 0 where
   both : MeaningKept m b out → LoadedKept b out → Keeps m b out
 
--- the edit is done: the input held a file that is taken, and a file might be put at the output; the output holds the
--- input's edited file with its mode, and nothing else changed
+-- the edit is done: the input held a file that is taken, which no condition refuses, and a file might be put at the output; the output holds the
+-- input's edited file with its mode, and nothing else changed. The tree was looked at, then the output was put, and then all was stored
 pub record EditDone (input output : List ℕ) (s : Settings) (limit : ℕ) (old new : Seen) : Type 0 where
   pub b : List ℕ
   pub mode : ℕ
@@ -39,11 +39,12 @@ pub record EditDone (input output : List ℕ) (s : Settings) (limit : ℕ) (old 
   pub read : Stood (now_of old) input limit (found.File b mode)
   pub free : OutputFree (now_of old) output
   pub accepted : IsEditable s b
+  pub unrefused : (r : Refusal) → EditedFails s b r → ⊥
   pub is : IsEdited s b out
   pub only : (o : List ℕ) → IsEdited s b o → o ≡ out
   pub keeps : Keeps s.maps b out
   pub written : now_of new ≡ option_map (with_node output (node.File out mode)) (now_of old)
-  pub settled : old.tells ≡ true → IsSettled new.past
+  pub calls : old.tells ≡ true → LooksThen old.past new.past (file_put output out mode ∷ all_stored ∷ [])
 
 -- this holds of what the input held and what the output holds, where the tree tells
 pub record OfFiles (P : List ℕ → List ℕ → Type 0) (input output : List ℕ) (old new : Option TreeMap) : Type 0 where
@@ -88,7 +89,8 @@ pub record IsListText (m : PathMap) (b text : List ℕ) : Type 0 where
 abbrev pub list_mode : ℕ
 list_mode = 420
 
--- the edit is done, as without a list, and the list's path holds the list, which all may read
+-- the edit is done, as without a list, and the list's path holds the list, which all may read; it was put behind the output, before all was
+-- stored
 pub record ListedDone (input output list : List ℕ) (s : Settings) (limit : ℕ) (old new : Seen) : Type 0 where
   pub b : List ℕ
   pub mode : ℕ
@@ -98,12 +100,13 @@ pub record ListedDone (input output list : List ℕ) (s : Settings) (limit : ℕ
   pub free : OutputFree (now_of old) output
   pub list_free : OutputFree (now_of old) list
   pub accepted : IsEditable s b
+  pub unrefused : (r : Refusal) → EditedFails s b r → ⊥
   pub is : IsEdited s b out
   pub only : (o : List ℕ) → IsEdited s b o → o ≡ out
   pub keeps : Keeps s.maps b out
   pub listed : IsListText s.maps b text
   pub written : now_of new ≡ option_map (with_node list (node.File text list_mode)) (option_map (with_node output (node.File out mode)) (now_of old))
-  pub settled : old.tells ≡ true → IsSettled new.past
+  pub calls : old.tells ≡ true → LooksThen old.past new.past (file_put output out mode ∷ file_put list text list_mode ∷ all_stored ∷ [])
 
 -- how an edit with a list ends, by the step at which it does
 pub data ListedEnds (input output list : List ℕ) (s : Settings) (limit : ℕ) (old new : Seen) : End → Type 0 where

@@ -10,10 +10,10 @@ use Rattle.file_tree.specs.Causes.{Rose, OnlyAt}
 use Rattle.file_tree.specs.Heard.{Heard}
 use Rattle.dbg_ends.specs.declared.end.End.{End}
 use Rattle.dbg_ends.specs.declared.end.End.TheVariants as end
-use Rattle.dbg_ends.specs.Due.{IsCut}
+use Rattle.dbg_ends.specs.Due.{IsCut, IsRefusal, IsUnplanned}
 use Rattle.dbg_ends.specs.Steps.{OnlyAtBoth}
 use Rattle.dbg_words.specs.declared.command.Command.{Command}
-use Rattle.dbg_words.specs.declared.command.Command.TheVariants.{Edit, Split, Show}
+use Rattle.dbg_words.specs.declared.command.Command.TheVariants.{Edit, Split, Run, Show}
 use Rattle.dbg_run.specs.Built.{built}
 use Rattle.dbg_run.specs.Edits.{EditDone, OfFiles, EditEnds, EditDue, EditUnopposed, ListedDone, ListedEnds, ListedDue, ListedUnopposed}
 use Rattle.dbg_run.specs.Shows.{HasBegun, ShowDone, ShowEnds, ShowDue, ShowUnopposed, base_name}
@@ -91,6 +91,12 @@ OutputFails c heard said = ⊥
 abbrev pub MayWrite : Option Command → ℕ → Type 0
 MayWrite (Some (Show file debug)) n = HasBegun n
 MayWrite c n = ⊥
+
+-- statuses at which the command leaves the tree as it was: of a run those that come before it has a plan, since it may refuse a file when it
+-- has moved others; of another command each refusal
+abbrev pub KeptBy : Option Command → ℕ → Type 0
+KeptBy (Some (Run root o jobs)) n = IsUnplanned n
+KeptBy c n = IsRefusal n
 
 -- statuses that may come in place of the one that is due: of a fault of the tree, of want of memory, and, where the command writes
 -- to the output sink, of a fault of that

@@ -1,13 +1,14 @@
 -- The command `split`: how each of its steps may end, when it is done, and which status is due.
-use Rattle.std.specs.Prelude.{◌≡◌, ℕ, true, List, Option, Some, option_map}
+use Rattle.std.specs.Prelude.{◌≡◌, ℕ, true, List, [], ◌∷◌, Option, Some, option_map}
 use Rattle.std.specs.FinMap as fin
 use Rattle.dw_base.specs.declared.fault.Refusal.{Refusal}
 use Rattle.dw_meaning.specs.Loaded.{LoadedKept}
 use Rattle.dbg_split.specs.DebugFile.{debug_file}
-use Rattle.dbg_split.specs.PairMeanings.{MeansAsOne, ReadAsOne}
+use Rattle.dbg_split.specs.PairMeanings.{MeansAsOne, ReadApart}
 use Rattle.dbg_split.specs.PairViews.{JoinsTo}
 use Rattle.dbg_split.specs.SplitFails.{SplitFails}
 use Rattle.dbg_split.specs.StrippedFile.{stripped_file}
+use Rattle.dw_view.specs.Pairs.{IsPaired}
 use Rattle.file_tree.specs.declared.node.Found.{Found}
 use Rattle.file_tree.specs.declared.node.Found.TheVariants as found
 use Rattle.file_tree.specs.declared.node.Node.TheVariants as node
@@ -19,7 +20,7 @@ use Rattle.job_types.specs.Settings.{most_file}
 use Rattle.dbg_ends.specs.declared.end.End.{End}
 use Rattle.dbg_ends.specs.declared.end.End.TheVariants as end
 use Rattle.dbg_ends.specs.Due.{Where, InputDue, IsFree, OutputDue}
-use Rattle.dbg_ends.specs.Steps.{BlamesAt, InputEnds, OutputTaken, OutputFree, OutputsEnd, OnlyAtBoth, IsSettled}
+use Rattle.dbg_ends.specs.Steps.{BlamesAt, InputEnds, OutputTaken, OutputFree, OutputsEnd, OnlyAtBoth, LooksThen, all_stored, file_put}
 use Rattle.dbg_run.specs.Shows.{base_name}
 
 -- no condition refuses the file, where its debug file has this name
@@ -27,13 +28,14 @@ pub record IsSplittable (b name : List ℕ) : Type 0 where
   pub unrefused : (r : Refusal) → SplitFails b name r → ⊥
 
 -- what a stripped file and its debug file keep of a file: together they have its sections and mean what it means, each can be read
--- where it can, and what is loaded of the stripped file is what was loaded of it
+-- where it can, they are a pair by this name, and what is loaded of the stripped file is what was loaded of it
 pub data Parts (b name stripped debug : List ℕ) : Type 0 where
-  all : JoinsTo b debug stripped → MeansAsOne b debug stripped → ReadAsOne b name debug stripped → LoadedKept b stripped
+  all : JoinsTo b debug stripped → MeansAsOne b debug stripped → ReadApart b debug stripped → IsPaired stripped debug name → LoadedKept b stripped
       → Parts b name stripped debug
 
 -- the split is done: the input held a file that can be split, and files might be put at both paths; the debug file's path holds the
--- debug file, which no one may execute, and the stripped file's the stripped file, with the input's mode; nothing else changed
+-- debug file, which no one may execute, and the stripped file's the stripped file, with the input's mode; nothing else changed. The tree
+-- was looked at, then the debug file was put, then the stripped file, and then all was stored
 pub record SplitDone (input stripped debug : List ℕ) (old new : Seen) : Type 0 where
   pub b : List ℕ
   pub mode : ℕ
@@ -44,7 +46,8 @@ pub record SplitDone (input stripped debug : List ℕ) (old new : Seen) : Type 0
   pub parts : Parts b (base_name debug) (stripped_file b (base_name debug)) (debug_file b)
   pub written : now_of new ≡ option_map (with_node stripped (node.File (stripped_file b (base_name debug)) mode))
       (option_map (with_node debug (node.File (debug_file b) (not_executable mode))) (now_of old))
-  pub settled : old.tells ≡ true → IsSettled new.past
+  pub calls : old.tells ≡ true → LooksThen old.past new.past
+      (file_put debug (debug_file b) (not_executable mode) ∷ file_put stripped (stripped_file b (base_name debug)) mode ∷ all_stored ∷ [])
 
 -- this holds of what the input held and of the stripped file and the debug file, where the tree tells
 pub record OfParts (P : List ℕ → List ℕ → List ℕ → Type 0) (input stripped debug : List ℕ) (old new : Option TreeMap) : Type 0 where

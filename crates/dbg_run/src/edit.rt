@@ -1,18 +1,20 @@
 //! The command `edit`: a file with each source path in its debug data mapped, and the list of its sources where one
 //! is asked for.
-ghost use Rattle.std.specs.Prelude.{◌≡◌, ◌≢◌, ◌⊎◌, ◌≤◌, ℕ, List, true, length, option_map, IfOk, IfErr, OnOk};
+ghost use Rattle.std.specs.Prelude.{◌≡◌, ◌≢◌, ◌⊎◌, ◌≤◌, ℕ, List, [], ◌∷◌, true, length, option_map, IfOk, IfErr, OnOk};
 ghost use Rattle.std.specs.Option.{ForSome};
 ghost use Rattle.dw_base.specs.FileViews.{view_of};
 ghost use Rattle.dw_base.specs.Layout.{output_limit};
 ghost use Rattle.dw_lines.specs.ViewTables.{TablesFound};
-ghost use Rattle.dbg_job.specs.EditedFiles.{IsEditable, IsEdited};
+ghost use Rattle.dw_base.specs.declared.fault.Refusal.{Refusal};
+ghost use Rattle.dbg_job.specs.EditedFiles.{EditedFails, IsEditable, IsEdited};
 ghost use Rattle.file_tree.specs.Seen.{now_of};
 ghost use Rattle.file_tree.specs.declared.node.Node.TheVariants as node;
 ghost use Rattle.file_tree.specs.Trees.{stands_at, with_node};
 ghost use Rattle.file_tree.specs.Causes.{Rose, OnlyAt};
+ghost use Rattle.file_tree.specs.Moments.{adds_all};
 ghost use Rattle.dbg_ends.specs.Ends.{status_of};
 ghost use Rattle.dbg_ends.specs.Due.{Where, IsCut, IsRefusal};
-ghost use Rattle.dbg_ends.specs.Steps.{IsSettled, OnlyAtBoth, OutputEnds, OutputsEnd};
+ghost use Rattle.dbg_ends.specs.Steps.{OnlyAtBoth, OutputEnds, OutputsEnd, all_stored, file_put};
 ghost use Rattle.dbg_run.specs.Edits.{Keeps, RewriteEnds, EditDone, EditEnds, EditDue, ListedDone, ListedEnds, ListedDue, list_mode};
 
 use crate::sources::list_text;
@@ -43,6 +45,7 @@ fn edited_bytes<'a>(
     ensures only { IfOk result (λ out. (o : List ℕ) → IsEdited options.now bytes.now.items o → o ≡ out.file) }
     ensures keeps { IfOk result (λ out. Keeps options.now.maps bytes.now.items out.file) }
     ensures tables { IfOk result (λ out. TablesFound (view_of bytes.now.items) out.tables.items) }
+    ensures none { OnOk result ((r : Refusal) → EditedFails options.now bytes.now.items r → ⊥) }
     ensures ends { IfErr result (RewriteEnds path.now options.now bytes.now.items) }
     ensures due { IfErr result (λ e. Where (IsEditable options.now bytes.now.items) (status_of e ≡ 0) (status_of e ≡ 3) ⊎ IsCut (status_of e)) }
     ensures not_done { IfErr result (λ e. 0 ≢ status_of e) }
@@ -72,7 +75,7 @@ fn write_file<T: Tree>(
     ensures done { OnOk result (now_of (T.seen tree.new) ≡ option_map (with_node path.now (node.File file.now mode)) (now_of (T.seen tree.old))) }
     ensures ends { IfErr result (OutputEnds path.now (T.seen tree.old) (T.seen tree.new)) }
     ensures due { IfErr result (λ e. IsCut (status_of e)) }
-    ensures settled { (T.seen tree.old).tells ≡ true → OnOk result (IsSettled (T.seen tree.new).past) }
+    ensures calls { (T.seen tree.old).tells ≡ true → OnOk result ((T.seen tree.new).past ≡ adds_all (T.seen tree.old).past (file_put path.now file.now mode ∷ all_stored ∷ [])) }
     ensures not_done { IfErr result (λ e. 0 ≢ status_of e) }
     ensures not_usage { IfErr result (λ e. 2 ≢ status_of e) }
     ensures not_output { IfErr result (λ e. 7 ≢ status_of e) }
@@ -99,7 +102,7 @@ fn write_listed<T: Tree>(
     ensures done { OnOk result (now_of (T.seen tree.new) ≡ option_map (with_node list.now (node.File names.items list_mode)) (option_map (with_node path.now (node.File file.now mode)) (now_of (T.seen tree.old)))) }
     ensures ends { IfErr result (OutputsEnd path.now list.now (T.seen tree.old) (T.seen tree.new)) }
     ensures due { IfErr result (λ e. IsCut (status_of e)) }
-    ensures settled { (T.seen tree.old).tells ≡ true → OnOk result (IsSettled (T.seen tree.new).past) }
+    ensures calls { (T.seen tree.old).tells ≡ true → OnOk result ((T.seen tree.new).past ≡ adds_all (T.seen tree.old).past (file_put path.now file.now mode ∷ file_put list.now names.items list_mode ∷ all_stored ∷ [])) }
     ensures not_done { IfErr result (λ e. 0 ≢ status_of e) }
     ensures not_usage { IfErr result (λ e. 2 ≢ status_of e) }
     ensures not_output { IfErr result (λ e. 7 ≢ status_of e) }

@@ -10,7 +10,7 @@ ghost use Rattle.dbg_ends.specs.Told.{Ended};
 ghost use Rattle.dbg_words.specs.Words.{texts};
 ghost use Rattle.dbg_words.specs.declared.command.Command.TheVariants.{Edit};
 ghost use Rattle.dbg_run.specs.Built.{built};
-ghost use Rattle.dbg_run.specs.Runs.{Cuts, EditWays, Ends, Done, Due, MayWrite, Unopposed, KeepsLoaded, KeepsMeaning, OnlyOutputs, OutputFails};
+ghost use Rattle.dbg_run.specs.Runs.{Cuts, EditWays, Ends, Done, Due, MayWrite, Unopposed, KeepsLoaded, KeepsMeaning, KeptBy, OnlyOutputs, OutputFails};
 
 use crate::built::built;
 use crate::edit::{edit, edit_listed};
@@ -57,7 +57,7 @@ fn run_command<T: Tree, O: Sink>(alloc: Global, words: &[String], tree: &mut T, 
     ensures no_command { built (texts words.now) ≡ None → (status_of result ≡ 2) ⊎ (status_of result ≡ 13) }
     ensures fault { status_of result ≡ 6 → Rose (T.seen tree.old).faults (T.seen tree.new).faults }
     ensures output_fault { status_of result ≡ 7 → OutputFails (built (texts words.now)) (O.heard out.old) (O.heard out.new) }
-    ensures kept { IsRefusal (status_of result) → now_of (T.seen tree.new) ≡ now_of (T.seen tree.old) }
+    ensures kept { KeptBy (built (texts words.now)) (status_of result) → now_of (T.seen tree.new) ≡ now_of (T.seen tree.old) }
     ensures others { OnlyOutputs (built (texts words.now)) (T.seen tree.old) (T.seen tree.new) }
     ensures silent { (MayWrite (built (texts words.now)) (status_of result) → ⊥) → O.heard out.new ≡ O.heard out.old }
     ensures tells { (T.seen tree.new).tells ≡ (T.seen tree.old).tells }
@@ -114,7 +114,7 @@ fn run_told<T: Tree, O: Sink, E: Sink>(
     ensures no_command { built (texts words.now) ≡ None → (result ≡ 2) ⊎ (result ≡ 13) }
     ensures fault { result ≡ 6 → Rose (T.seen tree.old).faults (T.seen tree.new).faults }
     ensures output_fault { result ≡ 7 → OutputFails (built (texts words.now)) (O.heard out.old) (O.heard out.new) }
-    ensures kept { IsRefusal result → now_of (T.seen tree.new) ≡ now_of (T.seen tree.old) }
+    ensures kept { KeptBy (built (texts words.now)) result → now_of (T.seen tree.new) ≡ now_of (T.seen tree.old) }
     ensures others { OnlyOutputs (built (texts words.now)) (T.seen tree.old) (T.seen tree.new) }
     ensures quiet { result ≡ 0 → E.heard err.new ≡ E.heard err.old }
     ensures silent { (MayWrite (built (texts words.now)) result → ⊥) → O.heard out.new ≡ O.heard out.old }
@@ -147,10 +147,10 @@ pub fn run_words<T: Tree, O: Sink, E: Sink>(
     // Where nothing is against the command, and no fault came, it is done, want of memory aside.
     ensures completes { ForSome (now_of (T.seen tree.old)) (λ t. Unopposed (built (texts words.now)) t → (Rose (T.seen tree.old).faults (T.seen tree.new).faults → ⊥) → (OutputFails (built (texts words.now)) (O.heard out.old) (O.heard out.new) → ⊥) → (result ≡ 0) ⊎ (result ≡ 13)) }
 
-    // At 0 the command is done, and the error sink isn't called; a refusal leaves the tree as it was.
+    // At 0 the command is done, and the error sink isn't called; a refusal leaves the tree as it was, of a run one that comes before it has a plan.
     ensures done { result ≡ 0 → Done (built (texts words.now)) (T.seen tree.old) (T.seen tree.new) (O.heard out.old) (O.heard out.new) }
     ensures quiet { result ≡ 0 → E.heard err.new ≡ E.heard err.old }
-    ensures kept { IsRefusal result → now_of (T.seen tree.new) ≡ now_of (T.seen tree.old) }
+    ensures kept { KeptBy (built (texts words.now)) result → now_of (T.seen tree.new) ≡ now_of (T.seen tree.old) }
 
     // The debug data of the output mean what those of the input meant, with the map applied once to each source path; those of
     // a stripped file and its debug file together mean what those of the input meant; and what is loaded is as it was.

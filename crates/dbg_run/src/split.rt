@@ -1,7 +1,8 @@
 //! The command `split`: a file in two, one without debug data and symbols that still runs, and a debug file to which it links.
-ghost use Rattle.std.specs.Prelude.{◌≡◌, ◌≢◌, ◌⊎◌, ◌≤◌, true, length, IfOk, IfErr, OnOk, option_map};
+ghost use Rattle.std.specs.Prelude.{◌≡◌, ◌≢◌, ◌⊎◌, ◌≤◌, [], ◌∷◌, true, false, length, IfOk, IfErr, OnOk, option_map};
 ghost use Rattle.std.specs.Option.{ForSome};
 ghost use Rattle.dw_base.specs.Layout.{output_limit};
+ghost use Rattle.dw_base.specs.Texts.{has_nul};
 ghost use Rattle.dbg_split.specs.DebugFile.{debug_file};
 ghost use Rattle.dbg_split.specs.SplitFails.{SplitFails};
 ghost use Rattle.dbg_split.specs.StrippedFile.{stripped_file};
@@ -11,9 +12,10 @@ ghost use Rattle.file_tree.specs.Seen.{now_of};
 ghost use Rattle.file_tree.specs.declared.node.Node.TheVariants as node;
 ghost use Rattle.file_tree.specs.Trees.{stands_at, with_node};
 ghost use Rattle.file_tree.specs.Causes.{Rose};
+ghost use Rattle.file_tree.specs.Moments.{adds_all};
 ghost use Rattle.dbg_ends.specs.Ends.{status_of};
 ghost use Rattle.dbg_ends.specs.Due.{Where, IsCut, IsRefusal};
-ghost use Rattle.dbg_ends.specs.Steps.{BlamesAt, IsSettled, OnlyAtBoth, OutputsEnd};
+ghost use Rattle.dbg_ends.specs.Steps.{BlamesAt, OnlyAtBoth, OutputsEnd, all_stored, file_put};
 ghost use Rattle.dbg_run.specs.Shows.{base_name};
 ghost use Rattle.dbg_run.specs.Splits.{IsSplittable, Parts, SplitDone, SplitDue, SplitEnds};
 
@@ -34,6 +36,7 @@ fn split_file<'a>(
     debug: &str,
 ) -> Result<Pair<'a>, End>
     requires small { length bytes.now.items ≤ output_limit }
+    requires plain { has_nul (base_name debug.now) ≡ false }
     ensures splittable { OnOk result (IsSplittable bytes.now.items (base_name debug.now)) }
     ensures stripped { IfOk result (λ pair. pair.stripped.items ≡ stripped_file bytes.now.items (base_name debug.now)) }
     ensures debug { IfOk result (λ pair. pair.debug ≡ debug_file bytes.now.items) }
@@ -66,7 +69,7 @@ fn write_pair<T: Tree>(
     ensures done { OnOk result (now_of (T.seen tree.new) ≡ option_map (with_node stripped.now (node.File pair.entry.stripped.items mode)) (option_map (with_node debug.now (node.File pair.entry.debug debug_mode)) (now_of (T.seen tree.old)))) }
     ensures ends { IfErr result (OutputsEnd debug.now stripped.now (T.seen tree.old) (T.seen tree.new)) }
     ensures due { IfErr result (λ e. IsCut (status_of e)) }
-    ensures settled { (T.seen tree.old).tells ≡ true → OnOk result (IsSettled (T.seen tree.new).past) }
+    ensures calls { (T.seen tree.old).tells ≡ true → OnOk result ((T.seen tree.new).past ≡ adds_all (T.seen tree.old).past (file_put debug.now pair.entry.debug debug_mode ∷ file_put stripped.now pair.entry.stripped.items mode ∷ all_stored ∷ [])) }
     ensures not_done { IfErr result (λ e. 0 ≢ status_of e) }
     ensures not_usage { IfErr result (λ e. 2 ≢ status_of e) }
     ensures not_output { IfErr result (λ e. 7 ≢ status_of e) }
@@ -84,7 +87,7 @@ fn write_pair<T: Tree>(
 }
 
 /// Reads the input, looks whether the two files may be put, splits the input, and writes the debug file and then the
-/// stripped file.
+/// stripped file. No word of a command has a NUL, so neither does a name of one.
 #[tactic(auto, using(crate::proofs::Rows::split_rows))]
 fn split_steps<T: Tree>(
     alloc: Global,
@@ -93,6 +96,7 @@ fn split_steps<T: Tree>(
     debug: &str,
     tree: &mut T,
 ) -> Result<(), End>
+    requires plain { has_nul (base_name debug.now) ≡ false }
     ensures done { OnOk result (SplitDone input.now stripped.now debug.now (T.seen tree.old) (T.seen tree.new)) }
     ensures ends { IfErr result (SplitEnds input.now stripped.now debug.now (T.seen tree.old) (T.seen tree.new)) }
     ensures due { IfErr result (λ e. ForSome (now_of (T.seen tree.old)) (λ t. SplitDue (base_name debug.now) (stands_at t input.now most_file) (stands_at t stripped.now 0) (stands_at t debug.now 0) (status_of e) ⊎ IsCut (status_of e))) }
@@ -125,6 +129,7 @@ fn split_steps<T: Tree>(
 /// which a file may be executed, and then the stripped file's to the stripped file, with the input's mode.
 #[tactic(auto, using(crate::proofs::Rows::split_rows))]
 pub fn split<T: Tree>(alloc: Global, input: &str, stripped: &str, debug: &str, tree: &mut T) -> End
+    requires plain { has_nul (base_name debug.now) ≡ false }
     ensures ends { SplitEnds input.now stripped.now debug.now (T.seen tree.old) (T.seen tree.new) result }
     ensures done { 0 ≡ status_of result → SplitDone input.now stripped.now debug.now (T.seen tree.old) (T.seen tree.new) }
     ensures due { ForSome (now_of (T.seen tree.old)) (λ t. SplitDue (base_name debug.now) (stands_at t input.now most_file) (stands_at t stripped.now 0) (stands_at t debug.now 0) (status_of result) ⊎ IsCut (status_of result)) }

@@ -6,12 +6,14 @@ use Rattle.dw_base.specs.ElfFails.{ElfReads}
 use Rattle.dw_base.specs.Layout.{is_fixed, is_loaded_kind, output_limit}
 use Rattle.dw_base.specs.LayoutFails.TooLong.{long}
 use Rattle.dw_base.specs.declared.fault.Refusal.{Refusal}
+use Rattle.dw_base.specs.Texts.{has_nul}
 use Rattle.dw_base.proofs.RelocationSectionLaws.{relocations_read-loaded}
 use Rattle.dbg_split.specs.DebugFile.{debug_file}
 use Rattle.dbg_split.specs.DebugFileReads.{ReadsDebug}
 use Rattle.dw_meaning.specs.Loaded.{LoadedKept}
+use Rattle.dw_view.specs.Pairs.{IsPaired}
 use Rattle.dbg_split.specs.KeptFront.{KeepsFront}
-use Rattle.dbg_split.specs.PairMeanings.{MeansAsOne, ReadAsOne}
+use Rattle.dbg_split.specs.PairMeanings.{MeansAsOne, ReadApart}
 use Rattle.dbg_split.specs.PairViews.{JoinsTo}
 use Rattle.dbg_split.specs.SplitFails.{SplitFails}
 use Rattle.dbg_split.specs.SplitFails.SplitFails.{long_debug, long_stripped, shape}
@@ -100,13 +102,16 @@ pub means-back : (b name d s : List ℕ) → length b ≤ output_limit → ElfRe
     → d ≡ debug_file b → s ≡ stripped_file b name → MeansAsOne b d s
 means-back b name d s small reads bytes none d_is s_is = means-as-one b name d s (pair-of b name d s small reads bytes none d_is s_is)
 
+pub paired-back : (b name d s : List ℕ) → length b ≤ output_limit → ElfReads b → ((k : ℕ) → slice_index b k < 256) → NoneFails b name
+    → d ≡ debug_file b → s ≡ stripped_file b name → has_nul name ≡ false → IsPaired s d name
+paired-back b name d s small reads bytes none d_is s_is plain = is-paired b name d s (pair-of b name d s small reads bytes none d_is s_is) d_is plain
+
 pub reads-back : (b name d s : List ℕ) → length b ≤ output_limit → ElfReads b → ((k : ℕ) → slice_index b k < 256) → NoneFails b name
-    → KeepsFront b s → d ≡ debug_file b → s ≡ stripped_file b name → ReadAsOne b name d s
+    → KeepsFront b s → d ≡ debug_file b → s ≡ stripped_file b name → ReadApart b d s
 reads-back b name d s small reads bytes none front d_is s_is =
     let p = pair-of b name d s small reads bytes none d_is s_is in
     let type = type-same b name s p.stripped front in
     record {
-      paired = λ plain. is-paired b name d s p d_is plain;
       debug_reads = λ r. (record {
         sections = debug-sections b name d s p p.debug_type r.sections;
         relocations = relocations_read-loaded (contents_of d) d (debug-loaded b name d s p);

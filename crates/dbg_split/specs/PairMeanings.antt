@@ -1,15 +1,13 @@
 -- What a view means that isn't that of one file, and that a pair means what the file meant that was split.
-use Rattle.std.specs.Prelude.{false, ◌≡◌, ℕ, List}
+use Rattle.std.specs.Prelude.{◌≡◌, ℕ, List}
 use Rattle.dw_base.specs.DebugData.{DataReadings}
 use Rattle.dw_base.specs.FileViews.{View, view_of}
 use Rattle.dw_base.specs.RelocationRows.{moving_sections}
-use Rattle.dw_base.specs.Texts.{has_nul}
 use Rattle.dw_base.specs.ViewData.{Meaning, debug_data, meaning_of}
 use Rattle.dw_base.specs.ViewFails.{ViewReads}
 use Rattle.dw_meaning.specs.DataOutput.{DataReads}
 use Rattle.dw_meaning.specs.FileMeanings.{Means}
 use Rattle.dw_view.specs.PairViews.{pair_view}
-use Rattle.dw_view.specs.Pairs.{IsPaired}
 
 -- the debug data of a view can be read, and mean this
 pub record ViewMeans (v : View) (x : Meaning) : Type 0 where
@@ -26,9 +24,7 @@ pub record MeansAsOne (b debug stripped : List ℕ) : Type 0 where
   pub means : (x : Meaning) → Means b x → ViewMeans (pair_view debug stripped) x
   pub one : (x y : Meaning) → Means b x → ViewMeans (pair_view debug stripped) y → y ≡ x
 
--- the two are a pair by this name, where it has no NUL, and each can be read for its sections, and the relocations of these, where the
--- file can
-pub record ReadAsOne (b name debug stripped : List ℕ) : Type 0 where
-  pub paired : has_nul name ≡ false → IsPaired stripped debug name
+-- each of the two can be read for its sections, and the relocations of these, where the file can
+pub record ReadApart (b debug stripped : List ℕ) : Type 0 where
   pub debug_reads : ViewReads b → ViewReads debug
   pub stripped_reads : ViewReads b → ViewReads stripped

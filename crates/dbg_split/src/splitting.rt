@@ -1,16 +1,18 @@
 //! A file split in two: this project's profile.
 
-ghost use Rattle.std.specs.Prelude.{◌≡◌, ◌<◌, ◌≤◌, ℕ, length, slice_index, IfOk, OnOk, IfErr};
+ghost use Rattle.std.specs.Prelude.{◌≡◌, ◌<◌, ◌≤◌, ℕ, false, length, slice_index, IfOk, OnOk, IfErr};
 ghost use Rattle.dw_base.specs.ElfFails.{ElfReads};
 ghost use Rattle.dw_base.specs.Layout.{output_limit};
 ghost use Rattle.dw_base.specs.Refusals.{Blames};
+ghost use Rattle.dw_base.specs.Texts.{has_nul};
 ghost use Rattle.dw_base.specs.declared.fault.Refusal.{Refusal};
 ghost use Rattle.debug_link.specs.Sums.{crc32};
 ghost use Rattle.dw_meaning.specs.Loaded.{LoadedKept};
+ghost use Rattle.dw_view.specs.Pairs.{IsPaired};
 ghost use Rattle.dbg_split.specs.DebugFile.{debug_file};
 ghost use Rattle.dbg_split.specs.DebugFileReads.{ReadsDebug};
 ghost use Rattle.dbg_split.specs.KeptFront.{KeepsFront};
-ghost use Rattle.dbg_split.specs.PairMeanings.{MeansAsOne, ReadAsOne};
+ghost use Rattle.dbg_split.specs.PairMeanings.{MeansAsOne, ReadApart};
 ghost use Rattle.dbg_split.specs.PairViews.{JoinsTo};
 ghost use Rattle.dbg_split.specs.SplitFails.{SplitFails};
 ghost use Rattle.dbg_split.specs.StrippedFile.{stripped_file};
@@ -104,8 +106,10 @@ pub fn split<'a>(alloc: Global, bytes: &'a [u8], debug_name: &[u8]) -> Result<Pa
     ensures stripped_reads { IfOk result (λ pair. ReadsStripped bytes.now debug_name.now pair.stripped.items) }
     ensures joins { IfOk result (λ pair. JoinsTo bytes.now pair.debug pair.stripped.items) }
     ensures meaning { IfOk result (λ pair. MeansAsOne bytes.now pair.debug pair.stripped.items) }
-    ensures reads { IfOk result (λ pair. ReadAsOne bytes.now debug_name.now pair.debug pair.stripped.items) }
+    ensures paired { has_nul debug_name.now ≡ false → IfOk result (λ pair. IsPaired pair.stripped.items pair.debug debug_name.now) }
+    ensures reads { IfOk result (λ pair. ReadApart bytes.now pair.debug pair.stripped.items) }
     ensures loaded { IfOk result (λ pair. LoadedKept bytes.now pair.stripped.items) }
+    ensures bytes { OnOk result ((k : ℕ) → slice_index bytes.now k < 256) }
     ensures none { OnOk result ((r : Refusal) → SplitFails bytes.now debug_name.now r → ⊥) }
     ensures refused { IfErr result (Blames (SplitFails bytes.now debug_name.now)) }
 {

@@ -50,6 +50,7 @@ use Rattle.dw_base.specs.declared.fault.Refusal.{Refusal}
 use Rattle.dw_base.specs.declared.line_tables.TextPlace.{TextPlace}
 use Rattle.dw_meaning.specs.DataFails.{LinesFail}
 use Rattle.dw_meaning.proofs.DataOneLaws.{data-one}
+use Rattle.dw_meaning.proofs.EditRowLaws.{edit-excludes}
 use Rattle.dw_meaning.proofs.FileBackLaws.{build_id-back, is_read_name}
 use Rattle.dw_meaning.proofs.FileKeptLaws.{CanMap, body-line, body-lines, body-str, file-back, line-place, lines-number, plain-body, read-section, tables-apart, tables-place}
 use Rattle.dw_meaning.proofs.FileMeaningLaws.{file-meaning}
@@ -86,7 +87,7 @@ refused_elf m b (Refused r) h = file (elf h)
 pub bytes_small : (given read : List ℕ) → ((k : ℕ) → slice_index given k < 256) → read ≡ given → (k : ℕ) → slice_index read k < 256
 bytes_small given read small same k = subst (λ (x : List ℕ). slice_index x k < 256) (sym same) (small k)
 
-pub ruleset rewrite_rules = (refused_elf, bytes_small)
+pub ruleset rewrite_rules = (refused_elf, bytes_small, edit-excludes)
 
 -- one whose sections aren't handled,
 view_row : (b : List ℕ) (r : Refusal) → ElfReads b → ViewFails b r → FileFails b r

@@ -14,6 +14,7 @@ ghost use Rattle.dw_base.specs.LayoutFails.{LayoutFails, LayoutFits};
 ghost use Rattle.dw_base.specs.LayoutReads.{ReadsBack};
 ghost use Rattle.dw_meaning.specs.Loaded.{LoadedKept};
 ghost use Rattle.dw_base.specs.Refusals.{Blames};
+ghost use Rattle.dw_base.specs.declared.fault.Refusal.{Refusal as RefusalOf};
 ghost use Rattle.dw_rewrite.specs.Bodies.{FileBodiesMade};
 ghost use Rattle.dw_find.specs.FoundPaths.{PathsFound};
 ghost use Rattle.dw_find.specs.MacroSections.{UnitsFoundIn};
@@ -59,6 +60,7 @@ pub fn rewrite<'a>(alloc: Global, bytes: &'a [u8], maps: &Maps) -> Result<Rewrit
 
     // The line tables are those of the file as it was.
     ensures tables { IfOk result (λ out. TablesFound (view_of bytes.now) out.tables.items) }
+    ensures none { OnOk result ((r : RefusalOf) → EditFails maps.now bytes.now r → ⊥) }
     ensures refused { IfErr result (Blames (EditFails maps.now bytes.now)) }
 {
     let elf = ElfFile::read(alloc, bytes)?;

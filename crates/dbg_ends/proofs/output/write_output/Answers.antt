@@ -1,6 +1,10 @@
--- The call of `settle` is the last.
-use Rattle.std.proofs.Common.{rules}
+-- The file is put, and then all is stored.
+use Rattle.std.proofs.Common.{[], ◌∷◌, ◌∙◌}
+use Rattle.dbg_ends.specs.Steps.{file_put, all_stored}
+use Rattle.dbg_ends.proofs.LookLaws.{calls-then}
 use Rattle.dbg_ends.proofs.output.write_output.Goals as goal
 
-pub returns-clause-settled : goal.returns-clause-settled
-returns-clause-settled g c = λ told. record { before = (g.T.Tree.seen c.put_output.new.tree).past; is = search rules }
+pub returns-clause-calls : goal.returns-clause-calls
+returns-clause-calls g c = λ told.
+    calls-then _ _ _ (file_put c.args.path.now c.args.bytes.items c.args.mode ∷ []) (all_stored ∷ [])
+    (c.in_ok-put_output.ensures.calls told) (c.in_ok-settle.ensures.done (c.in_ok-put_output.ensures.tells ∙ told))

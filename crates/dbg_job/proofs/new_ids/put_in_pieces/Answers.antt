@@ -1,5 +1,5 @@
 -- Zeros are put, and then the first bytes of the digest.
-use Rattle.std.proofs.Common.{◌≡◌, ◌+◌, ◌≤◌, ◌∙◌, ℕ, length, replicate, ap, arith}
+use Rattle.std.proofs.Common.{◌≡◌, ◌+◌, ◌≤◌, ◌∙◌, ℕ, length, ap, arith}
 use Rattle.std.proofs.lemmas.List.{length-replicate}
 use Rattle.dbg_job.proofs.IdPlaceLaws.{digest-long, digest-put, zeros-long}
 use Rattle.dbg_job.proofs.new_ids.put_in_pieces.Goals as goal

@@ -9,8 +9,8 @@ returns-clause-done g c =
     edit_done c.args.input.now c.args.output.now c.args.options.now c.args.limit (g.T.Tree.seen c.args.tree.now) (g.T.Tree.seen c.read_input.new.tree)
     (g.T.Tree.seen c.free_output.new.tree) (g.T.Tree.seen c.write_file.new.tree) c.in_ok-bytes.bytes.items c.in_ok-out.out.file c.in_ok-bytes.mode
     c.in_ok-bytes.ensures.done c.in_ok-bytes.ensures.kept c.in_ok-bytes.ensures.tells c.in_ok-free_output.ensures.done c.in_ok-free_output.ensures.kept
-    c.in_ok-free_output.ensures.tells c.in_ok-out.ensures.accepted c.in_ok-out.ensures.output c.in_ok-out.ensures.only c.in_ok-out.ensures.keeps
-    c.in_ok-write_file.ensures.done c.in_ok-write_file.ensures.settled
+    c.in_ok-free_output.ensures.tells c.in_ok-out.ensures.accepted c.in_ok-out.ensures.none c.in_ok-out.ensures.output c.in_ok-out.ensures.only c.in_ok-out.ensures.keeps
+    c.in_ok-write_file.ensures.done c.in_ok-bytes.ensures.looks c.in_ok-free_output.ensures.looks c.in_ok-write_file.ensures.calls
 
 -- a fault of the writing is one of the edit, since the count of faults falls in no step
 pub returns-in_err-write_file-clause-fault : goal.returns-in_err-write_file-clause-fault

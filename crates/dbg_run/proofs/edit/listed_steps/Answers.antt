@@ -11,8 +11,9 @@ returns-clause-done g c =
     c.in_ok-rewritten.rewritten.file c.in_ok-names.names.items c.in_ok-file.mode
     c.in_ok-file.ensures.done c.in_ok-file.ensures.kept c.in_ok-file.ensures.tells c.in_ok-free_output.ensures.done c.in_ok-free_output.ensures.kept
     c.in_ok-free_output.ensures.tells c.in_ok-free_output-2.ensures.done c.in_ok-free_output-2.ensures.kept c.in_ok-free_output-2.ensures.tells
-    c.in_ok-rewritten.ensures.accepted c.in_ok-rewritten.ensures.output c.in_ok-rewritten.ensures.only c.in_ok-rewritten.ensures.keeps c.in_ok-names.ensures.text
-    c.in_ok-write_listed.ensures.done c.in_ok-write_listed.ensures.settled
+    c.in_ok-rewritten.ensures.accepted c.in_ok-rewritten.ensures.none c.in_ok-rewritten.ensures.output c.in_ok-rewritten.ensures.only c.in_ok-rewritten.ensures.keeps c.in_ok-names.ensures.text
+    c.in_ok-write_listed.ensures.done c.in_ok-file.ensures.looks c.in_ok-free_output.ensures.looks c.in_ok-free_output-2.ensures.looks
+    c.in_ok-write_listed.ensures.calls
 
 -- a fault of the writing is one of the edit, since the count of faults falls in no step
 pub returns-in_err-write_listed-clause-fault : goal.returns-in_err-write_listed-clause-fault

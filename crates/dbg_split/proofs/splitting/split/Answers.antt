@@ -1,5 +1,5 @@
 -- Both files read back, what is loaded is kept, and the pair has the sections and the meaning.
-use Rattle.dbg_split.proofs.PairLaws.{debug-back, joins-back, loaded-back, means-back, reads-back, stripped-back}
+use Rattle.dbg_split.proofs.PairLaws.{debug-back, joins-back, loaded-back, means-back, paired-back, reads-back, stripped-back}
 use Rattle.dbg_split.proofs.splitting.split.Goals as goal
 
 pub returns-clause-stripped_reads : goal.returns-clause-stripped_reads
@@ -27,6 +27,12 @@ pub returns-clause-meaning : goal.returns-clause-meaning
 returns-clause-meaning c =
     let made = c.in_ok-pair.ensures in
     means-back c.args.bytes.now c.args.debug_name.now c.in_ok-pair.pair.debug c.in_ok-pair.pair.stripped.items c.requires.small made.reads made.bytes made.none
+    made.debug made.stripped
+
+pub returns-clause-paired : goal.returns-clause-paired
+returns-clause-paired c =
+    let made = c.in_ok-pair.ensures in
+    paired-back c.args.bytes.now c.args.debug_name.now c.in_ok-pair.pair.debug c.in_ok-pair.pair.stripped.items c.requires.small made.reads made.bytes made.none
     made.debug made.stripped
 
 pub returns-clause-reads : goal.returns-clause-reads
