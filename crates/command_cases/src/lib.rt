@@ -52,6 +52,8 @@ mod split_shapes;
 #[cfg(test)]
 mod splits;
 #[cfg(test)]
+mod unstrips;
+#[cfg(test)]
 mod words;
 
 /// The two files of a split, each in one vector.
