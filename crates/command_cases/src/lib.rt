@@ -28,6 +28,8 @@ mod split_files;
 #[cfg(test)]
 mod splits;
 #[cfg(test)]
+mod unstrips;
+#[cfg(test)]
 mod words;
 
 /// The two files of a split, each in one vector.
