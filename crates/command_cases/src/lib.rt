@@ -20,6 +20,8 @@ mod edits;
 #[cfg(test)]
 mod outcomes;
 #[cfg(test)]
+mod output_order;
+#[cfg(test)]
 mod runs;
 #[cfg(test)]
 mod shows;

@@ -24,28 +24,40 @@ fn options_with(alloc: Global, build_id: bool) -> Result<Options, Fail> {
     })
 }
 
-/// Pieces of a file, how many of its bytes are taken, a place, the byte that is put there, and why it is left.
-const LEFT: [(&[&[u8]], usize, usize, u8, LeftWhy); 5] = [
-    (WHOLE, 0, 0, 0, LeftWhy::NoElf),
-    (WHOLE, 3, 0, 0x7f, LeftWhy::NoElf),
-    // its type
-    (WHOLE, 936, 16, 4, LeftWhy::OtherType),
-    (STRIPPED, 664, 0, 0x7f, LeftWhy::AlreadyLinked),
-    // the last letter of the name of its link
-    (STRIPPED, 664, 259, b'q', LeftWhy::NothingToStrip),
+/// What a file is, its pieces, how many of its bytes are taken, a place, the byte that is put there, and why it is left.
+const LEFT: [(&str, &[&[u8]], usize, usize, u8, LeftWhy); 5] = [
+    ("no bytes", WHOLE, 0, 0, 0, LeftWhy::NoElf),
+    ("three bytes", WHOLE, 3, 0, 0x7f, LeftWhy::NoElf),
+    ("a core file", WHOLE, 936, 16, 4, LeftWhy::OtherType),
+    (
+        "a stripped file",
+        STRIPPED,
+        664,
+        0,
+        0x7f,
+        LeftWhy::AlreadyLinked,
+    ),
+    (
+        "one whose link has another name",
+        STRIPPED,
+        664,
+        259,
+        b'q',
+        LeftWhy::NothingToStrip,
+    ),
 ];
 
 #[test]
 fn a_file_is_left_by_the_first_rule_that_applies(rt: HostRuntime) -> Result<(), Fail> {
     let alloc = rt.alloc();
     let options = options_with(alloc, true)?;
-    for (pieces, len, at, byte, why) in LEFT.iter() {
+    for (shows, pieces, len, at, byte, why) in LEFT.iter() {
         let mut bytes = joined(alloc, pieces)?;
         put(&mut bytes, *at, *byte);
         bytes.truncate(*len);
         match become_of(alloc, &bytes, &options, b"a.debug") {
-            Ok(Outcome::Left(found)) => assert_eq!(rt; found, *why),
-            _ => assert!(rt; false, "it is left"),
+            Ok(Outcome::Left(found)) => assert_eq!(rt; found, *why, "{}", *shows),
+            _ => assert!(rt; false, "it is left: {}", *shows),
         }
     }
     Ok(())
@@ -64,18 +76,20 @@ fn a_file_that_is_not_left_is_refused_as_by_an_edit(rt: HostRuntime) -> Result<(
 }
 
 /// Whether build-ids are made anew, the build-id of the edited file, and the sums of the stripped file and the debug file.
-const SPLITS: [(bool, &[u8], u32, u32); 2] = [
-    (false, &[0xab, 0xcd, 0xef, 0x01], 568_160_261, 764_567_391),
-    (
-        true,
-        &[0x0d, 0xe6, 0x4c, 0x2d],
-        4_182_281_937,
-        2_629_062_108,
-    ),
-];
+type Split = (bool, &'static [u8], u32, u32);
+
+const KEPT: Split = (false, &[0xab, 0xcd, 0xef, 0x01], 568_160_261, 764_567_391);
+
+const MADE: Split = (
+    true,
+    &[0x0d, 0xe6, 0x4c, 0x2d],
+    4_182_281_937,
+    2_629_062_108,
+);
 
 /// Asserts that a file was split into files of these sums, with this build-id and no sources.
-fn assert_split(rt: &impl Abort, outcome: &Outcome, wanted: &[u8], sums: (u32, u32)) {
+fn assert_split(rt: &impl Abort, shows: &str, outcome: &Outcome, wanted: Split) {
+    let (_, build_id, stripped_sum, debug_sum) = wanted;
     match outcome {
         Outcome::Split {
             stripped,
@@ -83,27 +97,27 @@ fn assert_split(rt: &impl Abort, outcome: &Outcome, wanted: &[u8], sums: (u32, u
             id: Some(id),
             sources,
         } => {
-            assert_eq!(rt; crc32(stripped.as_slice()), sums.0);
-            assert_eq!(rt; crc32(debug.as_slice()), sums.1);
-            assert_eq!(rt; id.as_slice(), wanted);
-            assert!(rt; sources.as_slice().is_empty());
+            assert_eq!(rt; crc32(stripped.as_slice()), stripped_sum, "{}", shows);
+            assert_eq!(rt; crc32(debug.as_slice()), debug_sum, "{}", shows);
+            assert_eq!(rt; id.as_slice(), build_id, "{}", shows);
+            assert!(rt; sources.as_slice().is_empty(), "{}", shows);
         }
-        _ => assert!(rt; false, "it is split"),
+        _ => assert!(rt; false, "it is split: {}", shows),
     }
 }
 
 #[test]
 fn a_file_that_is_loaded_is_edited_and_split(rt: HostRuntime) -> Result<(), Fail> {
     let alloc = rt.alloc();
-    for (build_id, wanted, stripped_sum, debug_sum) in SPLITS.iter() {
-        let options = options_with(alloc, *build_id)?;
+    for (shows, wanted) in [("its id is kept", KEPT), ("its id is made", MADE)] {
+        let options = options_with(alloc, wanted.0)?;
         let mut bytes = joined(alloc, WHOLE)?;
         // the names of its debug data become others, so that symbols alone are dropped
         put(&mut bytes, 229, b'h');
         put(&mut bytes, 241, b'h');
         put(&mut bytes, 255, b'h');
         let outcome = become_of(alloc, &bytes, &options, b"a.debug")?;
-        assert_split(&rt, &outcome, wanted, (*stripped_sum, *debug_sum));
+        assert_split(&rt, shows, &outcome, wanted);
     }
     Ok(())
 }

@@ -142,33 +142,34 @@ pub(crate) fn run_to(
     })
 }
 
-/// Asserts that an edit of `in` ends with this status and this line, and that nothing is put.
-fn assert_ends(
+/// Asserts that an edit of `in` ends as a tree fault, and that nothing is put.
+fn assert_fault(
     rt: &impl Abort,
     alloc: Global,
     tree: &mut MemTree,
-    status: u8,
-    line: &str,
+    shows: &str,
 ) -> Result<(), TreeErr> {
-    let before = tree.nodes().len();
     let ran = run(alloc, EDIT, tree)?;
-    assert_eq!(rt; ran.status, status);
-    assert_eq!(rt; ran.errors.bytes(), line.as_bytes());
-    assert!(rt; ran.output.bytes().is_empty());
-    assert_eq!(rt; tree.nodes().len(), before);
+    assert_eq!(rt; ran.status, 6, "{}", shows);
+    assert_eq!(rt; ran.errors.bytes(), b"tree fault\n".as_slice(), "{}", shows);
+    assert!(rt; ran.output.bytes().is_empty(), "{}", shows);
+    assert_eq!(rt; tree.nodes().len(), 1, "{}", shows);
     Ok(())
 }
 
 #[test]
-fn a_read_that_fails_is_a_tree_fault(rt: HostRuntime) -> Result<(), Fail> {
+fn a_call_that_fails_is_a_tree_fault(rt: HostRuntime) -> Result<(), Fail> {
     let alloc = rt.alloc();
-    for call in [0, 1] {
+    for (shows, call) in [("the input", 0), ("the output's path", 1)] {
         let mut tree = tree_with(alloc, "in", file_of(built_file(alloc)?))?;
         let mut calls = Vec::new(alloc);
         calls.push(call)?;
         tree.fail_calls(calls);
-        assert_ends(&rt, alloc, &mut tree, 6, "tree fault\n")?;
+        assert_fault(&rt, alloc, &mut tree, shows)?;
     }
+    let mut tree = tree_with(alloc, "in", file_of(built_file(alloc)?))?;
+    tree.stop_after(2);
+    assert_fault(&rt, alloc, &mut tree, "the output")?;
     Ok(())
 }
 
@@ -191,14 +192,5 @@ fn an_edit_gives_the_worked_file_byte_for_byte(rt: HostRuntime) -> Result<(), Fa
         _ => assert!(rt; false, "two files are there"),
     }
     assert_eq!(rt; tree.settle_count(), 1);
-    Ok(())
-}
-
-#[test]
-fn a_write_that_fails_is_a_tree_fault(rt: HostRuntime) -> Result<(), Fail> {
-    let alloc = rt.alloc();
-    let mut tree = tree_with(alloc, "in", file_of(built_file(alloc)?))?;
-    tree.stop_after(2);
-    assert_ends(&rt, alloc, &mut tree, 6, "tree fault\n")?;
     Ok(())
 }
