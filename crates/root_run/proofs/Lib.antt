@@ -1,0 +1,14 @@
+pub mod BegunLaws
+pub mod CoreLaws
+pub mod WaysLaws
+pub mod WantedLaws
+pub mod MovedLaws
+pub mod BeforeLaws
+pub mod KeysLaws
+pub mod MadeLaws
+pub mod RootLaws
+pub mod CountLaws
+pub mod TargetLaws
+pub mod PlanLaws
+pub mod GivenLaws
+pub mod TextLaws

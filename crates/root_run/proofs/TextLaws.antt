@@ -1,0 +1,163 @@
+-- The texts of a work folder that a stop left partway are the run's own: the plan that is read there is the run's plan, and the report that is
+-- read there is the plan's.
+use Rattle.std.proofs.Common.{◌≡◌, ℕ, ◌≤◌, ◌<◌, true, ◌⊎◌, inl, inr, List, [], ◌++◌, length, refl, sym, ap, subst, ◌∙◌, arith, Result, Ok, Err}
+use Rattle.std.specs.Prelude.{Option, Some, None, IsTrue, is_some}
+use Rattle.std.specs.FinMap as fin
+use Rattle.file_tree.specs.declared.node.Node.{Node}
+use Rattle.file_tree.specs.declared.node.Node.TheVariants as node
+use Rattle.file_tree.specs.declared.node.Found.TheVariants as found
+use Rattle.file_tree.specs.Trees.{TreeMap, stands_at}
+use Rattle.file_tree.specs.Seen.{Seen, map_now}
+use Rattle.journal_core.specs.Marks.{Mark, Marking, absent, first, whole, any, is_kept}
+use Rattle.journal_core.specs.Names.{plan, final}
+use Rattle.journal_core.specs.Shapes.{HasShape}
+use Rattle.journal_core.specs.Shapes.{HasShape as shape}
+use Rattle.work_texts.specs.declared.journal_err.JournalErr.{JournalErr}
+use Rattle.work_texts.specs.declared.key.RunKey.{RunKey}
+use Rattle.work_texts.specs.declared.plan.FinishedData.{FinishedData}
+use Rattle.work_texts.specs.declared.plan.PlanData.{PlanData}
+use Rattle.work_texts.specs.Fields.{Field, text_of, plan_fields, finished_fields}
+use Rattle.work_texts.specs.Reading.{Reading, plan_at, finished_at}
+use Rattle.work_texts.specs.Rules.{IsPlan, IsFinished, IsPlanText, IsFinishedText, text_limit}
+use Rattle.work_texts.proofs.Formats.{IsReader, ok_is}
+use Rattle.work_texts.proofs.TextReaders.{plan_reader, finished_reader}
+use Rattle.work_journal.specs.declared.opening.Opened.{Opened}
+use Rattle.work_journal.specs.declared.opening.Opened.TheVariants as opened
+use Rattle.work_journal.specs.Ending.{text_file}
+use Rattle.work_journal.specs.Opening.{PlanKept, FinishedKept, TextStands}
+use Rattle.work_journal.specs.Opening.{PlanKept as plan_kept, FinishedKept as finished_kept}
+use Rattle.work_journal.specs.Wanted.{Wanted, IsPartway, MarkHas}
+use Rattle.work_journal.specs.Work.{work_path}
+use Rattle.root_run.specs.Wholes.{wanted_of, finished_of, finished_text}
+use Rattle.root_run.proofs.MadeLaws.{Stands, read-stands}
+
+-- ### What the marks say
+
+kept-by : (x : Mark) → IsTrue (is_kept x) → (x ≡ absent) ⊎ (x ≡ whole)
+kept-by absent e = inl refl
+kept-by first e = cc
+kept-by whole e = inr refl
+kept-by any e = cc
+
+plan-mark : (steps : List ℕ) (m : Marking) → HasShape steps m → (m.plan ≡ absent) ⊎ (m.plan ≡ whole)
+plan-mark steps m (shape.unplanned h) = inl h.rest.plan
+plan-mark steps m (shape.underway h) = inr h.plan
+plan-mark steps m (shape.finished h) = kept-by m.plan h.plan
+
+finished-mark : (steps : List ℕ) (m : Marking) → HasShape steps m → (m.final 3 ≡ absent) ⊎ (m.final 3 ≡ whole)
+finished-mark steps m (shape.unplanned h) = inl (h.rest.final 3 (omega arith))
+finished-mark steps m (shape.underway h) = inl h.finished
+finished-mark steps m (shape.finished h) = inr (h.final 3 (omega arith))
+
+absent-has : (x : Mark) (was : Option Node) (n : Node) (o : Option Node) → x ≡ absent → MarkHas x was n o → o ≡ None
+absent-has x was n o e has = subst (λ (y : Mark). MarkHas y was n o) e has
+
+whole-has : (x : Mark) (was : Option Node) (n : Node) (o : Option Node) → x ≡ whole → MarkHas x was n o → o ≡ Some n
+whole-has x was n o e has = subst (λ (y : Mark). MarkHas y was n o) e has
+
+own-by : (x : Mark) (was : Option Node) (n : Node) (o : Option Node) → (x ≡ absent) ⊎ (x ≡ whole) → MarkHas x was n o → (o ≡ None) ⊎ (o ≡ Some n)
+own-by x was n o (inl e) has = inl (absent-has x was n o e has)
+own-by x was n o (inr e) has = inr (whole-has x was n o e has)
+
+-- a plan, and a finished text, are there whole or not at all
+pub own-plan : (w : Wanted) (t : TreeMap) → IsPartway w t → (fin.get t (work_path w.work plan) ≡ None) ⊎ (fin.get t (work_path w.work plan) ≡ Some (w.node plan))
+own-plan w t p = own-by p.marking.plan (fin.get w.start (work_path w.work plan)) (w.node plan) (fin.get t (work_path w.work plan)) (plan-mark w.steps p.marking p.shape) (p.has.named plan tt)
+
+pub own-finished : (w : Wanted) (t : TreeMap) → IsPartway w t → (fin.get t (work_path w.work (final 3)) ≡ None) ⊎ (fin.get t (work_path w.work (final 3)) ≡ Some (w.node (final 3)))
+own-finished w t p =
+    own-by (p.marking.final 3) (fin.get w.start (work_path w.work (final 3))) (w.node (final 3)) (fin.get t (work_path w.work (final 3)))
+    (finished-mark w.steps p.marking p.shape) (p.has.named (final 3) (omega arith))
+
+-- ### What is read there
+
+-- a text has one value
+one-value : {X : Type 0} (fields : X → List Field) (Fits : X → Type 0) (read : List ℕ → Reading X) → IsReader fields Fits read → (x y : X) → Fits x → Fits y
+    → text_of (fields x) ≡ text_of (fields y) → x ≡ y
+one-value {X} fields Fits read r x y a b e =
+    ap (λ (q : X × List ℕ). q.0) (ok_is (x, []) (y, []) (sym (r.again x [] a) ∙ ap (λ (t : List ℕ). read (t ++ [])) e ∙ r.again y [] b))
+
+none-file : (bytes : List ℕ) (mode : ℕ) → Some (node.File bytes mode) ≡ None → ⊥
+none-file bytes mode e = cc
+
+same-text : (a b : List ℕ) (m n : ℕ) → Some (node.File a m) ≡ Some (node.File b n) → a ≡ b
+same-text a b m n e = cc
+
+read-own : (o : Option Node) (a b : List ℕ) (m limit : ℕ) → (o ≡ None) ⊎ (o ≡ Some (text_file b)) → Stands o limit a m → a ≡ b
+read-own o a b m limit (inl e) s = absurd (none-file a m (sym s.there ∙ e))
+read-own o a b m limit (inr e) s = same-text a b m 420 (sym s.there ∙ e)
+
+module _ (start : TreeMap) (root work : List ℕ) (p : PlanData) (made : List (List Node)) (t : TreeMap) (partway : IsPartway (wanted_of start root work p made) t) where
+  -- the bytes of a file at the plan's path are the plan's text
+  pub plan-bytes : (bytes : List ℕ) (mode : ℕ) → stands_at t (work_path work plan) text_limit ≡ found.File bytes mode → bytes ≡ text_of (plan_fields p)
+  plan-bytes bytes mode e =
+      read-own (fin.get t (work_path work plan)) bytes (text_of (plan_fields p)) mode text_limit (own-plan (wanted_of start root work p made) t partway)
+      (read-stands t (work_path work plan) text_limit bytes mode e)
+
+  pub finished-bytes : (bytes : List ℕ) (mode : ℕ) → stands_at t (work_path work (final 3)) text_limit ≡ found.File bytes mode → bytes ≡ finished_text p
+  finished-bytes bytes mode e =
+      read-own (fin.get t (work_path work (final 3))) bytes (finished_text p) mode text_limit (own-finished (wanted_of start root work p made) t partway)
+      (read-stands t (work_path work (final 3)) text_limit bytes mode e)
+
+  -- so what is read there is the plan, and the end of its run
+  pub plan-read : (bytes : List ℕ) (mode : ℕ) (q : PlanData) → IsPlan p → stands_at t (work_path work plan) text_limit ≡ found.File bytes mode → IsPlanText bytes q → q ≡ p
+  plan-read bytes mode q fits e text =
+      one-value plan_fields IsPlan plan_at plan_reader q p text.plan fits (sym text.text ∙ plan-bytes bytes mode e)
+
+  pub finished-read : (bytes : List ℕ) (mode : ℕ) (d : FinishedData) → IsFinished (finished_of p) → stands_at t (work_path work (final 3)) text_limit ≡ found.File bytes mode
+      → IsFinishedText bytes d → d ≡ finished_of p
+  finished-read bytes mode d fits e text =
+      one-value finished_fields IsFinished finished_at finished_reader d (finished_of p) text.finished fits (sym text.text ∙ finished-bytes bytes mode e)
+
+  -- and a text of this plan is never bad
+  pub plan-good : (bytes : List ℕ) (mode : ℕ) → IsPlan p → length (text_of (plan_fields p)) ≤ text_limit → stands_at t (work_path work plan) text_limit ≡ found.File bytes mode → IsPlanText bytes p
+  plan-good bytes mode fits short e = record { plan = fits; text = plan-bytes bytes mode e; within = subst (λ (b : List ℕ). length b ≤ text_limit) (sym (plan-bytes bytes mode e)) short }
+
+  pub finished-good : (bytes : List ℕ) (mode : ℕ) → IsFinished (finished_of p) → length (finished_text p) ≤ text_limit
+      → stands_at t (work_path work (final 3)) text_limit ≡ found.File bytes mode → IsFinishedText bytes (finished_of p)
+  finished-good bytes mode fits short e =
+      record { finished = fits; text = finished-bytes bytes mode e; within = subst (λ (b : List ℕ). length b ≤ text_limit) (sym (finished-bytes bytes mode e)) short }
+
+-- ### What a start opens
+
+abbrev ok_of : Opened → Result Opened JournalErr
+ok_of o = Ok o
+
+no-err : (o : Opened) (e : JournalErr) → Err e ≡ ok_of o → ⊥
+no-err o e h = cc
+
+same-plan : (p q : PlanData) → ok_of (opened.Resumed p) ≡ ok_of (opened.Resumed q) → p ≡ q
+same-plan p q e = cc
+
+same-report : (r d : List ℕ) → ok_of (opened.Finished r) ≡ ok_of (opened.Finished d) → r ≡ d
+same-report r d e = cc
+
+not-resumed : (r : List ℕ) (q : PlanData) → ok_of (opened.Finished r) ≡ ok_of (opened.Resumed q) → ⊥
+not-resumed r q e = cc
+
+module _ (start : TreeMap) (root work : List ℕ) (p : PlanData) (made : List (List Node)) (seen : Seen) (tells : seen.tells ≡ true) (fits : IsPlan p)
+    (partway : IsPartway (wanted_of start root work p made) (map_now seen.past)) where
+  resumed-by : (key : RunKey) (r : Result Opened JournalErr) (q : PlanData) → r ≡ ok_of (opened.Resumed q) → PlanKept seen (work_path work plan) key r → (q ≡ p) × (p.key ≡ key)
+  resumed-by key r q e (plan_kept.plan_read bytes x stands text same) =
+      let own : x ≡ p = plan-read start root work p made (map_now seen.past) partway bytes stands.mode x fits (stands.is tells) text in
+      (sym (same-plan x q e) ∙ own, ap (λ (y : PlanData). y.key) (sym own) ∙ same)
+  resumed-by key r q e (plan_kept.plan_not_there {e = x} h) = absurd (no-err (opened.Resumed q) x e)
+  resumed-by key r q e (plan_kept.plan_bad {e = x} bytes stands h) = absurd (no-err (opened.Resumed q) x e)
+  resumed-by key r q e (plan_kept.plan_other {e = x} bytes y stands text h) = absurd (no-err (opened.Resumed q) x e)
+
+  -- a start that finds the plan takes it up by the plan of the run
+  pub resumed-own : (key : RunKey) (q : PlanData) → PlanKept seen (work_path work plan) key (Ok (opened.Resumed q)) → (q ≡ p) × (p.key ≡ key)
+  resumed-own key q kept = resumed-by key (ok_of (opened.Resumed q)) q refl kept
+
+  finished-by : (key : RunKey) (r : Result Opened JournalErr) (report : List ℕ) → r ≡ ok_of (opened.Finished report) → FinishedKept seen (work_path work (final 3)) key r
+      → (report ≡ p.report) × (p.key ≡ key)
+  finished-by key r report e (finished_kept.finished_read bytes x stands text same) =
+      let own : x ≡ finished_of p =
+      finished-read start root work p made (map_now seen.past) partway bytes stands.mode x (record { key = fits.key; report = fits.report }) (stands.is tells) text in
+      (sym (same-report x.report report e) ∙ ap (λ (y : FinishedData). y.report) own, ap (λ (y : FinishedData). y.key) (sym own) ∙ same)
+  finished-by key r report e (finished_kept.finished_not_there {e = x} h) = absurd (no-err (opened.Finished report) x e)
+  finished-by key r report e (finished_kept.finished_bad {e = x} bytes stands h) = absurd (no-err (opened.Finished report) x e)
+  finished-by key r report e (finished_kept.finished_other {e = x} bytes y stands text h) = absurd (no-err (opened.Finished report) x e)
+
+  -- and one that finds the finished text answers the report of the run
+  pub finished-own : (key : RunKey) (report : List ℕ) → FinishedKept seen (work_path work (final 3)) key (Ok (opened.Finished report)) → (report ≡ p.report) × (p.key ≡ key)
+  finished-own key report kept = finished-by key (ok_of (opened.Finished report)) report refl kept
