@@ -1,7 +1,7 @@
 -- The plan of a root with the leavings of an earlier start in its work folder is a plan of the root before the run.
-use Rattle.std.proofs.Common.{◌≡◌, ◌≢◌, ◌≤◌, ◌<◌, ◌+◌, ℕ, zero, suc, Bool, true, false, not, cond, List, [], ◌∷◌, ◌++◌, length, map, refl, sym, ap, subst, ◌∙◌, arith, inl, inr, ◌⊎◌}
-use Rattle.std.specs.Prelude.{Option, Some, None, is_some, IsTrue, Contains, ◌&&◌, ◌||◌, count_by, slice_index_or}
-use Rattle.std.specs.List.{filter, list_any}
+use Rattle.std.proofs.Common.{◌≡◌, ◌≤◌, ◌+◌, ℕ, zero, suc, Bool, true, false, not, cond, List, [], ◌∷◌, map, refl, sym, ap, subst, ◌∙◌, arith}
+use Rattle.std.specs.Prelude.{Option, Some, None, Contains, ◌&&◌, count_by}
+use Rattle.std.specs.List.{filter}
 use Rattle.std.specs.Ordering.{nat_cmp}
 use Rattle.std.specs.declared.cmp.Ordering.TheVariants.{Equal}
 use Rattle.std.specs.Cmp.Lexicographic.{slice_cmp, nat_list_cmp_total}
@@ -16,10 +16,9 @@ use Rattle.file_tree.specs.Trees.{TreeMap, is_below, keys_below}
 use Rattle.file_tree.specs.Causes.{AreInOrder}
 use Rattle.job_types.specs.Settings.{Settings}
 use Rattle.work_texts.specs.declared.plan.PlanData.{PlanData}
-use Rattle.root_plan.specs.Roots.{may_be_candidate, is_outside, count_outside, debug_folder}
+use Rattle.root_plan.specs.Roots.{may_be_candidate, is_outside, debug_folder}
 use Rattle.root_plan.specs.Targets.{new_paths}
 use Rattle.root_plan.specs.Verdicts.{JudgeView}
-use Rattle.root_plan.specs.Tallies.{Tally}
 use Rattle.root_plan.specs.Plans.{IsRunPlan, IsTaken, skipping}
 use Rattle.root_plan.specs.Plans.{IsTaken as taken}
 use Rattle.root_run.proofs.MovedLaws.{tallies-move}

@@ -1,5 +1,5 @@
 -- A start that hasn't changed the tree leaves what its stops left before; once it is settled, nothing but the map now.
-use Rattle.std.proofs.Common.{◌≡◌, List, [], ◌∷◌, ◌++◌, sym, ap, subst, ◌∙◌}
+use Rattle.std.proofs.Common.{◌≡◌, [], ◌∷◌, sym, ap, subst, ◌∙◌}
 use Rattle.std.proofs.lemmas.List.{append-nil}
 use Rattle.file_tree.specs.declared.call.Call.TheVariants as call
 use Rattle.file_tree.specs.declared.call.Effect.TheVariants as effect

@@ -1,5 +1,5 @@
 -- What is wanted by a plan of a root can be given to a journal: its names are told apart, and nothing lay in the work folder.
-use Rattle.std.proofs.Common.{◌≡◌, ℕ, ◌≤◌, ◌<◌, ◌^◌, List, length, map, get_or, refl, sym, subst, arith}
+use Rattle.std.proofs.Common.{ℕ, ◌≤◌, ◌<◌, ◌^◌, List, length, refl, sym, subst, arith}
 use Rattle.std.specs.Prelude.{Some}
 use Rattle.std.proofs.lemmas.List.{length-map}
 use Rattle.dw_base.specs.declared.fault.Refusal.{Refusal}

@@ -12,3 +12,6 @@ pub mod TargetLaws
 pub mod PlanLaws
 pub mod GivenLaws
 pub mod TextLaws
+pub mod SettleLaws
+pub mod StartLaws
+pub mod RootStartLaws

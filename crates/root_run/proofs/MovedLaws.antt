@@ -1,5 +1,5 @@
 -- The tally of a root with the leavings of an earlier start in its work folder is that of the root before the run.
-use Rattle.std.proofs.Common.{◌≡◌, ◌≢◌, ℕ, Bool, true, false, if◌then◌else◌, List, [], ◌∷◌, ◌++◌, length, refl, sym, ap, subst, ◌∙◌}
+use Rattle.std.proofs.Common.{◌≡◌, ℕ, Bool, true, false, if◌then◌else◌, List, [], ◌∷◌, ◌++◌, refl, sym, ap, subst}
 use Rattle.std.specs.Prelude.{Option, Some, None}
 use Rattle.std.specs.List.{filter, list_any}
 use Rattle.std.proofs.lemmas.List.{append-nil}
@@ -9,9 +9,7 @@ use Rattle.dw_base.specs.declared.fault.Refusal.{Refusal}
 use Rattle.file_tree.specs.declared.node.Node.{Node}
 use Rattle.file_tree.specs.declared.node.Node.TheVariants as node
 use Rattle.file_tree.specs.declared.node.Found.{Found}
-use Rattle.file_tree.specs.declared.node.Found.TheVariants as found
 use Rattle.file_tree.specs.Trees.{TreeMap, stands_at, found_of, is_below}
-use Rattle.file_tree.specs.Causes.{Stood}
 use Rattle.job_types.specs.Settings.{Settings}
 use Rattle.root_plan.specs.Roots.{may_be_candidate, below_root}
 use Rattle.root_plan.specs.Verdicts.{JudgeView}

@@ -1,7 +1,7 @@
 -- A plan that a run carries out has the jobs of one that passes over the files that are refused, so what is known of a root's plans holds
 -- of it too.
-use Rattle.std.proofs.Common.{◌≡◌, ℕ, ◌≤◌, ◌+◌, Bool, true, false, List, [], ◌∷◌, ◌++◌, length, refl, sym, ap, subst, ◌∙◌, arith}
-use Rattle.std.specs.Prelude.{Option, Some, codes}
+use Rattle.std.proofs.Common.{◌≡◌, ℕ, ◌≤◌, ◌+◌, Bool, true, false, List, [], ◌∷◌, ◌++◌, length, refl, sym, ap, subst, ◌∙◌}
+use Rattle.std.specs.Prelude.{Option, codes}
 use Rattle.std.specs.Fmt.{decimal}
 use Rattle.std.specs.List.{All, flat_map}
 use Rattle.std.proofs.lemmas.List.{length-append}
@@ -13,7 +13,7 @@ use Rattle.file_tree.specs.Causes.{AreInOrder}
 use Rattle.job_types.specs.Settings.{Settings}
 use Rattle.work_texts.specs.declared.plan.JobLine.{JobLine}
 use Rattle.work_texts.specs.declared.plan.PlanData.{PlanData}
-use Rattle.work_texts.specs.Fields.{Field, text_of, flag_field, job_fields, plan_fields}
+use Rattle.work_texts.specs.Fields.{Field, text_of, flag_field, job_fields}
 use Rattle.work_texts.specs.Rules.{IsPlan, text_limit}
 use Rattle.root_plan.specs.Jobs.{AreAsked, HasFile, Serves}
 use Rattle.root_plan.specs.Plans.{IsPlanOf, IsRunPlan, plan_of, plan_length, skipping}

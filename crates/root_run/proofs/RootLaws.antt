@@ -1,6 +1,6 @@
 -- A plan that a start makes is one of the root before the run, with the nodes of its jobs; and what a plan of the root leads to.
-use Rattle.std.proofs.Common.{◌≡◌, ◌≢◌, ℕ, ◌≤◌, Bool, true, false, not, List, length, map, refl, sym, ap, subst, ◌∙◌}
-use Rattle.std.specs.Prelude.{Some, None, IsTrue}
+use Rattle.std.proofs.Common.{◌≡◌, ◌≢◌, ℕ, ◌≤◌, Bool, true, false, not, List, length, map, refl, sym, ap, subst}
+use Rattle.std.specs.Prelude.{Some, IsTrue}
 use Rattle.std.specs.FinMap as fin
 use Rattle.dw_base.specs.Layout.{file_limit}
 use Rattle.dw_base.specs.declared.fault.Refusal.{Refusal}
@@ -14,7 +14,7 @@ use Rattle.work_texts.specs.declared.plan.JobLine.{JobLine}
 use Rattle.work_texts.specs.declared.plan.PlanData.{PlanData}
 use Rattle.work_journal.specs.Work.{work_path, presence}
 use Rattle.work_journal.proofs.SpareLaws.{is_work_path}
-use Rattle.root_plan.specs.Roots.{work_folder, is_outside, may_be_candidate}
+use Rattle.root_plan.specs.Roots.{work_folder, is_outside}
 use Rattle.root_plan.specs.Plans.{IsPlanOf, IsRunPlan}
 use Rattle.root_plan.specs.Targets.{targets_of}
 use Rattle.root_plan.specs.Verdicts.{JudgeView, IsJudge}

@@ -1,5 +1,5 @@
 -- The targets of a plan's jobs differ, and lie outside the work folder.
-use Rattle.std.proofs.Common.{◌≡◌, ◌≢◌, ℕ, zero, suc, ◌+◌, ◌≤◌, ◌<◌, ◌==◌, Bool, true, false, not, if◌then◌else◌, List, [], ◌∷◌, ◌++◌, length, map, get_or, nat_lt, nat_eq, refl, sym, ap, subst, ◌∙◌, append_assoc, lit≤, arith}
+use Rattle.std.proofs.Common.{◌≡◌, ℕ, zero, suc, ◌≤◌, ◌<◌, ◌==◌, Bool, true, false, not, if◌then◌else◌, List, [], ◌∷◌, ◌++◌, length, map, get_or, nat_lt, nat_eq, refl, sym, ap, subst, ◌∙◌, append_assoc, lit≤, arith}
 use Rattle.std.specs.Prelude.{IsTrue, Contains, count_by, codes, None}
 use Rattle.std.specs.List.{All, flat_map, starts_with}
 use Rattle.std.proofs.lemmas.Bool.{ltb-true, ltb-false, eqb-true}
@@ -10,7 +10,7 @@ use Rattle.dw_base.proofs.TextLaws.{same_text-from, same_text-refl}
 use Rattle.file_tree.specs.Trees.{is_below}
 use Rattle.work_texts.specs.declared.plan.JobLine.{JobLine}
 use Rattle.work_texts.specs.Rules.{rise_after, path_of}
-use Rattle.root_plan.specs.Roots.{in_root, work_folder, is_outside, may_be_candidate}
+use Rattle.root_plan.specs.Roots.{in_root, work_folder, may_be_candidate}
 use Rattle.root_plan.specs.Targets.{has_links, debug_path, file_link, debug_link, targets_of, new_paths_of, new_paths}
 use Rattle.root_plan.specs.Makers.{no_job, job_at}
 use Rattle.root_plan.specs.Plans.{AreFree}

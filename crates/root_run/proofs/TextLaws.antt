@@ -1,7 +1,7 @@
 -- The texts of a work folder that a stop left partway are the run's own: the plan that is read there is the run's plan, and the report that is
 -- read there is the plan's.
-use Rattle.std.proofs.Common.{◌≡◌, ℕ, ◌≤◌, ◌<◌, true, ◌⊎◌, inl, inr, List, [], ◌++◌, length, refl, sym, ap, subst, ◌∙◌, arith, Result, Ok, Err}
-use Rattle.std.specs.Prelude.{Option, Some, None, IsTrue, is_some}
+use Rattle.std.proofs.Common.{◌≡◌, ℕ, ◌≤◌, true, ◌⊎◌, inl, inr, List, [], ◌++◌, length, refl, sym, ap, subst, ◌∙◌, arith, Result, Ok, Err}
+use Rattle.std.specs.Prelude.{Option, Some, None, IsTrue}
 use Rattle.std.specs.FinMap as fin
 use Rattle.file_tree.specs.declared.node.Node.{Node}
 use Rattle.file_tree.specs.declared.node.Node.TheVariants as node
@@ -24,7 +24,7 @@ use Rattle.work_texts.proofs.TextReaders.{plan_reader, finished_reader}
 use Rattle.work_journal.specs.declared.opening.Opened.{Opened}
 use Rattle.work_journal.specs.declared.opening.Opened.TheVariants as opened
 use Rattle.work_journal.specs.Ending.{text_file}
-use Rattle.work_journal.specs.Opening.{PlanKept, FinishedKept, TextStands}
+use Rattle.work_journal.specs.Opening.{PlanKept, FinishedKept}
 use Rattle.work_journal.specs.Opening.{PlanKept as plan_kept, FinishedKept as finished_kept}
 use Rattle.work_journal.specs.Wanted.{Wanted, IsPartway, MarkHas}
 use Rattle.work_journal.specs.Work.{work_path}

@@ -1,24 +1,21 @@
 -- The maker of a plan's jobs, its text and its lists are those of the run that is wanted of the plan.
-use Rattle.std.proofs.Common.{◌≡◌, ℕ, zero, suc, ◌<◌, Bool, true, false, if◌then◌else◌, List, [], ◌∷◌, ◌++◌, length, map, get_or, refl, sym, ap, subst, ◌∙◌, lit<, arith}
+use Rattle.std.proofs.Common.{◌≡◌, ℕ, zero, suc, ◌<◌, Bool, true, false, if◌then◌else◌, List, [], ◌∷◌, ◌++◌, length, map, get_or, refl, sym, ap, subst, lit<, arith}
 use Rattle.std.proofs.lemmas.List.{length-map, get_or-map}
 use Rattle.dw_base.specs.declared.fault.Refusal.{Refusal}
 use Rattle.file_tree.specs.declared.node.Node.{Node}
 use Rattle.file_tree.specs.Trees.{TreeMap}
 use Rattle.job_types.specs.Settings.{Settings}
-use Rattle.journal_core.specs.Names.{IsStep, temp, fresh}
 use Rattle.work_texts.specs.declared.plan.JobLine.{JobLine}
 use Rattle.work_texts.specs.declared.plan.PlanData.{PlanData}
-use Rattle.work_journal.specs.Ending.{AreTexts, end_nodes}
-use Rattle.work_journal.specs.Files.{IsSource, IsFile, IsWanted}
+use Rattle.work_journal.specs.Ending.{end_nodes}
+use Rattle.work_journal.specs.Files.{IsSource, IsFile}
 use Rattle.work_journal.specs.Files.{IsSource as source}
 use Rattle.work_journal.specs.Finishing.{IsRun, plan_node}
-use Rattle.work_journal.specs.Groups.{IsMade}
-use Rattle.work_journal.specs.Jobs.{AreNodes}
 use Rattle.root_plan.specs.Roots.{in_root}
-use Rattle.root_plan.specs.Targets.{has_links, targets_of, new_paths_of}
+use Rattle.root_plan.specs.Targets.{has_links, targets_of}
 use Rattle.root_plan.specs.Makers.{no_job, job_at, plan_view, plan_makes}
 use Rattle.root_plan.specs.Verdicts.{JudgeView}
-use Rattle.root_run.specs.Wholes.{IsRootPlan, IsJobMade, wanted_of, steps_of, node_of, nodes_at, no_node, lists_of, finished_text}
+use Rattle.root_run.specs.Wholes.{IsRootPlan, IsJobMade, wanted_of, steps_of, nodes_at, no_node, lists_of, finished_text}
 
 any-default : {A : Type 0} (xs : List A) (i : ℕ) (d e : A) → i < length xs → get_or xs i d ≡ get_or xs i e
 any-default [] i d e l = absurd (omega (arith, l))

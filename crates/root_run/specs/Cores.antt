@@ -3,7 +3,7 @@ use Rattle.std.specs.Prelude.{◌≡◌, ◌++◌, ◌+◌, ◌≤◌, ℕ, List
 use Rattle.dw_base.specs.declared.fault.Refusal.{Refusal}
 use Rattle.file_tree.specs.declared.node.Node.{Node}
 use Rattle.file_tree.specs.Trees.{TreeMap, keys_below}
-use Rattle.file_tree.specs.Seen.{Seen, Past, Happened, settles_of}
+use Rattle.file_tree.specs.Seen.{Past, Happened, settles_of}
 use Rattle.job_types.specs.Settings.{Settings}
 use Rattle.journal_core.specs.declared.event.Phase.TheVariants.{Closed}
 use Rattle.journal_core.specs.Table.{CoreState, new_core}

@@ -1,5 +1,5 @@
 -- Why a run over a build root ends without a report, by the step at which it does; and what became of the tree.
-use Rattle.std.specs.Prelude.{◌≡◌, ◌≢◌, ◌<◌, ℕ, true, false, List, length, Result, Ok, Err, IsTrue, ⊤}
+use Rattle.std.specs.Prelude.{◌≡◌, ℕ, List, Ok, Err}
 use Rattle.dw_base.specs.declared.fault.Refusal.{Refusal}
 use Rattle.file_tree.specs.declared.node.TreeErr.{TreeErr}
 use Rattle.file_tree.specs.declared.node.TreeErr.TheVariants as tree
@@ -9,12 +9,10 @@ use Rattle.job_types.specs.Settings.{Settings}
 use Rattle.work_texts.specs.declared.plan.PlanData.{PlanData}
 use Rattle.work_texts.specs.declared.journal_err.JournalErr.{JournalErr}
 use Rattle.work_texts.specs.declared.journal_err.JournalErr.TheVariants as journal
-use Rattle.work_journal.specs.declared.opening.Opened.{Opened}
 use Rattle.work_journal.specs.declared.opening.Opened.TheVariants as opened
 use Rattle.work_journal.specs.Blames.{RunBlames}
 use Rattle.work_journal.specs.Opening.{Opens}
 use Rattle.root_plan.specs.declared.plan_err.PlanErr.{PlanErr}
-use Rattle.root_plan.specs.declared.plan_err.PlanErr.TheVariants as plan
 use Rattle.root_plan.specs.Verdicts.{JudgeView}
 use Rattle.root_plan.specs.Walks.{AreWalked, WalkEnds}
 use Rattle.root_plan.specs.Plans.{PlanEnds, key_of}

@@ -1,5 +1,5 @@
 -- What a run over a build root is to make: of its plan and of the nodes of its jobs, the node of each name of the run.
-use Rattle.std.specs.Prelude.{◌≡◌, ◌≤◌, ◌<◌, ℕ, List, [], ◌∷◌, length, get_or, map, Option, Some, None, IsTrue, Contains}
+use Rattle.std.specs.Prelude.{◌≡◌, ◌≤◌, ◌<◌, ℕ, List, [], ◌∷◌, length, get_or, map, Some, None, IsTrue, Contains}
 use Rattle.std.specs.FinMap as fin
 use Rattle.dw_base.specs.Layout.{file_limit}
 use Rattle.dw_base.specs.declared.fault.Refusal.{Refusal}
