@@ -5,4 +5,3 @@ pub mod RootRuns
 pub mod Finals
 pub mod Cores
 pub mod RunEnds
-pub mod Dues

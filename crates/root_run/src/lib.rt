@@ -1,10 +1,10 @@
-//! A run over a build root as a whole: what it is to make, which trees are partway through it, how it ends, and why it gives no
-//! report (this project's profile). Definitions and laws; no call yet.
+//! A run over a build root as a whole: what it is to make, which trees are partway through it, and how it ends (this project's
+//! profile). Definitions and laws; no call yet.
 //!
-//! This layer promises: a tree that a stop left partway can be taken up by what its names show, from the first start to a
+//! Its laws say: a tree that a stop left partway can be taken up by what its names show, from the first start to a
 //! finished one; whatever is answered, at every moment a stop leaves the run partway; and where a run has ended, the tree is one
 //! that knows of no stops.
-//! It does not promise: that a program makes this run.
+//! They do not say that a program makes this run.
 //! Read first: `specs/Wholes.antt`, `specs/Partways.antt`, `specs/Finals.antt`.
 #![tactic(auto)]
 
