@@ -15,3 +15,4 @@ pub mod TextLaws
 pub mod SettleLaws
 pub mod StartLaws
 pub mod RootStartLaws
+pub mod MildLaws

@@ -153,10 +153,10 @@ module _ (w : Wanted) (given : IsGiven w w.work) (t : TreeMap) where
 pub record HasNames (work : List ℕ) (t : TreeMap) (paths : List (List ℕ)) : Type 0 where
   pub named : (n : Name) → has_path paths (work_path work n) ≡ is_some (fin.get t (work_path work n))
 
-plan-other : (work : List ℕ) → work_path work plan ≢ work_path work plan_new
+pub plan-other : (work : List ℕ) → work_path work plan ≢ work_path work plan_new
 plan-other work e = let sizes : ◌≡◌ {A = ℕ} 4 8 = ap (λ (t : List ℕ). length t) (same_text work plan plan_new e) in omega (arith, sizes)
 
-finished-other : (work : List ℕ) → work_path work (final 3) ≢ work_path work plan_new
+pub finished-other : (work : List ℕ) → work_path work (final 3) ≢ work_path work plan_new
 finished-other work e = let firsts : ◌≡◌ {A = ℕ} 102 112 = ap (λ (t : List ℕ). get_or t 0 0) (same_text work (final 3) plan_new e) in omega (arith, firsts)
 
 none-there : (o : Option Node) → is_some o ≡ false → o ≡ None
