@@ -71,6 +71,6 @@ pub ruleset section_rows = (name, flags, addr, size, sections-same)
 -- the two match
 pub all-same : (s d : List ℕ) (k : ℕ) → (FilesDiffer s d → ⊥) → ((n : ℕ) → Differ s d n → ⊥) → DontMatch s d k → ⊥
 all-same s d k whole lists (files h) = whole h
-all-same s d k whole lists (sections n h) = lists n h.differ
+all-same s d k whole lists (sections n apart h) = lists n h.differ
 
-pub ruleset whole_rows = (files, sections, all-same)
+pub ruleset whole_rows = (files, all-same)

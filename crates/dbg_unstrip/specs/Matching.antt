@@ -81,7 +81,7 @@ pub data FilesDiffer (s d : List ℕ) : Type 0 where
   no_link : section_name s (link_number s) ≢ debug_link → FilesDiffer s d
   in_header : HidesHeader s → FilesDiffer s d
 
--- the two files don't match, at a place
+-- the two files don't match, at a place: 0 where they don't as a whole, else the first at which their lists differ
 pub data DontMatch (s d : List ℕ) : ℕ → Type 0 where
   files : FilesDiffer s d → DontMatch s d 0
-  sections : (k : ℕ) → DifferFirst s d k → DontMatch s d k
+  sections : (k : ℕ) → (FilesDiffer s d → ⊥) → DifferFirst s d k → DontMatch s d k
