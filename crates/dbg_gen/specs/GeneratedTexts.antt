@@ -1,4 +1,4 @@
--- The texts of a generated file, and its table of texts (DWARF 5, 7.26): each text that a unit names once, in order of first
+-- The texts of a generated file, and its table of texts (DWARF 4, 7.5.4, class string): each text that a unit names once, in order of first
 -- mention. This project's profile.
 use Rattle.std.specs.Prelude.{ℕ, zero, suc, codes, List, [], ◌∷◌, ◌++◌, ◌<◌, ◌≡◌, true, slice_index}
 use Rattle.std.specs.Fmt.{decimal}

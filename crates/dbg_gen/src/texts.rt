@@ -1,4 +1,4 @@
-//! The table of texts (DWARF 5, 7.26).
+//! The table of texts (DWARF 4, 7.5.4, class string).
 
 ghost use Rattle.std.specs.Prelude.{◌≡◌, [], length, IfOk, OnOk};
 ghost use Rattle.std.specs.String.{string_bytes};
