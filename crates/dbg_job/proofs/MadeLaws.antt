@@ -44,7 +44,7 @@ made-excludes s b name _ r (made_split {file = file} taken loaded fits is parts 
     split-excludes s b name file taken is.editable fits kept.meaning kept.sections (λ o other. edited-one s b o file other is.edited) parts.unrefused r fails
 
 -- it keeps what the file means, and what is loaded
-split-kept : (m : PathMap) (b name file : List ℕ) (names : List (List ℕ)) → IsKept m b file → IsSplitOf file name
+pub split-kept : (m : PathMap) (b name file : List ℕ) (names : List (List ℕ)) → IsKept m b file → IsSplitOf file name
     → OutcomeKeeps m b name (outcome.Split (stripped_file file name) (debug_file file) (id_bytes file) names)
 split-kept m b name file names kept parts =
     let reads : ElfReads file = kept.meaning.new.reads.elf in

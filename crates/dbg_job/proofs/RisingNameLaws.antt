@@ -1,4 +1,4 @@
--- The names of sources rise in byte order, and none stands twice.
+-- The names of sources rise in byte order, none stands twice, and none has a NUL.
 use Rattle.std.proofs.Common.{◌≡◌, ℕ, List, [], ◌∷◌, Option, Some, None, refl, sym, ap, ◌∙◌, subst}
 use Rattle.std.proofs.lemmas.Cmp.{nat_list_cmp_total}
 use Rattle.std.specs.Cmp.Lexicographic.{slice_cmp}
@@ -9,9 +9,11 @@ use Rattle.std.specs.declared.cmp.Ordering.{Ordering}
 use Rattle.std.specs.declared.cmp.Ordering.TheVariants.{Less, Equal, Greater}
 use Rattle.dw_base.specs.DebugData.{DebugData, line_source}
 use Rattle.dw_base.specs.declared.debug_sections.DebugSection.TheVariants.{Info}
-use Rattle.dw_sources.specs.KeptNames.{front_of, kept_name, placed_by, with_kept, with_name, with_paths}
+use Rattle.dw_base.specs.FileViews.{view_of}
+use Rattle.dw_sources.specs.KeptNames.{HaveNoNul, front_of, kept_name, placed_by, with_kept, with_name, with_paths}
 use Rattle.dw_sources.specs.Sources.{AreSources, sections_paths, sources_of}
 use Rattle.dw_sources.specs.UnitPaths.{started_table}
+use Rattle.dw_sources.proofs.NoNulLaws.{sources-none}
 use Rattle.file_tree.specs.Causes.{AreInOrder}
 use Rattle.job_types.specs.Settings.{Settings}
 use Rattle.job_types.specs.declared.outcome.Outcome.{Outcome}
@@ -72,3 +74,8 @@ pub made-names : (s : Settings) (b name : List ℕ) (o : Outcome) → IsMade s b
 made-names s b name _ (made_left why) = none-rise
 made-names s b name _ (made_edited {names = names} taken free is sources) = sources-rise (file_data b) s.maps.base names sources
 made-names s b name _ (made_split {names = names} taken loaded fits is parts sources) = sources-rise (file_data b) s.maps.base names sources
+
+pub made-texts : (s : Settings) (b name : List ℕ) (o : Outcome) → IsMade s b name o → HaveNoNul (names_of o)
+made-texts s b name _ (made_left why) = tt
+made-texts s b name _ (made_edited {names = names} taken free is sources) = sources-none (view_of b) s.maps.base names sources
+made-texts s b name _ (made_split {names = names} taken loaded fits is parts sources) = sources-none (view_of b) s.maps.base names sources

@@ -10,3 +10,5 @@ pub mod UnitLaws
 pub mod SourceLaws
 pub mod ExcludeLaws
 pub mod OffsetLaws
+pub mod PlaceTextLaws
+pub mod NoNulLaws

@@ -1,13 +1,14 @@
 -- The names of sources: of cleaned paths those below the base, with the base cut off, in byte order and each once. This
 -- project's profile.
-use Rattle.std.specs.Prelude.{ℕ, nat_eq, if◌then◌else◌, List, [], ◌∷◌, ◌++◌, length, drop, Option, Some, None}
+use Rattle.std.specs.Prelude.{◌≡◌, false, ℕ, nat_eq, if◌then◌else◌, List, [], ◌∷◌, ◌++◌, length, drop, Option, Some, None}
 use Rattle.std.specs.Cmp.Lexicographic.{slice_cmp}
 use Rattle.std.specs.Global.{Vec}
-use Rattle.std.specs.List.{starts_with}
+use Rattle.std.specs.List.{AllByRecursion, starts_with}
 use Rattle.std.specs.Ordering.{nat_cmp}
 use Rattle.std.specs.declared.cmp.Ordering.{Ordering}
 use Rattle.std.specs.declared.cmp.Ordering.TheVariants.{Less, Equal, Greater}
 use Rattle.dw_base.specs.Paths.{slash}
+use Rattle.dw_base.specs.Texts.{has_nul}
 use Rattle.dw_paths.specs.CleanPaths.{cleaned_path}
 
 -- the bytes of a vector
@@ -45,3 +46,7 @@ with_kept names (Some name) = with_name names name
 abbrev pub with_paths : List ℕ → List (List ℕ) → List (List ℕ) → List (List ℕ)
 with_paths front names [] = names
 with_paths front names (p ∷ ps) = with_paths front (with_kept names (kept_name front p)) ps
+
+-- no name has a NUL
+abbrev pub HaveNoNul : List (List ℕ) → Type 0
+HaveNoNul names = AllByRecursion (λ name. has_nul name ≡ false) names

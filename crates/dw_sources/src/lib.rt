@@ -1,7 +1,7 @@
 //! The source files that the debug data of a file name (DWARF 5, 3.1.1 and 6.2.4).
 //!
 //! This layer promises: the names are those of the paths of all units and of the files in the headers of their
-//! line tables, of those below a base, with the base cut off, in byte order and each once; it is refused only
+//! line tables, of those below a base, with the base cut off, in byte order and each once, none with a NUL; it is refused only
 //! where the units, their abbreviations, the string offsets or the line tables can't be read.
 //! It does not promise: that the files are there. A value that names no text, no slot or no line table, or whose
 //! offset a relocation refuses, is passed over; whether there is one is for the crates that read a file whole.
@@ -18,6 +18,7 @@
 //! ```
 #![tactic(auto)]
 
+mod laws;
 mod listing;
 mod names;
 mod offsets;
@@ -28,4 +29,5 @@ mod texts;
 mod units;
 
 pub use dw_base::{Fault, Kind, Refusal};
+pub use laws::source_laws;
 pub use listing::{sources, sources_by_tables};

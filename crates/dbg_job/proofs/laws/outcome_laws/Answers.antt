@@ -1,7 +1,7 @@
 -- The laws, each by its lemma.
 use Rattle.dbg_job.proofs.MadeLaws.{made-excludes, made-ids, made-is, made-keeps}
 use Rattle.dbg_job.proofs.OutcomeOneLaws.{edited-one, outcome-one}
-use Rattle.dbg_job.proofs.RisingNameLaws.{made-names}
+use Rattle.dbg_job.proofs.RisingNameLaws.{made-names, made-texts}
 use Rattle.dbg_job.proofs.laws.outcome_laws.Goals as goal
 
 pub returns-clause-edited : goal.returns-clause-edited
@@ -24,3 +24,6 @@ returns-clause-ids c = made-ids
 
 pub returns-clause-names : goal.returns-clause-names
 returns-clause-names c = made-names
+
+pub returns-clause-texts : goal.returns-clause-texts
+returns-clause-texts c = made-texts

@@ -1,0 +1,3 @@
+pub mod DebugNameLaws
+pub mod KeptNodeLaws
+pub mod SaidLaws

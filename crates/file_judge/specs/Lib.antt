@@ -1,0 +1,3 @@
+pub mod FileJudges
+pub mod FileMakes
+pub mod KeptNodes
