@@ -3,7 +3,7 @@ use crate::toy::Toy;
 use dw_paths::Maps;
 use file_tree::{Blob, MemTree, Node, Text};
 use job_types::Options;
-use root_plan::{PlanErr, RootMaker, make_plan, walk};
+use root_plan::{PlanErr, RootMaker, make_plan, run_key, walk, work_folder};
 use std::alloc::{AllocError, Global};
 use std::test::Fail;
 use work_journal::{MakeErr, Maker, Opened, finish, start_core};
@@ -54,6 +54,22 @@ fn options(alloc: Global, skip: bool) -> Result<Options, Fail> {
         skip,
         max_file: 10,
     })
+}
+
+#[test]
+fn a_run_has_the_key_of_its_options_and_a_folder_below_its_root(
+    rt: HostRuntime,
+) -> Result<(), Fail> {
+    let alloc = rt.alloc();
+    let key = run_key(alloc, &options(alloc, true)?)?;
+    assert_eq!(rt; key.base.as_slice(), b"/build/p".as_slice());
+    assert_eq!(rt; key.dest.as_slice(), b"/usr/src/debug/p".as_slice());
+    assert!(rt; key.seed.as_slice().is_empty());
+    assert!(rt; !key.build_id && key.skip);
+    assert_eq!(rt; key.max_file, 10);
+    let work = work_folder(alloc, "r")?;
+    assert_eq!(rt; work.as_str(), "r/.dbgwork");
+    Ok(())
 }
 
 /// The files of a root, by their paths and bytes.

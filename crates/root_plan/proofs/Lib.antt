@@ -18,3 +18,4 @@ pub mod JobLaws
 pub mod WholeLaws
 pub mod OneLaws
 pub mod RunPlanLaws
+pub mod EndLaws

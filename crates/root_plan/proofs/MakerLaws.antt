@@ -15,7 +15,7 @@ use Rattle.work_journal.specs.declared.maker.MakeErr.{MakeErr}
 use Rattle.work_journal.specs.declared.maker.MakeErr.TheVariants as make
 use Rattle.root_plan.specs.Targets.{debug_path, file_link, debug_link, link_target, debug_name, has_links, links_of, targets_of}
 use Rattle.root_plan.specs.Verdicts.{JudgeView, IsJudge, Pair}
-use Rattle.root_plan.specs.Makers.{link_nodes, pair_nodes, EditedNodes, NodesOf, JobFails, EditEnds, SplitEnds, EditedEnds, MakeEnds, job_at, no_job}
+use Rattle.root_plan.specs.Makers.{link_nodes, pair_nodes, EditedNodes, NodesOf, JobFails, IsJobRefused, EditEnds, SplitEnds, EditedEnds, MakeEnds, job_at, no_job}
 use Rattle.root_plan.specs.Makers.{EditedNodes as edited_nodes, JobFails as job_fails, EditEnds as edit, SplitEnds as splits, EditedEnds as edits, MakeEnds as ends}
 
 -- ### Steps and targets
@@ -217,18 +217,35 @@ refusal_in d (make.Changed p f) = d
 refusal_in d (make.Refused r) = r
 refusal_in d make.NoMemory = d
 
+-- a file of which nodes are made has some under any mode
+record NodesUnder (v : JudgeView) (job : JobLine) (bytes : List ℕ) (mode : ℕ) : Type 0 where
+  nodes : List Node
+  made : NodesOf v job bytes mode nodes
+
+edited-under : (v : JudgeView) (job : JobLine) (bytes file : List ℕ) (m n : ℕ) (ns : List Node) → sha1 bytes ≡ job.digest → v.edits bytes file → EditedNodes v job file m ns → NodesUnder v job bytes n
+edited-under v job bytes file m n ns same edits (edited_nodes.one_file s) =
+    record { nodes = node.File file n ∷ []; made = record { planned = same; file = file; edits = edits; makes = edited_nodes.one_file s } }
+edited-under v job bytes file m n ns same edits (edited_nodes.two_files {pair} s e) =
+    record { nodes = pair_nodes job n pair; made = record { planned = same; file = file; edits = edits; makes = edited_nodes.two_files s e } }
+
+made-under : (v : JudgeView) (job : JobLine) (bytes : List ℕ) (m n : ℕ) (ns : List Node) → NodesOf v job bytes m ns → NodesUnder v job bytes n
+made-under v job bytes m n ns made = edited-under v job bytes made.file m n ns made.planned made.edits made.makes
+
 refused_by : (v : JudgeView) (edit_fails : List ℕ → Refusal → Type 0) (split_fails : List ℕ → List ℕ → Refusal → Type 0) (job : JobLine) (bytes : List ℕ) (mode : ℕ) (e : MakeErr) (r : Refusal)
-    → MakeEnds v edit_fails split_fails job bytes mode e → e ≡ make.Refused r → JobFails v edit_fails split_fails job bytes r
+    → MakeEnds v edit_fails split_fails job bytes mode e → e ≡ make.Refused r → IsJobRefused v edit_fails split_fails job bytes r
 refused_by v edit_fails split_fails job bytes mode e r (ends.changed other) is = cc
-refused_by v edit_fails split_fails job bytes mode e r (ends.refused same none f) is = subst (λ (q : Refusal). JobFails v edit_fails split_fails job bytes q) (ap (refusal_in r) is) f
+refused_by v edit_fails split_fails job bytes mode e r (ends.refused same none f) is = record {
+  fails = subst (λ (q : Refusal). JobFails v edit_fails split_fails job bytes q) (ap (refusal_in r) is) f;
+  unmade = λ m ns made. let u = made-under v job bytes m mode ns made in none u.nodes u.made;
+}
 refused_by v edit_fails split_fails job bytes mode e r ends.no_memory is = cc
 
 pub make_refused : {X : Type 0} (result : Result X MakeErr) (v : JudgeView) (edit_fails : List ℕ → Refusal → Type 0) (split_fails : List ℕ → List ℕ → Refusal → Type 0) (job at : JobLine)
     (bytes : List ℕ) (mode : ℕ) → job ≡ at → IfErr result (MakeEnds v edit_fails split_fails job bytes mode) → (r : Refusal) → result ≡ Err (make.Refused r)
-    → JobFails v edit_fails split_fails at bytes r
+    → IsJobRefused v edit_fails split_fails at bytes r
 make_refused {X} (Ok x) v edit_fails split_fails job at bytes mode is ended r e = cc
 make_refused {X} (Err q) v edit_fails split_fails job at bytes mode is ended r e =
-    subst (λ (j : JobLine). JobFails v edit_fails split_fails j bytes r) is (refused_by v edit_fails split_fails job bytes mode q r ended (ap (err_in {X = X} q) e))
+    subst (λ (j : JobLine). IsJobRefused v edit_fails split_fails j bytes r) is (refused_by v edit_fails split_fails job bytes mode q r ended (ap (err_in {X = X} q) e))
 
 whole_by : (v : JudgeView) (edit_fails : List ℕ → Refusal → Type 0) (split_fails : List ℕ → List ℕ → Refusal → Type 0) (job : JobLine) (bytes : List ℕ) (mode : ℕ) (e : MakeErr) (ns : List Node)
     → MakeEnds v edit_fails split_fails job bytes mode e → NodesOf v job bytes mode ns → e ≡ make.NoMemory

@@ -30,7 +30,7 @@ use Rattle.root_plan.specs.Errors.{IsStopped as stop}
 
 -- ### One thing each
 
-both-never : (b : Bool) → b ≡ true → b ≡ false → ⊥
+pub both-never : (b : Bool) → b ≡ true → b ≡ false → ⊥
 both-never true p q = cc
 both-never false p q = cc
 
@@ -111,44 +111,44 @@ module _ (s : Settings) (v : JudgeView) (judge : IsJudge v) (fails : List ℕ �
 
   -- ### Paths that end a tally, beside one that doesn't
 
-  long-cut : (path : List ℕ) (e : PlanErr) → length path ≤ longest_path → IsTooLong path e → IsCut s e
-  long-cut path e short (too_long.long l) = absurd (omega (arith, short, l))
-  long-cut path e short too_long.no_memory = cuts.stopped stop.no_memory
+  pub long-stopped : (path : List ℕ) (e : PlanErr) → length path ≤ longest_path → IsTooLong path e → IsStopped e
+  long-stopped path e short (too_long.long l) = absurd (omega (arith, short, l))
+  long-stopped path e short too_long.no_memory = stop.no_memory
 
-  file-cut : (path below bytes name : List ℕ) (t u : Tally) (e : PlanErr) → FileNoted s v fails below bytes name t u → FileEnds s v fails path bytes name e → IsCut s e
-  file-cut path below bytes name t u e (note.judged {verdict = a} x) (file.refused unsaid f skip) = absurd (unsaid.none a x)
-  file-cut path below bytes name t u e (note.skipped unsaid f skip) (file.refused unsaid2 f2 skip2) = absurd (both-never s.skip skip skip2)
-  file-cut path below bytes name t u e noted file.no_memory = cuts.stopped stop.no_memory
+  file-stopped : (path below bytes name : List ℕ) (t u : Tally) (e : PlanErr) → FileNoted s v fails below bytes name t u → FileEnds s v fails path bytes name e → IsStopped e
+  file-stopped path below bytes name t u e (note.judged {verdict = a} x) (file.refused unsaid f skip) = absurd (unsaid.none a x)
+  file-stopped path below bytes name t u e (note.skipped unsaid f skip) (file.refused unsaid2 f2 skip2) = absurd (both-never s.skip skip skip2)
+  file-stopped path below bytes name t u e noted file.no_memory = stop.no_memory
 
-  candidate-cut : (path below bytes name : List ℕ) (t u : Tally) (e : PlanErr) → length path ≤ longest_path → FileNoted s v fails below bytes (debug_name below) t u
-      → CandidateEnds s v fails path below bytes e → IsCut s e
-  candidate-cut path below bytes name t u e short noted (candidate.too_long l) = long-cut path e short l
-  candidate-cut path below bytes name t u e short noted (candidate.file_ends l ended) = file-cut path below bytes (debug_name below) t u e noted ended
-  candidate-cut path below bytes name t u e short noted candidate.no_memory = cuts.stopped stop.no_memory
+  candidate-stopped : (path below bytes name : List ℕ) (t u : Tally) (e : PlanErr) → length path ≤ longest_path → FileNoted s v fails below bytes (debug_name below) t u
+      → CandidateEnds s v fails path below bytes e → IsStopped e
+  candidate-stopped path below bytes name t u e short noted (candidate.too_long l) = long-stopped path e short l
+  candidate-stopped path below bytes name t u e short noted (candidate.file_ends l ended) = file-stopped path below bytes (debug_name below) t u e noted ended
+  candidate-stopped path below bytes name t u e short noted candidate.no_memory = stop.no_memory
 
-  found-cut : (path below : List ℕ) (what : Found) (t u : Tally) (e : PlanErr) → FoundNoted s v fails path below what t u → FoundEnds s v fails path below what e → IsCut s e
-  found-cut path below found.Absent t u e n ended = absurd ended
-  found-cut path below found.Folder t u e n ended = absurd ended
-  found-cut path below (found.File bytes mode) t u e n ended = candidate-cut path below bytes [] t u e n.short n.noted ended
-  found-cut path below (found.Link target) t u e n ended = absurd ended
-  found-cut path below (found.TooLarge size) t u e n ended = absurd n
+  found-stopped : (path below : List ℕ) (what : Found) (t u : Tally) (e : PlanErr) → FoundNoted s v fails path below what t u → FoundEnds s v fails path below what e → IsStopped e
+  found-stopped path below found.Absent t u e n ended = absurd ended
+  found-stopped path below found.Folder t u e n ended = absurd ended
+  found-stopped path below (found.File bytes mode) t u e n ended = candidate-stopped path below bytes [] t u e n.short n.noted ended
+  found-stopped path below (found.Link target) t u e n ended = absurd ended
+  found-stopped path below (found.TooLarge size) t u e n ended = absurd n
 
   module _ (tree : TreeMap) (old new : Seen) (here : now_of old ≡ Some tree) (root : List ℕ) where
-    path-cut : (path : List ℕ) (t u : Tally) (e : PlanErr) → Noted (now_of old) root s v fails path t u → PathEnds old new root s v fails path e → IsCut s e
-    path-cut path t u e (notes.apart other) (path_ends.at_found {what = x} may stood ended) = absurd (both-never (may_be_candidate root path) may other)
-    path-cut path t u e (notes.there {what = w} may stood n) (path_ends.at_found {what = x} may2 stood2 ended) =
-        found-cut path (below_root root path) w t u e n
+    path-stopped : (path : List ℕ) (t u : Tally) (e : PlanErr) → Noted (now_of old) root s v fails path t u → PathEnds old new root s v fails path e → IsStopped e
+    path-stopped path t u e (notes.apart other) (path_ends.at_found {what = x} may stood ended) = absurd (both-never (may_be_candidate root path) may other)
+    path-stopped path t u e (notes.there {what = w} may stood n) (path_ends.at_found {what = x} may2 stood2 ended) =
+        found-stopped path (below_root root path) w t u e n
         (subst (λ (y : Found). FoundEnds s v fails path (below_root root path) y e) (found-one tree (now_of old) path s.max_file x w here stood2 stood) ended)
-    path-cut path t u e noted (path_ends.failed rose) = cuts.stopped stop.failed
-    path-cut path t u e noted path_ends.no_memory = cuts.stopped stop.no_memory
+    path-stopped path t u e noted (path_ends.failed rose) = stop.failed
+    path-stopped path t u e noted path_ends.no_memory = stop.no_memory
 
-    at-cut : (paths : List (List ℕ)) (t : Tally) (n : ℕ) (e : PlanErr) → Tallies (now_of old) root s v fails paths t → n < length paths
-        → PathEnds old new root s v fails (get_or paths n []) e → IsCut s e
-    at-cut paths t n e tally.none l ended = absurd (omega (arith, l))
-    at-cut paths t n e (tally.more {paths = ps} {path = p} {t = t0} ts noted) l ended =
+    pub at-stopped : (paths : List (List ℕ)) (t : Tally) (n : ℕ) (e : PlanErr) → Tallies (now_of old) root s v fails paths t → n < length paths
+        → PathEnds old new root s v fails (get_or paths n []) e → IsStopped e
+    at-stopped paths t n e tally.none l ended = absurd (omega (arith, l))
+    at-stopped paths t n e (tally.more {paths = ps} {path = p} {t = t0} ts noted) l ended =
         elim (cases_lt n (length ps)) [
-          | inl below ↦ at-cut ps t0 n e ts below (subst (λ (q : List ℕ). PathEnds old new root s v fails q e) (get_or_append_left ps (p ∷ []) [] n below) ended)
-          | inr above ↦ path-cut p t0 t e noted (subst (λ (q : List ℕ). PathEnds old new root s v fails q e) (last-at n (omega (arith, above, l, length_push ps p))) ended)
+          | inl below ↦ at-stopped ps t0 n e ts below (subst (λ (q : List ℕ). PathEnds old new root s v fails q e) (get_or_append_left ps (p ∷ []) [] n below) ended)
+          | inr above ↦ path-stopped p t0 t e noted (subst (λ (q : List ℕ). PathEnds old new root s v fails q e) (last-at n (omega (arith, above, l, length_push ps p))) ended)
         ]
       where
         last-at : (n : ℕ) → n ≡ length ps → get_or (ps ++ p ∷ []) n [] ≡ p
@@ -156,10 +156,10 @@ module _ (s : Settings) (v : JudgeView) (judge : IsJudge v) (fails : List ℕ �
 
   -- ### New paths and the text
 
-  new-cut : (present paths : List (List ℕ)) (e : PlanErr) → AreInOrder present → CanBeMade present paths → NewEnds present paths e → IsCut s e
-  new-cut present paths e order can (news.too_long {path = p} c l) = long-cut p e (can.short.short p c) l
-  new-cut present paths e order can (news.taken {path = p} short taken) = absurd ((can.free order).free p taken)
-  new-cut present paths e order can news.no_memory = cuts.stopped stop.no_memory
+  pub new-stopped : (present paths : List (List ℕ)) (e : PlanErr) → AreInOrder present → CanBeMade present paths → NewEnds present paths e → IsStopped e
+  new-stopped present paths e order can (news.too_long {path = p} c l) = long-stopped p e (can.short.short p c) l
+  new-stopped present paths e order can (news.taken {path = p} short taken) = absurd ((can.free order).free p taken)
+  new-stopped present paths e order can news.no_memory = stop.no_memory
 
 -- the plan of a tally is that of one like it, where no file is skipped
 pub plans-alike : (s : Settings) (t u : Tally) → Alike s t u → s.skip ≡ false → plan_of s t ≡ plan_of s u
@@ -183,10 +183,10 @@ module _ (root : List ℕ) (present : List (List ℕ)) (s : Settings) (v : Judge
   ends-cut : (tree : TreeMap) (old new : Seen) (plan : PlanData) (e : PlanErr) → now_of old ≡ Some tree → AreInOrder present → IsPlanOf (now_of old) root present s v fails plan
       → PlanEnds old new root present s v fails e → IsCut s e
   ends-cut tree old new plan e here order is (ends.many l) = absurd (omega (arith, is.tallied.few, l))
-  ends-cut tree old new plan e here order is (ends.at_path {t = t} n few l ts ended) = at-cut s v judge fails tree old new here root present is.tally n e is.tallied.tallies l ended
+  ends-cut tree old new plan e here order is (ends.at_path {t = t} n few l ts ended) = cuts.stopped (at-stopped s v judge fails tree old new here root present is.tally n e is.tallied.tallies l ended)
   ends-cut tree old new plan e here order is (ends.at_new {t = t} tallied ended) =
       let alike = tallies-alike s v judge fails tree (now_of old) here root present t is.tally tallied.tallies is.tallied.tallies in
-      new-cut s v judge fails present (new_paths root is.tally.jobs) e order is.can (subst (λ (js : List JobLine). NewEnds present (new_paths root js) e) alike.jobs ended)
+      cuts.stopped (new-stopped s v judge fails present (new_paths root is.tally.jobs) e order is.can (subst (λ (js : List JobLine). NewEnds present (new_paths root js) e) alike.jobs ended))
   ends-cut tree old new plan e here order is (ends.at_text {t = t} tallied can l) =
       text-cut s t is.tally s.skip refl (tallies-alike s v judge fails tree (now_of old) here root present t is.tally tallied.tallies is.tallied.tallies)
       (subst (λ (p : PlanData). plan_length p ≤ text_limit) is.is is.within) l

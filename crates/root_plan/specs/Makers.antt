@@ -41,6 +41,12 @@ pub data JobFails (v : JudgeView) (edit_fails : List ℕ → Refusal → Type 0)
   not_split : {file : List ℕ} → job.split ≡ true → v.edits bytes file → split_fails file (debug_name job.path) r
       → JobFails v edit_fails split_fails job bytes r
 
+-- a job's file is refused with this: it holds of the file, and no nodes are made of it
+pub record IsJobRefused (v : JudgeView) (edit_fails : List ℕ → Refusal → Type 0) (split_fails : List ℕ → List ℕ → Refusal → Type 0)
+    (job : JobLine) (bytes : List ℕ) (r : Refusal) : Type 0 where
+  pub fails : JobFails v edit_fails split_fails job bytes r
+  pub unmade : (mode : ℕ) (ns : List Node) → NodesOf v job bytes mode ns → ⊥
+
 -- ### Ends
 
 -- why a file isn't edited; or a cut

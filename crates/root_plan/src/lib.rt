@@ -33,7 +33,8 @@ mod targets;
 mod walking;
 
 pub use judge::{Judge, Parts};
+pub use names::work_folder;
 pub use plan_err::PlanErr;
-pub use planning::make_plan;
+pub use planning::{make_plan, run_key};
 pub use root_maker::RootMaker;
 pub use walking::walk;

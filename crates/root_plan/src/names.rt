@@ -35,6 +35,14 @@ fn root_front(alloc: Global, root: &str) -> Result<String, AllocError>
     format!(in alloc; "{root}/")
 }
 
+/// The folder of a run's own files, below the root.
+#[tactic(auto, unfolding(crate::specs::Roots::work_folder))]
+pub fn work_folder(alloc: Global, root: &str) -> Result<String, AllocError>
+    ensures value { IfOk result (λ s. string_bytes s ≡ work_folder root.now) }
+{
+    format!(in alloc; "{root}/.dbgwork")
+}
+
 /// What paths below the work folder begin with.
 #[tactic(auto, using(crate::proofs::NameLaws::front_rules))]
 fn work_front(alloc: Global, root: &str) -> Result<String, AllocError>

@@ -24,8 +24,8 @@ use std::alloc::{AllocError, Global};
 use std::collections::BTreeSet;
 use work_texts::{Jobs, PlanData, RunKey, Sources, TEXT_LIMIT, write_plan};
 
-/// The options that the outputs of a run depend on.
-fn key(alloc: Global, options: &Options) -> Result<RunKey, AllocError>
+/// The key of a run: the options that its outputs depend on.
+pub fn run_key(alloc: Global, options: &Options) -> Result<RunKey, AllocError>
     ensures value { IfOk result (λ key. key ≡ key_of options.now) }
 {
     let base = Blob::from_slice(alloc, &options.maps.base)?;
@@ -68,7 +68,7 @@ pub(crate) fn plan_of(
 ) -> Result<PlanData, AllocError>
     ensures value { IfOk result (λ plan. plan ≡ plan_of options.now survey) }
 {
-    let key = key(alloc, options)?;
+    let key = run_key(alloc, options)?;
     let Survey {
         jobs,
         left,

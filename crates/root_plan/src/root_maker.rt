@@ -73,14 +73,14 @@ impl<J: Judge + Drop> RootMaker<J> {
 #[tactic(auto, using(crate::proofs::MakerLaws::view_rules))]
 impl<J: Judge + Drop> Maker for RootMaker<J> {
     ghost use Rattle.std.specs.String.{string_bytes};
-    ghost use Rattle.root_plan.specs.Makers.{plan_view, plan_makes, JobFails, job_at};
+    ghost use Rattle.root_plan.specs.Makers.{plan_view, plan_makes, IsJobRefused, job_at};
     ghost use Rattle.root_plan.specs.Fits.{plan_fits};
 
     ghost view = { λ m. plan_view (string_bytes m.root) m.plan.jobs };
 
     ghost makes = { λ m. plan_makes m.plan.jobs (J.view m.judge) };
 
-    ghost refuses = { λ m j bytes r. JobFails (J.view m.judge) (J.edit_fails m.judge) (J.split_fails m.judge) (job_at m.plan.jobs j) bytes r };
+    ghost refuses = { λ m j bytes r. IsJobRefused (J.view m.judge) (J.edit_fails m.judge) (J.split_fails m.judge) (job_at m.plan.jobs j) bytes r };
 
     fn jobs(&self) -> u32 {
         self.plan.jobs.len() as u32

@@ -63,7 +63,7 @@ count-kept : {A : Type 0} (p : A → Bool) (y : A) (fs : List A) (b : Bool) → 
 count-kept p y fs true e = sum_by-cons (λ x. cond (p x) 1 0) y fs ∙ ap (λ (t : Bool). cond t 1 0 + count_by p fs) e
 count-kept p y fs false e = refl
 
-count-filter : {A : Type 0} (p : A → Bool) (xs : List A) → count_by p (filter p xs) ≡ count_by p xs
+pub count-filter : {A : Type 0} (p : A → Bool) (xs : List A) → count_by p (filter p xs) ≡ count_by p xs
 count-filter {A} p xs = is_count_by (λ (ys : List A). count_by p (filter p ys)) p refl (λ y ys. count-kept p y (filter p ys) (p y) refl ∙ ap (λ (t : Bool). cond t (1 + count_by p (filter p ys)) (count_by p (filter p ys))) refl) xs
 
 -- ### Keys
@@ -117,7 +117,7 @@ out-by true true c e = cc
 out-by true false c e = refl
 out-by false b c e = refl
 
-candidate-outside : (root q : List ℕ) → is_outside root q ≡ false → may_be_candidate root q ≡ false
+pub candidate-outside : (root q : List ℕ) → is_outside root q ≡ false → may_be_candidate root q ≡ false
 unfolding may_be_candidate
 candidate-outside root q e = out-by (is_below root q) (is_outside root q) (not (is_below (debug_folder root) q)) e
 

@@ -1,6 +1,6 @@
 -- The paths below a root are in byte order, and of the names of a work folder below it they have those that the tree has.
-use Rattle.std.proofs.Common.{◌≡◌, ℕ, Bool, true, false, ◌||◌, cond, List, [], ◌∷◌, ◌++◌, map, nat_eq, T, refl, sym, ap, subst, ◌∙◌, eq-eqb}
-use Rattle.std.specs.Prelude.{◌&&◌, bytes_eq, is_some, Some}
+use Rattle.std.proofs.Common.{◌≡◌, ℕ, Bool, true, false, ◌||◌, cond, List, [], ◌∷◌, ◌++◌, map, nat_eq, T, refl, sym, ap, subst, ◌∙◌, eq-eqb, append_assoc}
+use Rattle.std.specs.Prelude.{◌&&◌, bytes_eq, codes, is_some, Some}
 use Rattle.std.specs.List.{filter, list_any, starts_with, AllByRecursion}
 use Rattle.std.specs.List.Sorted.{IsStrictlySortedBy}
 use Rattle.std.specs.Ordering.{nat_cmp, is_lt, eq_by_cmp}
@@ -19,7 +19,7 @@ use Rattle.journal_core.specs.Names.{Name}
 use Rattle.work_journal.specs.Laws.{ArePresent}
 use Rattle.work_journal.specs.Wanted.{Wanted}
 use Rattle.work_journal.specs.Work.{work_path, name_text, has_path}
-use Rattle.root_plan.specs.Roots.{work_folder}
+use Rattle.root_plan.specs.Roots.{in_root, work_folder}
 use Rattle.root_plan.specs.Walks.{AreWalked}
 
 -- ### Byte order
@@ -85,15 +85,15 @@ pub front-same : (front xs ys : List ℕ) → starts_with nat_eq (front ++ xs) (
 front-same [] xs ys = refl
 front-same (a ∷ front) xs ys = rw (eq-eqb a a refl) (front-same front xs ys)
 
-longer-below : (root path more : List ℕ) → is_below root path ≡ true → is_below root (path ++ more) ≡ true
+starts-none : (zs : List ℕ) → starts_with nat_eq zs [] ≡ true
+starts-none [] = refl
+starts-none (z ∷ zs) = refl
+
+pub longer-below : (root path more : List ℕ) → is_below root path ≡ true → is_below root (path ++ more) ≡ true
 longer-below root path more e = starts-longer path (root ++ 47 ∷ []) e
   where
     starts-longer : (xs ys : List ℕ) → starts_with nat_eq xs ys ≡ true → starts_with nat_eq (xs ++ more) ys ≡ true
     starts-longer xs [] h = starts-none (xs ++ more)
-      where
-        starts-none : (zs : List ℕ) → starts_with nat_eq zs [] ≡ true
-        starts-none [] = refl
-        starts-none (z ∷ zs) = refl
     starts-longer [] (y ∷ ys) h = cc
     starts-longer (x ∷ xs) (y ∷ ys) h = rw (both-left (nat_eq y x) (starts_with nat_eq xs ys) h) (starts-longer xs ys (both-right (nat_eq y x) (starts_with nat_eq xs ys) h))
 
@@ -104,6 +104,23 @@ root-below root = front-same root _ (47 ∷ [])
 pub work-below : (root work : List ℕ) (n : Name) → is_below root work ≡ true → is_below root (work_path work n) ≡ true
 unfolding work_path
 work-below root work n below = longer-below root work (47 ∷ name_text n) below
+
+starts-shorter : (q a b : List ℕ) → starts_with nat_eq q (a ++ b) ≡ true → starts_with nat_eq q a ≡ true
+starts-shorter q [] b h = starts-none q
+starts-shorter [] (y ∷ ys) b h = cc
+starts-shorter (x ∷ xs) (y ∷ ys) b h =
+    rw (both-left (nat_eq y x) (starts_with nat_eq xs (ys ++ b)) h) (starts-shorter xs ys b (both-right (nat_eq y x) (starts_with nat_eq xs (ys ++ b)) h))
+
+-- what lies below the work folder lies below the root, and so does each path in the root
+pub work-in-root : (root q : List ℕ) → is_below (work_folder root) q ≡ true → is_below root q ≡ true
+unfolding work_folder
+work-in-root root q below =
+    starts-shorter q (root ++ 47 ∷ []) (codes ".dbgwork" ++ 47 ∷ [])
+    (subst (λ (front : List ℕ). starts_with nat_eq q front ≡ true)
+    (append_assoc root (47 ∷ codes ".dbgwork") (47 ∷ []) ∙ sym (append_assoc root (47 ∷ []) (codes ".dbgwork" ++ 47 ∷ []))) below)
+
+pub in-root-below : (root path : List ℕ) → is_below root (in_root root path) ≡ true
+in-root-below root path = front-same root (47 ∷ path) (47 ∷ []) ∙ starts-none path
 
 -- the paths below the root have the names of the work folder that the tree has
 pub present-keys : (w : Wanted) (t : TreeMap) (root : List ℕ) → is_below root w.work ≡ true → ArePresent w t (keys_below t root)

@@ -16,3 +16,14 @@ pub mod SettleLaws
 pub mod StartLaws
 pub mod RootStartLaws
 pub mod MildLaws
+pub mod FirstLaws
+pub mod CarriedLaws
+pub mod JournaledLaws
+pub mod EnteredLaws
+pub mod RunLaws
+pub mod CauseLaws
+pub mod EndsLaws
+pub mod DueLaws
+pub mod StatusLaws
+pub mod StartEndsLaws
+pub mod CompleteLaws

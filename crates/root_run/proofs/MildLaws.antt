@@ -81,7 +81,7 @@ none-there : (o : Option Node) → is_some o ≡ true → o ≡ None → ⊥
 none-there None e f = cc
 none-there (Some n) e f = cc
 
-file-read : (t : TreeMap) (path bytes : List ℕ) (mode limit : ℕ) → fin.get t path ≡ Some (node.File bytes mode) → length bytes ≤ limit → stands_at t path limit ≡ found.File bytes mode
+pub file-read : (t : TreeMap) (path bytes : List ℕ) (mode limit : ℕ) → fin.get t path ≡ Some (node.File bytes mode) → length bytes ≤ limit → stands_at t path limit ≡ found.File bytes mode
 unfolding stands_at
 file-read t path bytes mode limit there few = rw (there, le-leb (length bytes) limit few) refl
 

@@ -72,7 +72,7 @@ module _ (start : TreeMap) (root : List ℕ) (s : Settings) (v : JudgeView) (fai
   root-starts : (w : Wanted) → Root w → w.start ≡ start
   root-starts w is = ap (λ (x : Wanted). x.start) is.is
 
-  root-names : (t : TreeMap) (paths : List (List ℕ)) → AreWalked (Some t) root paths → HasNames (work_folder root) t paths
+  pub root-names : (t : TreeMap) (paths : List (List ℕ)) → AreWalked (Some t) root paths → HasNames (work_folder root) t paths
   root-names t paths walked = subst (HasNames (work_folder root) t) (sym (walked.all.are t refl))
       (record { named = λ n. keys-have t root (work_path (work_folder root) n) (work-below root (work_folder root) n (root-below root)) })
 
@@ -179,6 +179,7 @@ module _ (start : TreeMap) (root : List ℕ) (s : Settings) (v : JudgeView) (fai
             (same-jobs start root (work_folder root) s v fails p q made other judge planned is).0
             (settles-by (settles_of new.past) (settles_of mid.past) (settles_of old) n (rounds_of (length p.jobs) in_flight) (ran.came.spares.most tells)
             (settled-once old first_ mid.past settled looks) le);
+        none = λ never. absurd (never p made planned);
       }
 
     -- what a plan's run wants of a journal: its maker, its text and its lists

@@ -38,11 +38,15 @@ looks-settle-not (g ∷ hs) h =
 settles-append : (hs js : List Happened) → count_by is_settle (calls (hs ++ js)) ≡ count_by is_settle (calls hs) + count_by is_settle (calls js)
 settles-append hs js = ap (count_by is_settle) (map-append (λ (h : Happened). h.call) hs js) ∙ sum_by-append (λ (k : Call). cond (is_settle k) 1 0) (calls hs) (calls js)
 
+-- one settle, whatever it did
+pub settled-by : (old new : Past) (done : Effect) → new ≡ adds old call.Settle done → settles_of new ≡ settles_of old + 1
+settled-by old new done e =
+    let last : count_by is_settle (calls ((record { call = call.Settle; effect = done }) ∷ [])) ≡ 1 = refl in
+    ap settles_of e ∙ settles-append old.log ((record { call = call.Settle; effect = done }) ∷ []) ∙ ap (λ (n : ℕ). settles_of old + n) last
+
 pub settled-once : (old mid new : Past) → mid ≡ adds old call.Settle effect.Settled → LooksOnly mid new → settles_of new ≡ settles_of old + 1
 settled-once old mid new e l =
-    let last : count_by is_settle (calls ((record { call = call.Settle; effect = effect.Settled }) ∷ [])) ≡ 1 = refl in
-    let first_ : settles_of mid ≡ settles_of old + 1 =
-    ap settles_of e ∙ settles-append old.log ((record { call = call.Settle; effect = effect.Settled }) ∷ []) ∙ ap (λ (n : ℕ). settles_of old + n) last in
+    let first_ : settles_of mid ≡ settles_of old + 1 = settled-by old mid effect.Settled e in
     let looks : settles_of new ≡ settles_of mid + count_by is_settle (calls l.rest) = ap (λ (hs : List Happened). count_by is_settle (calls hs)) l.log ∙ settles-append mid.log l.rest in
     let none : count_by is_settle (calls l.rest) ≡ 0 = looks-settle-not l.rest l.each in
     omega (arith, first_, looks, none)

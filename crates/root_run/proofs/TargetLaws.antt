@@ -45,7 +45,7 @@ few-targets job = few-by job.split (has_links job) _ _ _ job.path
 
 -- ### New paths lie in folders beside the work folder
 
-abbrev begins_usr : List ℕ → Bool
+abbrev pub begins_usr : List ℕ → Bool
 begins_usr [] = false
 begins_usr (b ∷ bs) = b == 117
 
@@ -70,10 +70,10 @@ usr-by true true d a b (suc (suc (suc k))) e f g lt = absurd (omega (arith, lt))
 usr-by true false d a b (suc k) e f g lt = absurd (omega (arith, lt))
 usr-by false l d a b k e f g lt = absurd (omega (arith, lt))
 
-new-usr : (job : JobLine) (k : ℕ) → k < length (new_paths_of job) → begins_usr (get_or (new_paths_of job) k []) ≡ true
+pub new-usr : (job : JobLine) (k : ℕ) → k < length (new_paths_of job) → begins_usr (get_or (new_paths_of job) k []) ≡ true
 new-usr job k l = usr-by job.split (has_links job) (debug_path job.path) (file_link job) (debug_link job) k (usr-debug job.path) (usr-file job) (usr-link job) l
 
-usr-apart : (root path : List ℕ) → begins_usr path ≡ true → is_below (work_folder root) (in_root root path) ≡ false
+pub usr-apart : (root path : List ℕ) → begins_usr path ≡ true → is_below (work_folder root) (in_root root path) ≡ false
 unfolding work_folder
 usr-apart root [] e = cc
 usr-apart root (b ∷ bs) e =

@@ -40,16 +40,16 @@ leaves_map old new f l = record { rest = l.rest; first = l.first; log = l.log; e
 
 -- ### The core that is shown
 
-shown_closed : (steps work : List ℕ) (paths : List (List ℕ)) → has_path paths (work_path work (final 3)) ≡ true → shown_core steps (presence work paths) ≡ closed_core
+pub shown_closed : (steps work : List ℕ) (paths : List (List ℕ)) → has_path paths (work_path work (final 3)) ≡ true → shown_core steps (presence work paths) ≡ closed_core
 unfolding presence
 shown_closed steps work paths there = rw there refl
 
-shown_new : (steps work : List ℕ) (paths : List (List ℕ)) → has_path paths (work_path work (final 3)) ≡ false → has_path paths (work_path work plan) ≡ false
+pub shown_new : (steps work : List ℕ) (paths : List (List ℕ)) → has_path paths (work_path work (final 3)) ≡ false → has_path paths (work_path work plan) ≡ false
     → shown_core steps (presence work paths) ≡ new_core steps
 unfolding presence
 shown_new steps work paths none other = rw (none, other) refl
 
-shown_resumed : (steps work : List ℕ) (paths : List (List ℕ)) → has_path paths (work_path work (final 3)) ≡ false → has_path paths (work_path work plan) ≡ true
+pub shown_resumed : (steps work : List ℕ) (paths : List (List ℕ)) → has_path paths (work_path work (final 3)) ≡ false → has_path paths (work_path work plan) ≡ true
     → shown_core steps (presence work paths) ≡ resumed_core steps (shown_states steps (presence work paths))
 unfolding presence
 shown_resumed steps work paths none there = rw (none, there) refl

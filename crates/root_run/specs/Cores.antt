@@ -34,8 +34,10 @@ pub record LeadsTo {A E : Type 0} (work : List ℕ) (c : CoreState) (old new : P
   pub only : (d : CoreState) → Runs work c (map (λ h. h.call) rest) d → d ≡ last
   pub closed : OnOk result (last.phase ≡ Closed)
 
--- the tree was asked to settle at most so many times: once for each round of jobs, and four times beside
+-- the tree was asked to settle at most so many times: once for each round of jobs, and four times beside; where the root has no
+-- plan, once
 pub record SettlesFew (start : TreeMap) (root : List ℕ) (s : Settings) (v : JudgeView) (fails : List ℕ → List ℕ → Refusal → Type 0)
     (in_flight : ℕ) (old new : Past) : Type 0 where
   pub few : (p : PlanData) (made : List (List Node)) → IsRootPlan start root s v fails p made
       → settles_of new ≤ settles_of old + (rounds_of (length p.jobs) in_flight + 4)
+  pub none : ((p : PlanData) (made : List (List Node)) → IsRootPlan start root s v fails p made → ⊥) → settles_of new ≤ settles_of old + 1

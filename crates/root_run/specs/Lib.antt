@@ -5,3 +5,6 @@ pub mod RootRuns
 pub mod Finals
 pub mod Cores
 pub mod RunEnds
+pub mod Underway
+pub mod Starts
+pub mod Dues

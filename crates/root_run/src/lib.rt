@@ -1,13 +1,20 @@
-//! A run over a build root as a whole: what it is to make, which trees are partway through it, and how it ends (this project's
-//! profile). Definitions and laws; no call yet.
+//! A run over a build root as a whole, from a start to its report (this project's profile).
 //!
-//! Its laws say: a tree that a stop left partway can be taken up by what its names show, from the first start to a
-//! finished one; whatever is answered, at every moment a stop leaves the run partway; and where a run has ended, the tree is one
-//! that knows of no stops.
-//! They do not say that a program makes this run.
-//! Read first: `specs/Wholes.antt`, `specs/Partways.antt`, `specs/Finals.antt`.
+//! **This layer promises**, of `run_root`, over any tree and any judge: whatever it answers, at every moment of the call a
+//! stop leaves the run partway; where it gives a report the run is done, and the tree is one that knows of no stops; and each
+//! end has its cause.
+//! It does not promise: what a judge says of a file.
+//! Read first: `specs/Wholes.antt`, `specs/Partways.antt`, `specs/Finals.antt`, `specs/RunEnds.antt`.
+//!
+//! ```
+//! let report = run_root(alloc, &mut tree, "root", &options, judge, 16)?;
+//! ```
 #![tactic(auto)]
 
 mod run_err;
+mod running;
+mod starting;
+mod ways;
 
 pub use run_err::RunErr;
+pub use running::run_root;

@@ -1,0 +1,148 @@
+//! How a start goes on from what it finds: a run is over, goes on, or is planned.
+//!
+//! This layer promises: the tree is changed by a journal alone.
+//! Read first: `specs/Starts.antt`.
+ghost use Rattle.std.specs.Prelude.{◌≡◌, ◌∷◌, [], ◌<◌, ◌≤◌, ◌^◌, true, false, map, length, IfOk};
+ghost use Rattle.std.specs.String.{string_bytes};
+ghost use Rattle.journal_core.specs.Cores.{core_of};
+ghost use Rattle.work_journal.specs.Finishing.{IsStart};
+ghost use Rattle.work_journal.specs.declared.opening.Opened.TheVariants as opened;
+ghost use Rattle.root_run.specs.Wholes.{steps_of};
+ghost use Rattle.root_run.specs.Starts.{AreRunTexts, ClearEnded, ClearRan, OpenedWent, PlanWent, core_from, report_of};
+
+use crate::run_err::RunErr;
+use dw_base::NoMemory;
+use file_tree::{Blob, Tree};
+use job_types::Options;
+use journal_core::Core;
+use root_plan::{Judge, RootMaker, make_plan};
+use std::alloc::{AllocError, Global};
+use work_journal::{Desk, JournalErr, Maker, Opened, clear, finish, shown, start_core};
+use work_texts::{PlanData, write_finished, write_plan};
+
+/// Clears the work folder of a run that is over.
+fn clear_finished<T: Tree>(alloc: Global, tree: &mut T, work: &str) -> Result<(), JournalErr>
+    ensures ran { ClearRan work.now (T.seen tree.old) (T.seen tree.new) result }
+{
+    let mut desk = Desk::new(tree, Core::closed(alloc));
+    let cleared = clear(alloc, &mut desk, work);
+    let _tree = desk.into_tree();
+    cleared
+}
+
+/// The answer of a run with this report whose journal ended so.
+fn report_end(ended: Result<(), JournalErr>, report: Blob) -> Result<Blob, RunErr>
+    ensures value { result ≡ report_of ended report }
+{
+    match ended {
+        Ok(()) => Ok(report),
+        Err(e) => Err(RunErr::Journal(e)),
+    }
+}
+
+/// The texts of a plan's run.
+#[derive(Drop)]
+struct Texts {
+    plan: Vec<u8>,
+    finished: Vec<u8>,
+    report: Blob,
+}
+
+/// The plan as a text, the text that tells its end, and its report.
+fn texts_of(alloc: Global, plan: &PlanData) -> Result<Texts, NoMemory>
+    ensures are { IfOk result (λ t. AreRunTexts plan.now t.plan.items t.finished.items t.report) }
+{
+    let text = write_plan(alloc, plan)?;
+    let finished = write_finished(alloc, &plan.key, plan.report.as_slice())?;
+    let report = plan.report.copied(alloc)?;
+    Ok(Texts {
+        plan: text,
+        finished,
+        report,
+    })
+}
+
+/// The core of a start by a plan: of one that was just made, or of one that was there.
+fn first_core<M: Maker>(
+    alloc: Global,
+    fresh: bool,
+    work: &str,
+    present: &[String],
+    maker: &M,
+) -> Result<Core, AllocError>
+    ensures core { IfOk result (λ c. core_of c ≡ core_from fresh work.now (map string_bytes present.now) (M.view maker.now).steps) }
+    ensures start { IfOk result (λ c. IsStart (M.view maker.now) (core_of c)) }
+{
+    if fresh {
+        return start_core(alloc, &Opened::Empty, work, present, maker);
+    }
+    shown(alloc, work, present, maker)
+}
+
+/// Carries out a plan, one that was just made or one that was there, by a journal.
+pub(crate) fn run_plan<T: Tree, J: Judge + Drop>(
+    alloc: Global,
+    tree: &mut T,
+    root: &str,
+    work: &str,
+    present: &[String],
+    fresh: bool,
+    plan: PlanData,
+    judge: J,
+    jobs: u8,
+) -> Result<Blob, RunErr>
+    requires some { 0 < jobs }
+    requires most { jobs ≤ 64 }
+    requires few { length plan.jobs < 2 ^ 32 }
+    ensures went { PlanWent root.now work.now (J.view judge) (J.edit_fails judge) (J.split_fails judge) plan jobs (core_from fresh work.now (map string_bytes present.now) (steps_of plan)) (T.seen tree.old) (T.seen tree.new) result }
+{
+    let texts = texts_of(alloc, &plan)?;
+    let mut maker = RootMaker::new(alloc, root, plan, judge)?;
+    let lists = maker.lists(alloc)?;
+    let core = first_core(alloc, fresh, work, present, &maker)?;
+    let ended = finish(
+        alloc,
+        tree,
+        core,
+        work,
+        present,
+        &mut maker,
+        jobs,
+        texts.plan,
+        lists,
+        &texts.finished,
+    );
+    report_end(ended, texts.report)
+}
+
+/// Plans a root that has no plan yet, and carries that out.
+pub(crate) fn new_run<T: Tree, J: Judge + Drop>(
+    alloc: Global,
+    tree: &mut T,
+    root: &str,
+    work: &str,
+    present: &[String],
+    options: &Options,
+    judge: J,
+    jobs: u8,
+) -> Result<Blob, RunErr>
+    requires some { 0 < jobs }
+    requires most { jobs ≤ 64 }
+    ensures went { OpenedWent root.now work.now options.now (J.view judge) (J.fails judge) (J.edit_fails judge) (J.split_fails judge) jobs (map string_bytes present.now) (T.seen tree.old) (T.seen tree.new) result opened.Empty }
+{
+    let plan = make_plan(alloc, tree, root, present, options, &judge)?;
+    run_plan(alloc, tree, root, work, present, true, plan, judge, jobs)
+}
+
+/// Ends a run that is over, with its report.
+pub(crate) fn finished_run<T: Tree>(
+    alloc: Global,
+    tree: &mut T,
+    work: &str,
+    report: Blob,
+) -> Result<Blob, RunErr>
+    ensures ended { ClearEnded work.now report (T.seen tree.old) (T.seen tree.new) result }
+{
+    let cleared = clear_finished(alloc, tree, work);
+    report_end(cleared, report)
+}
