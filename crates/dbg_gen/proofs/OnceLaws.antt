@@ -30,7 +30,7 @@ digits-bare (x ∷ xs) e =
 digits-model : IsNumeralModel (λ ds. all_ascii_digits ds ≡ true) (digits_value 10)
 digits-model = numerals_by_value (λ ds. all_ascii_digits ds ≡ true) tells_all_ascii_digits
 
-decimal-bare : (n : ℕ) → n < 2 ^ 64 → has_nul (decimal n) ≡ false
+pub decimal-bare : (n : ℕ) → n < 2 ^ 64 → has_nul (decimal n) ≡ false
 decimal-bare n small = digits-bare (decimal n) (digits_decimal digits-model n small)
 
 pub unit_name-bare : (unit : ℕ) → unit < 2 ^ 64 → has_nul (unit_name unit) ≡ false

@@ -17,11 +17,11 @@ use Rattle.dw_base.proofs.LayoutLaws.{laid-longer, length-new_heads, length-with
 use Rattle.dw_base.proofs.NumberLaws.{length-number_bytes}
 use Rattle.dw_base.proofs.TextLaws.{laid_texts-append, laid_texts-push}
 use Rattle.dw_base.proofs.WrittenSections.{moved-length}
+use Rattle.dbg_gen.specs.Asked.{AreFew}
 use Rattle.dbg_gen.specs.GeneratedFiles.{file_header, file_of_counts, file_with, parts_with}
 use Rattle.dbg_gen.specs.GeneratedLines.{line_header, line_lists, line_numbers, line_program, line_table, lines_of, table_of}
 use Rattle.dbg_gen.specs.GeneratedTexts.{chained, directory, each_once, mentions_of, texts_of, unit_name, unit_texts, variable_name}
 use Rattle.dbg_gen.specs.GeneratedUnits.{text_offset, unit_bytes, unit_entries, unit_entry, unit_with, units_of, variable_entry}
-use Rattle.dbg_gen.specs.VariableCounts.{AreFew}
 
 -- what is chained is as long as its items together
 pub length-chained : (f : ℕ → List ℕ) (k n : ℕ) → ((u : ℕ) → u < n → length (f u) ≤ k) → length (chained f n) ≤ n * k
@@ -66,7 +66,7 @@ length-variable_name variable small =
     omega (arith, length-append (codes "v") (decimal variable))
 
 -- texts, each once, are no longer than all
-once-cases : (ts : List (List ℕ)) (t : List ℕ) (test : Bool) → length (laid_texts (if test then ts else ts ++ t ∷ [])) ≤ length (laid_texts ts) + suc (length t)
+pub once-cases : (ts : List (List ℕ)) (t : List ℕ) (test : Bool) → length (laid_texts (if test then ts else ts ++ t ∷ [])) ≤ length (laid_texts ts) + suc (length t)
 once-cases ts t true = omega arith
 once-cases ts t false =
     let both = ap length (laid_texts-push ts t) ∙ length-append (laid_texts ts) (t ++ 0 ∷ []) in
@@ -194,7 +194,8 @@ length-extended out p =
       | inr stays ↦ rw stays (omega arith)
     ]
 
-abbrev room : List Part → ℕ
+-- how much room parts take at most: each its padding and its body
+abbrev pub room : List Part → ℕ
 room [] = 0
 room (p ∷ ps) = p.head.align + length p.body + room ps
 
@@ -205,20 +206,26 @@ length-laid out (p ∷ ps) =
     let one = length-extended out p in
     omega arith
 
-length-file_with : (units texts lines : List ℕ) → length (file_with units texts lines) ≤ length units + length texts + length lines + 540
-unfolding file_with laid_out
-length-file_with units texts lines =
-    let longer = laid-longer file_header (parts_with units texts lines) in
-    let behind = length-laid file_header (parts_with units texts lines) in
-    let heads = length-new_heads file_header (parts_with units texts lines) in
-    let zeros = padding-le (length (laid file_header (parts_with units texts lines))) 8 in
-    let all = length-with_table C64 Little (laid file_header (parts_with units texts lines)) (new_heads file_header (parts_with units texts lines)) (omega arith) in
+-- a file of a front and parts
+pub length-laid_out : (front : List ℕ) (ps : List Part) → 64 ≤ length front → length (laid_out C64 Little front ps) ≤ length front + room ps + 8 + length ps * 64
+unfolding laid_out
+length-laid_out front ps header =
+    let longer = laid-longer front ps in
+    let behind = length-laid front ps in
+    let heads = length-new_heads front ps in
+    let zeros = padding-le (length (laid front ps)) 8 in
+    let all = length-with_table C64 Little (laid front ps) (new_heads front ps) (omega arith) in
     omega arith
 
+length-file_with : (units texts lines : List ℕ) → length (file_with units texts lines) ≤ length units + length texts + length lines + 540
+unfolding file_with
+length-file_with units texts lines = let all = length-laid_out file_header (parts_with units texts lines) (omega arith) in omega arith
+
 -- so it is far within the limit
-pub file-small : (counts : List ℕ) (units : ℕ) → units ≤ 10000 → AreFew counts → length (file_of_counts counts units) ≤ output_limit
+pub file-small : (counts : List ℕ) → length counts ≤ 10000 → AreFew counts → length (file_of_counts counts) ≤ output_limit
 unfolding file_of_counts
-file-small counts units small few =
+file-small counts small few =
+    let units = length counts in
     let info = length-units_of (texts_of counts units) counts units few in
     let texts = length-texts_of counts units small few in
     let lines = length-lines_of counts units small few in

@@ -5,7 +5,8 @@ use Rattle.dw_base.specs.Lists.{tabulate}
 use Rattle.dw_base.specs.StringTables.{with_text}
 use Rattle.dw_base.specs.Texts.{is_in, same_text}
 use Rattle.dw_base.proofs.TextLaws.{is_in-append, is_in-with_text, is_in-with_text_kept, same_text-refl, same_text-true}
-use Rattle.dbg_gen.specs.GeneratedTexts.{HasUnit, HasUnits, chained, directory, each_once, mentions_of, texts_of, unit_name, unit_texts, variable_name}
+use Rattle.dbg_gen.specs.Asked.{HasUnit, HasUnits}
+use Rattle.dbg_gen.specs.GeneratedTexts.{chained, directory, each_once, mentions_of, texts_of, unit_name, unit_texts, variable_name}
 
 -- a text that is there stays, and one that is behind it is there too
 once-kept : (ts xs : List (List ℕ)) (t : List ℕ) → is_in ts t ≡ true → is_in (each_once ts xs) t ≡ true

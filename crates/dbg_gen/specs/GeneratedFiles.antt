@@ -1,6 +1,6 @@
 -- Generated files: of type EXEC, of 64 bits, lowest byte first, for x86-64, without program headers (gABI ch. 4 "ELF Header",
 -- "Sections"). This project's profile.
-use Rattle.std.specs.Prelude.{ℕ, suc, codes, replicate, false, true, List, [], ◌∷◌, ◌++◌}
+use Rattle.std.specs.Prelude.{ℕ, suc, codes, replicate, false, true, List, [], ◌∷◌, ◌++◌, length}
 use Rattle.dw_base.specs.Elf.{ehdr_size, shdr_size}
 use Rattle.dw_base.specs.Fields.{fields_bytes}
 use Rattle.dw_base.specs.Layout.{Part, laid_out}
@@ -71,10 +71,11 @@ parts_with units texts lines =
 unfoldable pub file_with : List ℕ → List ℕ → List ℕ → List ℕ
 file_with units texts lines = laid_out C64 Little file_header (parts_with units texts lines)
 
--- the file of so many units, which have so many variables each
-unfoldable pub file_of_counts : List ℕ → ℕ → List ℕ
-file_of_counts counts units = file_with (units_of (texts_of counts units) counts units) (laid_texts (texts_of counts units)) (lines_of counts units)
+-- the file of units that have so many variables each
+unfoldable pub file_of_counts : List ℕ → List ℕ
+file_of_counts counts =
+    file_with (units_of (texts_of counts (length counts)) counts (length counts)) (laid_texts (texts_of counts (length counts))) (lines_of counts (length counts))
 
 -- the generated file of a seed and so many units
 unfoldable pub generated : ℕ → ℕ → List ℕ
-generated seed units = file_of_counts (variable_counts seed units) units
+generated seed units = file_of_counts (variable_counts seed units)

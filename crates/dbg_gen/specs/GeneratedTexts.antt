@@ -1,10 +1,9 @@
 -- The texts of a generated file, and its table of texts (DWARF 4, 7.5.4, class string): each text that a unit names once, in order of first
 -- mention. This project's profile.
-use Rattle.std.specs.Prelude.{ℕ, zero, suc, codes, List, [], ◌∷◌, ◌++◌, ◌<◌, ◌≡◌, true, slice_index}
+use Rattle.std.specs.Prelude.{ℕ, zero, suc, codes, List, [], ◌∷◌, ◌++◌, slice_index}
 use Rattle.std.specs.Fmt.{decimal}
 use Rattle.dw_base.specs.Lists.{tabulate}
 use Rattle.dw_base.specs.StringTables.{with_text}
-use Rattle.dw_base.specs.Texts.{is_in}
 
 -- what a function gives at 0, 1, .. below n, one after another
 abbrev pub chained : {X : Type 0} → (ℕ → List X) → ℕ → List X
@@ -39,13 +38,3 @@ mentions_of counts units = chained (λ unit. unit_texts unit (slice_index counts
 -- these texts, each once, in order of first mention
 unfoldable pub texts_of : List ℕ → ℕ → List (List ℕ)
 texts_of counts units = each_once [] (mentions_of counts units)
-
--- each text that a unit with so many variables names is among these
-pub record HasUnit (texts : List (List ℕ)) (unit count : ℕ) : Type 0 where
-  pub name : is_in texts (unit_name unit) ≡ true
-  pub directory_there : is_in texts directory ≡ true
-  pub variables : (i : ℕ) → i < count → is_in texts (variable_name i) ≡ true
-
--- and so is each that the first units name, which have so many variables each
-pub record HasUnits (texts : List (List ℕ)) (counts : List ℕ) (units : ℕ) : Type 0 where
-  pub each : (u : ℕ) → u < units → HasUnit texts u (slice_index counts u)

@@ -3,3 +3,4 @@ pub mod GeneratedTexts
 pub mod GeneratedUnits
 pub mod GeneratedLines
 pub mod GeneratedFiles
+pub mod Asked

@@ -1,6 +1,6 @@
 -- How many variables each unit of a generated file has: by a linear congruential generator modulo 2^64, whose state begins
 -- as the seed. This project's profile.
-use Rattle.std.specs.Prelude.{ℕ, zero, suc, ◌+◌, ◌*◌, ◌%◌, ◌/◌, ◌^◌, ◌≤◌, List, slice_index}
+use Rattle.std.specs.Prelude.{ℕ, zero, suc, ◌+◌, ◌*◌, ◌%◌, ◌/◌, ◌^◌, List}
 use Rattle.dw_base.specs.Lists.{tabulate}
 
 -- the state after one step
@@ -19,7 +19,3 @@ variable_count seed unit = 1 + state_after seed (suc unit) / 2 ^ 60
 -- how many each of so many units has
 unfoldable pub variable_counts : ℕ → ℕ → List ℕ
 variable_counts seed units = tabulate (variable_count seed) units
-
--- no unit has more variables than 16
-pub record AreFew (counts : List ℕ) : Type 0 where
-  pub each : (i : ℕ) → slice_index counts i ≤ 16

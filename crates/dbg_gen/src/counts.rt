@@ -1,7 +1,8 @@
 //! How many variables each unit has.
 
 ghost use Rattle.std.specs.Prelude.{◌≡◌, ◌+◌, ◌/◌, ◌^◌, ◌≤◌, vec_len, IfOk};
-ghost use Rattle.dbg_gen.specs.VariableCounts.{AreFew, state_after, stepped, variable_counts};
+ghost use Rattle.dbg_gen.specs.Asked.{AreFew};
+ghost use Rattle.dbg_gen.specs.VariableCounts.{state_after, stepped, variable_counts};
 
 use std::alloc::{AllocError, Global};
 

@@ -13,8 +13,6 @@
 mod counts;
 mod file;
 mod lines;
-#[cfg(test)]
-mod tests;
 mod texts;
 mod units;
 

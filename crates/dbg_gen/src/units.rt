@@ -2,10 +2,10 @@
 
 ghost use Rattle.std.specs.Prelude.{◌≡◌, ◌++◌, ◌<◌, ◌≤◌, [], true, length, ℕ, IfOk, OnOk};
 ghost use Rattle.dw_base.specs.Texts.{is_in};
+ghost use Rattle.dbg_gen.specs.Asked.{AreFew, HasUnit, HasUnits};
 ghost use Rattle.dbg_gen.specs.GeneratedLines.{line_table, lines_of};
-ghost use Rattle.dbg_gen.specs.GeneratedTexts.{HasUnit, HasUnits, chained, directory, unit_name, variable_name};
+ghost use Rattle.dbg_gen.specs.GeneratedTexts.{chained, directory, unit_name, variable_name};
 ghost use Rattle.dbg_gen.specs.GeneratedUnits.{text_offset, unit_entries, unit_entry, unit_bytes, unit_with, units_of, variable_entry};
-ghost use Rattle.dbg_gen.specs.VariableCounts.{AreFew};
 
 use crate::lines::push_line_table;
 use crate::texts::{directory, unit_name, variable_name};

@@ -1,7 +1,8 @@
 -- The counts so far, and the state behind them.
 use Rattle.std.proofs.Common.{◌≡◌, vec_len}
 use Rattle.dw_base.specs.Lists.{tabulate}
-use Rattle.dbg_gen.specs.VariableCounts.{AreFew, state_after, variable_count}
+use Rattle.dbg_gen.specs.Asked.{AreFew}
+use Rattle.dbg_gen.specs.VariableCounts.{state_after, variable_count}
 use Rattle.dbg_gen.proofs.counts.variable_counts.Given as goal
 
 abbrev pub invariant-loop-unit : goal.invariant-loop-unit

@@ -1,6 +1,6 @@
 //! Generated files. The bytes are another program's; `readelf` and `llvm-dwarfdump` read them.
 
-use crate::generate;
+use dbg_gen::generate;
 use dw_base::{Order, push_long, push_word};
 use std::alloc::{AllocError, Global};
 use std::test::Fail;
