@@ -1,10 +1,13 @@
 //! Worked examples of pairs that are joined, and of some that aren't. The expected bytes and places are another program's.
 
+use crate::runs::{file_of, run};
+use crate::shows::assert_ran;
 use crate::split_files::{DEBUG, STRIPPED, WHOLE};
 use crate::splits::joined;
 use dbg_unstrip::{UnstripErr, unstrip};
 use dw_base::OUTPUT_LIMIT;
 use elf_file::ElfFile;
+use file_tree::{Blob, MemTree, Node};
 use std::alloc::Global;
 use std::test::Fail;
 
@@ -57,6 +60,35 @@ fn a_pair_whose_sections_differ_isn_t_joined(rt: HostRuntime) -> Result<(), Fail
             Err(UnstripErr::Unmatched { place }) => assert_eq!(rt; place, *wanted),
             _ => return Err("another answer".into()),
         }
+    }
+    Ok(())
+}
+
+#[test]
+fn a_run_puts_the_file_of_both_with_the_mode_of_the_stripped_file(
+    rt: HostRuntime,
+) -> Result<(), Fail> {
+    let alloc = rt.alloc();
+    let stripped = Node::File {
+        bytes: Blob::new(joined(alloc, STRIPPED)?),
+        mode: 0o711,
+    };
+    let mut nodes = Vec::new(alloc);
+    nodes.push((String::from_str(alloc, "a")?, stripped))?;
+    nodes.push((
+        String::from_str(alloc, "a.debug")?,
+        file_of(joined(alloc, DEBUG)?),
+    ))?;
+    let mut tree = MemTree::new(alloc, nodes)?;
+    let ran = run(alloc, "unstrip a a.debug out", &mut tree)?;
+    assert_ran(&rt, &ran, 0, "", "");
+    match tree.nodes() {
+        [_, _, (path, Node::File { bytes, mode })] => {
+            assert_eq!(rt; path.as_str(), "out");
+            assert_eq!(rt; *mode, 0o711);
+            assert_eq!(rt; bytes.as_slice(), joined(alloc, WHOLE)?.as_slice());
+        }
+        _ => assert!(rt; false, "the file of both is there"),
     }
     Ok(())
 }

@@ -103,6 +103,16 @@ fn told(alloc: Global, command: &Command) -> Result<String, AllocError> {
             }
             Ok(told)
         }
+        Command::Unstrip {
+            stripped,
+            debug,
+            output,
+        } => {
+            let stripped = stripped.as_str();
+            let debug = debug.as_str();
+            let output = output.as_str();
+            format!(in alloc; "unstrip {stripped} {debug} {output}")
+        }
         Command::Exercise { seed, units } => format!(in alloc; "exercise {seed} {units}"),
     }
 }

@@ -46,6 +46,7 @@ pub data IsRefusal (n : ℕ) : Type 0 where
   taken : n ≡ 5 → IsRefusal n
   limit : n ≡ 8 → IsRefusal n
   no_pair : n ≡ 12 → IsRefusal n
+  unmatched : n ≡ 15 → IsRefusal n
 
 -- statuses of a run that come before it has a plan, so before it changes anything
 pub data IsUnplanned (n : ℕ) : Type 0 where

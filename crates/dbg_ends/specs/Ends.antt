@@ -31,6 +31,7 @@ status_of (end.Changed path) = 10
 status_of (end.PlanText file at) = 11
 status_of (end.NotAPair mismatch) = 12
 status_of end.NoMemory = 13
+status_of (end.Unmatched place) = 15
 
 -- how a command ends where a call of the tree fails
 abbrev pub end_of_tree : TreeErr → End
@@ -73,6 +74,7 @@ line_of (end.OtherRun field) = codes "other run: " ++ (field_text field ++ codes
 line_of (end.Changed path) = codes "changed: " ++ (path ++ codes "\n")
 line_of (end.PlanText file at) = codes "plan text: " ++ (work_file_text file ++ (codes " offset " ++ (decimal at ++ codes "\n")))
 line_of (end.NotAPair mismatch) = codes "not a pair: " ++ (mismatch_text mismatch ++ codes "\n")
+line_of (end.Unmatched place) = codes "unmatched: section " ++ (decimal place ++ codes "\n")
 line_of end.TreeFault = codes "tree fault\n"
 line_of end.OutputFault = codes "output fault\n"
 line_of end.NoMemory = codes "no memory\n"

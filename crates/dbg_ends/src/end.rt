@@ -45,6 +45,9 @@ pub enum End {
     OutputFault,
     /// A stripped file and a debug file aren't a pair, for this reason.
     NotAPair(Mismatch),
+    /// A stripped file and a debug file don't match: this is the first place, counted from 0, at which the sections that
+    /// they should share differ; 0, too, where the two don't match as a whole.
+    Unmatched { place: u32 },
     /// There was not enough memory.
     NoMemory,
 }
@@ -95,5 +98,6 @@ pub fn status(end: &End) -> u8
         End::PlanText { .. } => 11,
         End::NotAPair(_) => 12,
         End::NoMemory => 13,
+        End::Unmatched { .. } => 15,
     }
 }

@@ -87,6 +87,22 @@ fn plan_text_line(alloc: Global, file: WorkFile, at: u64) -> Result<String, Allo
     format!(in alloc; "plan text: {name} offset {at}\n")
 }
 
+/// The line of two files whose sections differ at this place.
+#[tactic(auto, unfolding(crate::specs::Ends::line_of))]
+fn unmatched_line(alloc: Global, place: u32) -> Result<String, AllocError>
+    ensures text { IfOk result (λ s. string_bytes s ≡ line_of (end.Unmatched place)) }
+{
+    format!(in alloc; "unmatched: section {place}\n")
+}
+
+/// The line of a fault of the output.
+#[tactic(auto, unfolding(crate::specs::Ends::line_of))]
+pub(crate) fn output_fault_line() -> &'static str
+    ensures text { result.now ≡ line_of end.OutputFault }
+{
+    "output fault\n"
+}
+
 /// The line where there was not enough memory.
 #[tactic(auto, unfolding(crate::specs::Ends::line_of))]
 pub(crate) fn no_memory_line() -> &'static str
@@ -137,8 +153,9 @@ pub fn line(alloc: Global, end: &End) -> Result<String, AllocError>
             let why = mismatch_name(mismatch);
             format!(in alloc; "not a pair: {why}\n")
         }
+        End::Unmatched { place } => unmatched_line(alloc, *place),
         End::TreeFault => String::from_str(alloc, "tree fault\n"),
-        End::OutputFault => String::from_str(alloc, "output fault\n"),
+        End::OutputFault => String::from_str(alloc, output_fault_line()),
         End::NoMemory => String::from_str(alloc, no_memory_line()),
     }
 }

@@ -1,5 +1,5 @@
 -- No path of a command holds a NUL, and neither does the name of a file at it: no word holds one.
-use Rattle.std.proofs.Common.{◌≡◌, ℕ, zero, suc, ◌+◌, Bool, true, false, ◌==◌, ◌||◌, List, [], ◌∷◌, ◌++◌, map, take, drop, length, Option, Some, None, refl, sym, ap, subst, cond}
+use Rattle.std.proofs.Common.{◌≡◌, ℕ, zero, suc, ◌+◌, Bool, true, false, ◌==◌, ◌||◌, List, [], ◌∷◌, map, take, drop, length, Option, Some, None, refl, subst, cond}
 use Rattle.std.specs.Prelude.{if◌then◌else◌, codes, filter, is_some, option_and_then, option_map, unwrap_or, ⊤}
 use Rattle.std.specs.Option.{option_flatten}
 use Rattle.std.specs.List.{AllByRecursion, join_with_byte, list_any, slice_split, onto_first}
@@ -12,11 +12,10 @@ use Rattle.dbg_words.specs.CommandLines.{CommandLine, Look, Part, begins_with_da
 use Rattle.dbg_words.specs.CommandLines.Look.{plain, ending, optional, short}
 use Rattle.dbg_words.specs.CommandLines.Part.{path, value, flag}
 use Rattle.dbg_words.specs.PathWords.{cleaned, components, is_kept, is_path_word, is_rooted, kept_components, path_named}
-use Rattle.job_types.specs.Settings.{Settings}
 use Rattle.dbg_words.specs.Decimals.{number_within}
-use Rattle.dbg_words.specs.Words.{command, command_named, edit_listed, edit_named, edit_of, edit_paths, exercise_named, exercise_of, exercise_seeded, is_bare, list_path, number_or, one_of, other_path, run_below, run_named, run_of, run_settled, settings_of, show_named, show_of, show_one, split_named, split_of, split_paths, three_of, two_of, two_paths, unless_among}
+use Rattle.dbg_words.specs.Words.{command, command_named, edit_listed, edit_named, edit_of, edit_paths, exercise_named, exercise_of, exercise_seeded, is_bare, list_path, number_or, one_of, other_path, run_below, run_named, run_of, run_settled, settings_of, show_named, show_of, show_one, split_named, split_of, split_paths, three_of, two_of, two_paths, unless_among, unstrip_named, unstrip_of, unstrip_paths}
 use Rattle.dbg_words.specs.declared.command.Command.{Command}
-use Rattle.dbg_words.specs.declared.command.Command.TheVariants.{Edit, Split, Run, Show, Exercise}
+use Rattle.dbg_words.specs.declared.command.Command.TheVariants.{Edit, Split, Run, Show, Unstrip, Exercise}
 use Rattle.dbg_run.specs.Built.{built, if_built, is_built}
 use Rattle.dbg_run.specs.Shows.{base_name}
 use Rattle.dbg_run.proofs.BuiltLaws.{All, all_if, all_map, all_then, any}
@@ -233,6 +232,14 @@ show-free l = all_if DebugBare (is_bare l) (show_named l.paths (two_of l.paths))
     by_paths None = all_then (λ a. ⊤) DebugBare show_one (one_of l.paths) (any (one_of l.paths)) (λ w _.
         all_map (λ a. ⊤) DebugBare (λ file. Show file None) (path_named w) (any (path_named w)) (λ file _. tt))
 
+unstrip-free : (l : CommandLine) → All DebugBare (unstrip_of l)
+unfolding unstrip_of
+unstrip-free l =
+    all_if DebugBare (is_bare l) (option_and_then unstrip_named (three_of l.paths)) None
+    (all_then (λ a. ⊤) DebugBare unstrip_named (three_of l.paths) (any (three_of l.paths)) (λ w _.
+    all_then (λ a. ⊤) DebugBare (unstrip_paths w.2) (two_paths (w.0, w.1)) (any (two_paths (w.0, w.1))) (λ p _.
+    all_map (λ a. ⊤) DebugBare (λ output. Unstrip p.0 p.1 output) (other_path p.0 p.1 w.2) (any (other_path p.0 p.1 w.2)) (λ output _. tt)))) tt
+
 exercise-free : (l : CommandLine) → All DebugBare (exercise_of l)
 unfolding exercise_of
 exercise-free l =
@@ -248,7 +255,8 @@ named-free name l bs =
     (all_if DebugBare (same_text name (codes "split")) (split_of l) _ (split-of-bare l bs)
     (all_if DebugBare (same_text name (codes "run")) (run_of l) _ (run-free l)
     (all_if DebugBare (same_text name (codes "show")) (show_of l) _ (show-free l)
-    (all_if DebugBare (same_text name (codes "exercise")) (exercise_of l) None (exercise-free l) tt))))
+    (all_if DebugBare (same_text name (codes "unstrip")) (unstrip_of l) _ (unstrip-free l)
+    (all_if DebugBare (same_text name (codes "exercise")) (exercise_of l) None (exercise-free l) tt)))))
 
 command-bare : (words : List (List ℕ)) → All DebugBare (command words)
 unfolding command

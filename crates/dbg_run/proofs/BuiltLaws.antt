@@ -8,10 +8,10 @@ use Rattle.dw_base.specs.Texts.{has_nul, same_text}
 use Rattle.job_types.specs.Settings.{Settings}
 use Rattle.dbg_words.specs.CommandLines.{CommandLine, command_line}
 use Rattle.dbg_words.specs.declared.command.Command.{Command}
-use Rattle.dbg_words.specs.declared.command.Command.TheVariants.{Edit, Split, Run, Show, Exercise}
+use Rattle.dbg_words.specs.declared.command.Command.TheVariants.{Edit, Split, Run, Show, Unstrip, Exercise}
 use Rattle.dbg_words.specs.Decimals.{number_within}
 use Rattle.dbg_words.specs.PathWords.{path_named}
-use Rattle.dbg_words.specs.Words.{command, command_named, edit_listed, edit_named, edit_of, edit_paths, exercise_named, exercise_of, exercise_seeded, list_path, number_or, one_of, other_path, run_below, run_named, run_of, run_settled, settings_of, show_named, show_of, show_one, split_named, split_of, split_paths, two_of, two_paths, unless_among, three_of, is_bare}
+use Rattle.dbg_words.specs.Words.{command, command_named, edit_listed, edit_named, edit_of, edit_paths, exercise_named, exercise_of, exercise_seeded, list_path, number_or, one_of, other_path, run_below, run_named, run_of, run_settled, settings_of, show_named, show_of, show_one, split_named, split_of, split_paths, two_of, two_paths, unless_among, three_of, is_bare, unstrip_named, unstrip_of, unstrip_paths}
 use Rattle.dbg_run.specs.Built.{built, if_built, is_built}
 
 -- a command that is none of these isn't carried out
@@ -24,21 +24,29 @@ NoSplit k = (input stripped debug : List ℕ) → k ≡ Split input stripped deb
 abbrev NoShow : Command → Type 0
 NoShow k = (file : List ℕ) (debug : Option (List ℕ)) → k ≡ Show file debug → ⊥
 
-only_these : (c k : Command) (t : Bool) → is_built c ≡ t → Some k ≡ (if t then Some c else None) → NoEdit k → NoSplit k → NoShow k → ⊥
-only_these c k false e is edit split show = cc
-only_these (Edit input output o list) k true e is edit split show = let same : k ≡ Edit input output o list = cc in edit input output o list same
-only_these (Split input stripped debug) k true e is edit split show = let same : k ≡ Split input stripped debug = cc in split input stripped debug same
-only_these (Run root o jobs) k true e is edit split show = cc
-only_these (Show file debug) k true e is edit split show = let same : k ≡ Show file debug = cc in show file debug same
-only_these (Exercise seed units) k true e is edit split show = cc
+abbrev NoUnstrip : Command → Type 0
+NoUnstrip k = (stripped debug output : List ℕ) → k ≡ Unstrip stripped debug output → ⊥
 
-built_from : (o : Option Command) (k : Command) → Some k ≡ option_and_then if_built o → NoEdit k → NoSplit k → NoShow k → ⊥
-built_from None k is edit split show = cc
-built_from (Some c) k is edit split show = only_these c k (is_built c) refl is edit split show
+abbrev NoRun : Command → Type 0
+NoRun k = (root : List ℕ) (o : Settings) (jobs : ℕ) → k ≡ Run root o jobs → ⊥
 
-pub built_these : (words : List (List ℕ)) (k : Command) → Some k ≡ built words → NoEdit k → NoSplit k → NoShow k → ⊥
+only_these : (c k : Command) (t : Bool) → is_built c ≡ t → Some k ≡ (if t then Some c else None) → NoEdit k → NoSplit k → NoShow k → NoUnstrip k → NoRun k → ⊥
+only_these c k false e is edit split show unstrip run = cc
+only_these (Edit input output o list) k true e is edit split show unstrip run = let same : k ≡ Edit input output o list = cc in edit input output o list same
+only_these (Split input stripped debug) k true e is edit split show unstrip run = let same : k ≡ Split input stripped debug = cc in split input stripped debug same
+only_these (Run root o jobs) k true e is edit split show unstrip run = let same : k ≡ Run root o jobs = cc in run root o jobs same
+only_these (Show file debug) k true e is edit split show unstrip run = let same : k ≡ Show file debug = cc in show file debug same
+only_these (Unstrip stripped debug output) k true e is edit split show unstrip run =
+    let same : k ≡ Unstrip stripped debug output = cc in unstrip stripped debug output same
+only_these (Exercise seed units) k true e is edit split show unstrip run = cc
+
+built_from : (o : Option Command) (k : Command) → Some k ≡ option_and_then if_built o → NoEdit k → NoSplit k → NoShow k → NoUnstrip k → NoRun k → ⊥
+built_from None k is edit split show unstrip run = cc
+built_from (Some c) k is edit split show unstrip run = only_these c k (is_built c) refl is edit split show unstrip run
+
+pub built_these : (words : List (List ℕ)) (k : Command) → Some k ≡ built words → NoEdit k → NoSplit k → NoShow k → NoUnstrip k → NoRun k → ⊥
 unfolding built
-built_these words k is edit split show = built_from (command words) k is edit split show
+built_these words k is edit split show unstrip run = built_from (command words) k is edit split show unstrip run
 
 -- ### The second output's path is another one than the first's
 
@@ -122,6 +130,14 @@ show_apart l = all_if IsApart (is_bare l) (show_named l.paths (two_of l.paths)) 
     by_paths None = all_then (λ a. ⊤) IsApart show_one (one_of l.paths) (any (one_of l.paths)) (λ w _.
         all_map (λ a. ⊤) IsApart (λ file. Show file None) (path_named w) (any (path_named w)) (λ file _. tt))
 
+unstrip_apart : (l : CommandLine) → All IsApart (unstrip_of l)
+unfolding unstrip_of
+unstrip_apart l =
+    all_if IsApart (is_bare l) (option_and_then unstrip_named (three_of l.paths)) None
+    (all_then (λ a. ⊤) IsApart unstrip_named (three_of l.paths) (any (three_of l.paths)) (λ w _.
+    all_then (λ a. ⊤) IsApart (unstrip_paths w.2) (two_paths (w.0, w.1)) (any (two_paths (w.0, w.1))) (λ p _.
+    all_map (λ a. ⊤) IsApart (λ output. Unstrip p.0 p.1 output) (other_path p.0 p.1 w.2) (any (other_path p.0 p.1 w.2)) (λ output _. tt)))) tt
+
 exercise_apart : (l : CommandLine) → All IsApart (exercise_of l)
 unfolding exercise_of
 exercise_apart l =
@@ -137,7 +153,8 @@ named_apart name l =
     (all_if IsApart (same_text name (codes "split")) (split_of l) _ (split_apart l)
     (all_if IsApart (same_text name (codes "run")) (run_of l) _ (run_apart l)
     (all_if IsApart (same_text name (codes "show")) (show_of l) _ (show_apart l)
-    (all_if IsApart (same_text name (codes "exercise")) (exercise_of l) None (exercise_apart l) tt))))
+    (all_if IsApart (same_text name (codes "unstrip")) (unstrip_of l) _ (unstrip_apart l)
+    (all_if IsApart (same_text name (codes "exercise")) (exercise_of l) None (exercise_apart l) tt)))))
 
 command_apart : (words : List (List ℕ)) → All IsApart (command words)
 unfolding command

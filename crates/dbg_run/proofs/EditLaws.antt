@@ -186,7 +186,7 @@ rewrite_completes : (path : List ℕ) (s : Settings) (b : List ℕ) (e : End) �
 rewrite_completes path s b e none (rewrites.refused fails) = absurd (none _ fails)
 rewrite_completes path s b e none rewrites.memory = no_memory refl
 
-written_completes : (path : List ℕ) (old new : Seen) (e : End) → OutputEnds path old new e → IsCut (status_of e)
+pub written_completes : (path : List ℕ) (old new : Seen) (e : End) → OutputEnds path old new e → IsCut (status_of e)
 written_completes path old new e (written.failed rose at) = tree_fault refl
 written_completes path old new e (written.memory at) = no_memory refl
 
@@ -230,6 +230,13 @@ same_one path tree = record {
   tells = refl;
   others = λ t u q of_old of_new other. let same : Some u ≡ Some t = sym of_new ∙ of_old in cc;
 }
+
+-- a map that is as it was differs nowhere
+pub same-at : (path : List ℕ) (old new : Option TreeMap) → new ≡ old → OnlyAt path old new
+same-at path old new e = record { tells = ap is_some e; others = λ t u q of_old of_new other. let same : Some u ≡ Some t = sym of_new ∙ (e ∙ of_old) in cc }
+
+pub calm-at : (path : List ℕ) (old mid : Seen) (new : Option TreeMap) → Calm old mid → OnlyAt path (now_of mid) new → OnlyAt path (now_of old) new
+calm-at path old mid new calm at = let P : Option TreeMap → Type 0 = λ x. OnlyAt path x new in subst P calm.now at
 
 -- a map that is as it was differs at no path beside two
 pub same_both : (path beside : List ℕ) (old new : Option TreeMap) → new ≡ old → OnlyAtBoth path beside old new

@@ -17,6 +17,8 @@ use Rattle.job_types.specs.Settings.{Settings, most_file}
 use Rattle.dbg_split.specs.DebugFile.{debug_file}
 use Rattle.dbg_split.specs.PairMeanings.{MeansAsOne}
 use Rattle.dbg_split.specs.StrippedFile.{stripped_file}
+use Rattle.dbg_unstrip.specs.Joined.{joined}
+use Rattle.dbg_unstrip.specs.Rejoined.{IsRejoined, WasSplit}
 use Rattle.file_tree.specs.declared.node.Found.{Found}
 use Rattle.file_tree.specs.declared.node.Found.TheVariants as found
 use Rattle.file_tree.specs.declared.node.Node.{Node}
@@ -25,13 +27,15 @@ use Rattle.file_tree.specs.Heard.{Heard}
 use Rattle.file_tree.specs.Seen.{Seen, now_of}
 use Rattle.file_tree.specs.Trees.{TreeMap, found_of, is_below, stands_at, with_node}
 use Rattle.dbg_words.specs.declared.command.Command.{Command}
-use Rattle.dbg_words.specs.declared.command.Command.TheVariants.{Edit, Split, Show}
+use Rattle.dbg_words.specs.declared.command.Command.TheVariants.{Edit, Split, Run, Show, Unstrip}
 use Rattle.dbg_run.proofs.BuiltLaws.{listed_apart, parts_apart}
+use Rattle.dbg_run.proofs.RootKeptLaws.{root_loads, root_means}
 use Rattle.dbg_run.specs.Built.{built}
 use Rattle.dbg_run.specs.Edits.{EditDone, ListedDone, OfFiles, Keeps, list_mode}
 use Rattle.dbg_run.specs.Edits.Keeps.{both}
 use Rattle.dbg_run.specs.Shows.{base_name}
 use Rattle.dbg_run.specs.Splits.{OfParts, Parts, SplitDone}
+use Rattle.dbg_run.specs.Unstrips.{OfRejoined, UnstripDone}
 use Rattle.dbg_run.specs.Splits.Parts.{all}
 use Rattle.dbg_run.specs.Runs.{Done, KeepsMeaning, KeepsLoaded}
 
@@ -99,7 +103,7 @@ by_eq Equal t = refl
 by_eq Greater t = cc
 
 -- a path that wasn't put holds what it held
-get_put_other : (t : TreeMap) (path other : List ℕ) (n : Node) → other ≢ path → fin.get (with_node path n t) other ≡ fin.get t other
+pub get_put_other : (t : TreeMap) (path other : List ℕ) (n : Node) → other ≢ path → fin.get (with_node path n t) other ≡ fin.get t other
 get_put_other t path other n apart =
     fin.get-insert nat_list_cmp_total t path n other
     ∙ ap (λ (b : Bool). cond b (Some n) (fin.get t other)) (by_test (eq_by_cmp (slice_cmp nat_cmp) other path) refl)
@@ -162,6 +166,22 @@ of_stripped P input stripped debug old new done holds = record {
       subst (λ (x : List ℕ). P b x) stripped_is (subst (λ (x : List ℕ). P x whole_s) (sym input_is) holds);
 }
 
+-- what holds of a file that was split and of the file of its two parts holds of it and of what the output holds
+of_rejoined : (P : List ℕ → List ℕ → Type 0) (stripped debug output : List ℕ) (old new : Seen) → ((b out : List ℕ) → IsRejoined b out → P b out)
+    → UnstripDone stripped debug output old new → OfRejoined P stripped debug output (now_of old) (now_of new)
+of_rejoined P stripped debug output old new holds done = record {
+  is = λ t u b s d out mode other out_mode old_is new_is there also put was.
+      let stripped_is : s ≡ done.s = read-file t stripped s done.s mode done.mode most_file there (done.read.is t old_is) in
+      let debug_is : d ≡ done.d = read-file t debug d done.d other done.other most_file also (done.debug_read.is t old_is) in
+      let file : List ℕ = joined done.s done.d in
+      let map : Some u ≡ Some (with_node output (node.File file done.mode) t) =
+      sym new_is ∙ done.written ∙ ap (option_map (with_node output (node.File file done.mode))) old_is in
+      let output_is : file ≡ out = written-file t u output file out done.mode out_mode map put in
+      let split : WasSplit b (base_name debug) done.s done.d =
+      subst (λ (x : List ℕ). WasSplit b (base_name debug) x done.d) stripped_is (subst (λ (y : List ℕ). WasSplit b (base_name debug) s y) debug_is was) in
+      subst (λ (f : List ℕ). P b f) output_is (holds b file (done.back.is b split));
+}
+
 parts_mean : (b name s d : List ℕ) → Parts b name s d → MeansAsOne b d s
 parts_mean b name s d (all joins means read paired loaded) = means
 
@@ -179,7 +199,7 @@ outputs_apart words (Some (Edit input output o (Some list))) is = listed_apart w
 outputs_apart words (Some (Split input stripped debug)) is = parts_apart words input stripped debug is
 outputs_apart words c is = tt
 
-meaning_by : (c : Option Command) (old new : Seen) (heard said : Heard) → OutputsApart c → Done c old new heard said → KeepsMeaning c (now_of old) (now_of new)
+meaning_by : (c : Option Command) (old new : Seen) (heard said : Heard) → OutputsApart c → Done c old new heard said → KeepsMeaning c old new
 meaning_by (Some (Edit input output o None)) old new heard said apart d =
     of_files (MeaningKept o.maps) input output o o.max_file old new d.0 (meaning_kept o.maps d.0.b d.0.out d.0.keeps)
 meaning_by (Some (Edit input output o (Some list))) old new heard said apart d =
@@ -188,9 +208,11 @@ meaning_by (Some (Split input stripped debug)) old new heard said apart d =
     of_parts (λ b s x. MeansAsOne b x s) input stripped debug old new apart d.0
     (parts_mean d.0.b (base_name debug) (stripped_file d.0.b (base_name debug)) (debug_file d.0.b) d.0.parts)
 meaning_by (Some (Show file debug)) old new heard said apart d = tt
+meaning_by (Some (Unstrip stripped debug output)) old new heard said apart d = of_rejoined IsRejoined stripped debug output old new (λ b out is. is) d.0
+meaning_by (Some (Run root o jobs)) old new heard said apart d = root_means root o old new heard said d
 meaning_by c old new heard said apart d = d
 
-loaded_by : (c : Option Command) (old new : Seen) (heard said : Heard) → OutputsApart c → Done c old new heard said → KeepsLoaded c (now_of old) (now_of new)
+loaded_by : (c : Option Command) (old new : Seen) (heard said : Heard) → OutputsApart c → Done c old new heard said → KeepsLoaded c old new
 loaded_by (Some (Edit input output o None)) old new heard said apart d =
     of_files LoadedKept input output o o.max_file old new d.0 (loaded_kept o.maps d.0.b d.0.out d.0.keeps)
 loaded_by (Some (Edit input output o (Some list))) old new heard said apart d =
@@ -199,10 +221,12 @@ loaded_by (Some (Split input stripped debug)) old new heard said apart d =
     of_stripped LoadedKept input stripped debug old new d.0
     (parts_loaded d.0.b (base_name debug) (stripped_file d.0.b (base_name debug)) (debug_file d.0.b) d.0.parts)
 loaded_by (Some (Show file debug)) old new heard said apart d = tt
+loaded_by (Some (Unstrip stripped debug output)) old new heard said apart d = of_rejoined LoadedKept stripped debug output old new (λ b out is. is.loaded) d.0
+loaded_by (Some (Run root o jobs)) old new heard said apart d = root_loads root o old new heard said d
 loaded_by c old new heard said apart d = d
 
-pub keeps_meaning : (words : List (List ℕ)) (old new : Seen) (heard said : Heard) → Done (built words) old new heard said → KeepsMeaning (built words) (now_of old) (now_of new)
+pub keeps_meaning : (words : List (List ℕ)) (old new : Seen) (heard said : Heard) → Done (built words) old new heard said → KeepsMeaning (built words) old new
 keeps_meaning words old new heard said d = meaning_by (built words) old new heard said (outputs_apart words (built words) refl) d
 
-pub keeps_loaded : (words : List (List ℕ)) (old new : Seen) (heard said : Heard) → Done (built words) old new heard said → KeepsLoaded (built words) (now_of old) (now_of new)
+pub keeps_loaded : (words : List (List ℕ)) (old new : Seen) (heard said : Heard) → Done (built words) old new heard said → KeepsLoaded (built words) old new
 keeps_loaded words old new heard said d = loaded_by (built words) old new heard said (outputs_apart words (built words) refl) d

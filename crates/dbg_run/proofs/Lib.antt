@@ -5,7 +5,13 @@ pub mod SourceLaws
 pub mod ViewLaws
 pub mod ShowLaws
 pub mod SplitLaws
+pub mod UnstripLaws
+pub mod RootLaws
+pub mod RootKeptLaws
+pub mod AnswerLaws
+pub mod RootWordLaws
 pub mod RunLaws
+pub mod StartLaws
 pub mod RunRows
 pub mod Rows
 pub mod KeptLaws

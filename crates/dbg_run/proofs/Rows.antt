@@ -3,6 +3,7 @@ use Rattle.dbg_ends.specs.Due.IsCut.{tree_fault, no_memory}
 use Rattle.dbg_ends.specs.Due.{Where as where_}
 use Rattle.dbg_run.proofs.EditLaws.{input_due, taken_due, free_due, not_accepted, rewrite_wants}
 use Rattle.dbg_run.proofs.RunLaws.{cuts_memory}
+use Rattle.dbg_run.proofs.StartLaws.{memory_starts, none_starts}
 use Rattle.dbg_ends.specs.Steps.{OutputEnds as output, OutputsEnd as outputs}
 use Rattle.dbg_run.proofs.EditLaws.{same_one}
 use Rattle.dbg_run.proofs.SplitLaws.{are_parts, blames_due, both_same, is_splittable, split_blames}
@@ -24,4 +25,4 @@ pub ruleset pair_rows = (outputs.memory, no_memory, both_same)
 
 pub ruleset split_rows = (split.reading, split.taking, split.debug_taking, split.splitting, split.writing, split.done, where_.here, where_.elsewhere, input_due, taken_due, free_due)
 
-pub ruleset run_rows = (ends.usage, ends.memory, ends.edit, ends.split, ends.show, no_memory, cuts_memory)
+pub ruleset run_rows = (ends.usage, ends.memory, ends.edit, ends.split, ends.show, ends.unstrip, ends.run, no_memory, cuts_memory, memory_starts, none_starts)

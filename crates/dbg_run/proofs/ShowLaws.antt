@@ -152,7 +152,7 @@ pub ruleset pair_laws = (stripped_elf, debug_elf, pair_unseen, pair_written, pai
 -- ### The steps
 
 -- what stood in the tree in the middle stood in the first
-stood_before : (old mid : Seen) (path : List ℕ) (what : Found) → Calm old mid → Stood (now_of mid) path most_file what → Stood (now_of old) path most_file what
+pub stood_before : (old mid : Seen) (path : List ℕ) (what : Found) → Calm old mid → Stood (now_of mid) path most_file what → Stood (now_of old) path most_file what
 stood_before old mid path what calm stood = record { is = λ t tells. stood.is t (calm.now ∙ tells) }
 
 pub first_ends : (file : List ℕ) (debug : Option (List ℕ)) (old new : Seen) (heard said : Heard) (e : End) → said ≡ heard → Calm old new
@@ -273,10 +273,10 @@ show_due file debug old new heard said e (shows.done d) = λ t tells. inl (read_
 -- ### What a status says of the end
 
 -- numbers that differ aren't the same
-apart : (n k : ℕ) → (n == k) ≡ false → (k == k) ≡ true → n ≡ k → ⊥
+pub apart : (n k : ℕ) → (n == k) ≡ false → (k == k) ≡ true → n ≡ k → ⊥
 apart n k other itself is = true≢false (sym itself ∙ subst (λ (x : ℕ). (x == k) ≡ false) is other)
 
-input_status : (path : List ℕ) (limit k : ℕ) (old new : Seen) (e : End) → InputEnds path limit old new e → (4 == k) ≡ false → (8 == k) ≡ false → (6 == k) ≡ false → (13 == k) ≡ false
+pub input_status : (path : List ℕ) (limit k : ℕ) (old new : Seen) (e : End) → InputEnds path limit old new e → (4 == k) ≡ false → (8 == k) ≡ false → (6 == k) ≡ false → (13 == k) ≡ false
     → (status_of e == k) ≡ false
 input_status path limit k old new e (inputs.absent stood) four eight six want = four
 input_status path limit k old new e (inputs.folder stood) four eight six want = four
@@ -290,7 +290,7 @@ reading_status : (file : List ℕ) (debug : Option (List ℕ)) (k : ℕ) (old ne
 reading_status file debug k old new e (readings.first row) = input_status file most_file k old new e row
 reading_status file (Some debug) k old new e (readings.second {mid = mid} read calm row) = input_status debug most_file k mid new e row
 
-input_fault : (path : List ℕ) (limit : ℕ) (old new : Seen) (e : End) → InputEnds path limit old new e → status_of e ≡ 6 → Rose old.faults new.faults
+pub input_fault : (path : List ℕ) (limit : ℕ) (old new : Seen) (e : End) → InputEnds path limit old new e → status_of e ≡ 6 → Rose old.faults new.faults
 input_fault path limit old new e (inputs.absent stood) is = absurd (apart 4 6 refl refl is)
 input_fault path limit old new e (inputs.folder stood) is = absurd (apart 4 6 refl refl is)
 input_fault path limit old new e (inputs.link stood) is = absurd (apart 4 6 refl refl is)

@@ -7,14 +7,16 @@ use dbg_words::Command;
 use dw_base::NoMemory;
 use std::alloc::Global;
 
-/// Whether the command is carried out: an edit, a split, or a showing.
+/// Whether the command is carried out: an edit, a split, a run over a build root, a showing, or a joining.
 fn is_built(command: &Command) -> bool
     ensures value { result ≡ is_built command.now }
 {
     match command {
         Command::Edit { .. } => true,
         Command::Split { .. } => true,
+        Command::Run { .. } => true,
         Command::Show { .. } => true,
+        Command::Unstrip { .. } => true,
         _ => false,
     }
 }

@@ -65,7 +65,7 @@ fn edited_bytes<'a>(
 
 /// Sets a path to a file of these pieces, one behind another, and this mode, and then settles the tree.
 #[tactic(auto, using(crate::proofs::Rows::written_rows))]
-fn write_file<T: Tree>(
+pub(crate) fn write_file<T: Tree>(
     alloc: Global,
     path: &str,
     file: &Pieces,

@@ -4,7 +4,8 @@
 //! it is due, with its one line; at status 0 the command is done, and at every other status what was
 //! written is said.
 //! It does not promise: what a real file system or terminal does (`file_tree`).
-//! Read first: `specs/Built.antt`, `specs/Edits.antt`, `specs/Splits.antt`, `specs/Shows.antt`, `specs/Runs.antt`.
+//! Read first: `specs/Built.antt`, `specs/Edits.antt`, `specs/Splits.antt`, `specs/Shows.antt`,
+//! `specs/Unstrips.antt`, `specs/Runs.antt`.
 //!
 //! # Example
 //!
@@ -20,9 +21,11 @@
 pub mod built;
 pub mod edit;
 pub mod run;
+pub mod run_root;
 pub mod show;
 mod sources;
 pub mod split;
+pub mod unstrip;
 mod views;
 
 pub use run::run_words;

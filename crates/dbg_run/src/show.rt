@@ -23,7 +23,7 @@ use std::alloc::Global;
 
 /// The records of the file at the path.
 #[tactic(auto, using(crate::proofs::ShowLaws::elf_laws))]
-fn read_elf<'a>(alloc: Global, path: &str, bytes: &'a [u8]) -> Result<ElfFile<'a>, End>
+pub(crate) fn read_elf<'a>(alloc: Global, path: &str, bytes: &'a [u8]) -> Result<ElfFile<'a>, End>
     requires small { length bytes.now ≤ output_limit }
     ensures reads { OnOk result (ElfReads bytes.now) }
     ensures bytes { IfOk result (λ elf. elf.bytes.now ≡ bytes.now) }
@@ -37,7 +37,7 @@ fn read_elf<'a>(alloc: Global, path: &str, bytes: &'a [u8]) -> Result<ElfFile<'a
 
 /// The records of the debug file at the path.
 #[tactic(auto, using(crate::proofs::ShowLaws::elf_laws))]
-fn read_debug<'a>(alloc: Global, path: &str, bytes: &'a [u8]) -> Result<ElfFile<'a>, End>
+pub(crate) fn read_debug<'a>(alloc: Global, path: &str, bytes: &'a [u8]) -> Result<ElfFile<'a>, End>
     requires small { length bytes.now ≤ output_limit }
     ensures reads { OnOk result (DebugReads bytes.now) }
     ensures bytes { IfOk result (λ elf. elf.bytes.now ≡ bytes.now) }

@@ -1,8 +1,9 @@
 -- Why two files aren't joined, step by step, for the check's search.
-use Rattle.std.proofs.Common.{◌≡◌, ◌≢◌, ℕ, Bool, true, false, List, [], length, refl, sym, ap, ◌∙◌}
+use Rattle.std.proofs.Common.{◌≡◌, ◌≢◌, ◌≤◌, ℕ, Bool, true, false, List, [], length, refl, sym, ap, ◌∙◌, arith, subst}
 use Rattle.dw_base.specs.Elf.{section_count}
-use Rattle.dw_base.specs.Layout.{is_loaded_kind}
+use Rattle.dw_base.specs.Layout.{is_loaded_kind, output_limit}
 use Rattle.dw_base.specs.LayoutFails.{TooLong}
+use Rattle.dw_base.specs.LayoutFails.TooLong.{long}
 use Rattle.dw_base.specs.Refusals.{Blames, at}
 use Rattle.dw_base.specs.SectionNames.{contents_called, debug_link, names_of}
 use Rattle.dw_base.specs.declared.fault.Fault.{Fault}
@@ -15,7 +16,7 @@ use Rattle.dw_view.specs.declared.mismatch.Mismatch.TheVariants.{NoLink, Name, S
 use Rattle.dw_view.specs.declared.mismatch.Mismatch.{Mismatch}
 use Rattle.dbg_unstrip.specs.Joined.{joined}
 use Rattle.dbg_unstrip.specs.Matching.{DontMatch}
-use Rattle.dbg_unstrip.specs.UnstripFails.{CanMatch, PairBlames, UnstripBlames, UnstripFails, UnstripRefuses, of_fault}
+use Rattle.dbg_unstrip.specs.UnstripFails.{AreJoinable, CanMatch, PairBlames, UnstripBlames, UnstripFails, UnstripRefuses, of_fault}
 use Rattle.dbg_unstrip.specs.UnstripFails.UnstripRefuses.{file_type, large}
 use Rattle.dbg_unstrip.specs.declared.unstrip_err.UnstripErr.{UnstripErr}
 use Rattle.dbg_unstrip.specs.declared.unstrip_err.UnstripErr.TheVariants.{NotAPair, Unmatched, Refused, NoMemory}
@@ -71,15 +72,25 @@ mismatch-excludes s d name NoLink p h = let no : true ≡ false = sym p.link.hol
 mismatch-excludes s d name (Name x y) p h = h.differs (h.named_is ∙ sym p.link.name_is ∙ sym h.found_is)
 mismatch-excludes s d name (Sum x y) p h = h.differs (h.link.sum_is ∙ sym p.link.sum_is ∙ sym h.found_is)
 
-refuses-excludes : (s d name : List ℕ) (r : Refusal) → CanMatch s d name → ((q : Refusal) → TooLong (length (joined s d)) q → ⊥) → UnstripRefuses s d name r → ⊥
-refuses-excludes s d name r can short (file_type p other) = let no : true ≡ false = sym can.loaded ∙ other in cc
-refuses-excludes s d name r can short (large may matched passes) = short r passes
+too-long : (n : ℕ) (r : Refusal) → n ≤ output_limit → TooLong n r → ⊥
+too-long n r short (long past) = omega (arith, short, past)
 
-pub unstrip-excludes : (s d name : List ℕ) (e : UnstripErr) → CanMatch s d name → ((place : ℕ) → DontMatch s d place → ⊥)
-    → ((q : Refusal) → TooLong (length (joined s d)) q → ⊥) → UnstripFails s d name e → ⊥
-unstrip-excludes s d name (NotAPair m) can matched short h = mismatch-excludes s d name m can.paired h
-unstrip-excludes s d name (Unmatched place) can matched short h = matched place h.unmatched
-unstrip-excludes s d name (Refused r) can matched short h = refuses-excludes s d name r can short h
-unstrip-excludes s d name NoMemory can matched short h = h
+refuses-excludes : (s d name : List ℕ) (r : Refusal) → AreJoinable s d name → UnstripRefuses s d name r → ⊥
+refuses-excludes s d name r are (file_type p other) = let no : true ≡ false = sym are.pair.can.loaded ∙ other in cc
+refuses-excludes s d name r are (large may matched passes) = too-long (length (joined s d)) r are.short passes
 
-pub ruleset unstrip_rows = (long-blames, unstrip-excludes)
+pub unstrip-excludes : (s d name : List ℕ) (e : UnstripErr) → AreJoinable s d name → UnstripFails s d name e → ⊥
+unstrip-excludes s d name (NotAPair m) are h = mismatch-excludes s d name m are.pair.can.paired h
+unstrip-excludes s d name (Unmatched place) are h = are.pair.matched place h.unmatched
+unstrip-excludes s d name (Refused r) are h = refuses-excludes s d name r are h
+unstrip-excludes s d name NoMemory are h = h
+
+-- the file of two that match is one that was made
+pub are-joinable : (s d name file : List ℕ) → CanMatch s d name → ((place : ℕ) → DontMatch s d place → ⊥) → file ≡ joined s d → length file ≤ output_limit
+    → AreJoinable s d name
+are-joinable s d name file can matched is small = record {
+  pair = record { can = can; matched = matched };
+  short = subst (λ (f : List ℕ). length f ≤ output_limit) is small;
+}
+
+pub ruleset unstrip_rows = (long-blames, are-joinable)

@@ -1,14 +1,12 @@
 -- A file that was split comes back where the two files are joined: its sections, what it means, and what is loaded (gABI ch. 4
 -- "Sections"; GNU debugging information in separate files). Where a section stands isn't promised.
-use Rattle.std.specs.Prelude.{false, ◌≡◌, ℕ, ◌<◌, ◌≤◌, ⊤, List, length, slice_index}
+use Rattle.std.specs.Prelude.{false, ◌≡◌, ℕ, ◌<◌, ◌≤◌, List, length, slice_index}
 use Rattle.dw_base.specs.Elf.{class_of, order_of, contents_of, e_machine, e_type, name_index, nth_section, section_count, section_name}
 use Rattle.dw_base.specs.ElfFails.{ElfReads}
 use Rattle.dw_base.specs.FileViews.{view_of}
 use Rattle.dw_base.specs.Layout.{output_limit}
-use Rattle.dw_base.specs.Refusals.{at}
 use Rattle.dw_base.specs.Texts.{has_nul}
 use Rattle.dw_base.specs.ViewData.{Meaning}
-use Rattle.dw_base.specs.declared.fault.Kind.TheVariants.{TooLarge}
 use Rattle.dw_base.specs.declared.fault.Refusal.{Refusal}
 use Rattle.dw_base.specs.declared.records.Section.{Section}
 use Rattle.dw_meaning.specs.FileMeanings.{Means}
@@ -16,8 +14,6 @@ use Rattle.dw_meaning.specs.Loaded.{LoadedKept}
 use Rattle.dbg_split.specs.DebugFile.{debug_file}
 use Rattle.dbg_split.specs.SplitFails.{SplitFails}
 use Rattle.dbg_split.specs.StrippedFile.{stripped_file}
-use Rattle.dbg_unstrip.specs.declared.unstrip_err.UnstripErr.{UnstripErr}
-use Rattle.dbg_unstrip.specs.declared.unstrip_err.UnstripErr.TheVariants.{NotAPair, Unmatched, Refused, NoMemory}
 
 -- the two files are those into which the bytes `b` are split under a base name without NUL, and nothing refuses that
 pub record WasSplit (b name s d : List ℕ) : Type 0 where
@@ -57,10 +53,3 @@ pub record IsRejoined (b out : List ℕ) : Type 0 where
   pub means : (x : Meaning) → Means b x → Means out x
   pub one : (x y : Meaning) → Means b x → Means out y → y ≡ x
   pub loaded : LoadedKept b out
-
--- there was no room: the file would be too long, or memory is short
-abbrev pub LacksRoom : UnstripErr → Type 0
-LacksRoom (NotAPair m) = ⊥
-LacksRoom (Unmatched place) = ⊥
-LacksRoom (Refused r) = r ≡ at TooLarge 0 0
-LacksRoom NoMemory = ⊤

@@ -1,7 +1,7 @@
 -- What keeps a stripped file and a debug file from being joined: they are no pair, the stripped file is refused, or the two don't match.
 -- The conditions exclude each other, so a pair is answered in one way, want of memory aside. This project's profile.
-use Rattle.std.specs.Prelude.{false, true, ◌≡◌, ℕ, ⊤, List, length}
-use Rattle.dw_base.specs.Layout.{is_loaded_kind}
+use Rattle.std.specs.Prelude.{false, true, ◌≡◌, ◌≤◌, ℕ, ⊤, List, length}
+use Rattle.dw_base.specs.Layout.{is_loaded_kind, output_limit}
 use Rattle.dw_base.specs.LayoutFails.{TooLong}
 use Rattle.dw_base.specs.Refusals.{at}
 use Rattle.dw_base.specs.declared.fault.Fault.{Fault}
@@ -40,6 +40,16 @@ PairBlames s d name NoMemory = ⊤
 pub record CanMatch (s d name : List ℕ) : Type 0 where
   pub paired : IsPaired s d name
   pub loaded : is_loaded_kind s ≡ true
+
+-- and they match
+pub record AreMatched (s d name : List ℕ) : Type 0 where
+  pub can : CanMatch s d name
+  pub matched : (place : ℕ) → DontMatch s d place → ⊥
+
+-- nothing keeps them from being joined: the file isn't too long, either
+pub record AreJoinable (s d name : List ℕ) : Type 0 where
+  pub pair : AreMatched s d name
+  pub short : length (joined s d) ≤ output_limit
 
 -- they don't match, at a place
 pub record MatchFails (s d name : List ℕ) (place : ℕ) : Type 0 where

@@ -5,8 +5,8 @@ ghost use Rattle.dw_base.specs.ElfFails.{SegmentsRead};
 ghost use Rattle.dw_base.specs.Layout.{output_limit};
 ghost use Rattle.dbg_unstrip.specs.Joined.{joined};
 ghost use Rattle.dbg_unstrip.specs.Matching.{Differ, DontMatch};
-ghost use Rattle.dbg_unstrip.specs.Rejoined.{IsRejoined, LacksRoom, WasSplit};
-ghost use Rattle.dbg_unstrip.specs.UnstripFails.{CanMatch, UnstripBlames, UnstripFails};
+ghost use Rattle.dbg_unstrip.specs.Rejoined.{IsRejoined, WasSplit};
+ghost use Rattle.dbg_unstrip.specs.UnstripFails.{AreJoinable, AreMatched, CanMatch, UnstripBlames, UnstripFails};
 ghost use Rattle.dbg_unstrip.specs.declared.unstrip_err.UnstripErr.{UnstripErr};
 
 use crate::joining::joined;
@@ -67,10 +67,9 @@ fn unstrip_bytes<'a>(
     requires debug { debug_bytes.now ≡ debug.now.bytes.now }
     requires segments { SegmentsRead stripped.now.bytes.now }
     ensures file { IfOk result (λ file. file ≡ joined stripped.now.bytes.now debug.now.bytes.now) }
-    ensures small { IfOk result (λ file. length file ≤ output_limit) }
-    ensures stripped_bytes { OnOk result ((k : ℕ) → slice_index stripped_bytes.now k < 256) }
-    ensures debug_bytes { OnOk result ((k : ℕ) → slice_index debug_bytes.now k < 256) }
-    ensures none { OnOk result ((e : UnstripErr) → UnstripFails stripped.now.bytes.now debug.now.bytes.now name.now e → ⊥) }
+    ensures joinable { OnOk result (AreJoinable stripped.now.bytes.now debug.now.bytes.now name.now) }
+    ensures stripped_bytes { (k : ℕ) → slice_index stripped_bytes.now k < 256 }
+    ensures debug_bytes { (k : ℕ) → slice_index debug_bytes.now k < 256 }
     ensures refused { IfErr result (UnstripBlames stripped.now.bytes.now debug.now.bytes.now name.now) }
 {
     can_match(alloc, stripped, debug, name)?;
@@ -87,8 +86,9 @@ fn unstrip_bytes<'a>(
 /// has no sections, where the last section of the stripped file isn't the link, or where one of its sections begins in its file
 /// header; else at the first place at which the kept sections of the debug file and the sections of the stripped file differ; else
 /// `Refused` as `TooLarge` at (0, 0) exactly where the file would pass the limit; or for want of memory. Where the two are those of a
-/// file that was split, they are joined, or there is no room for the file; and it has the sections of that file by number, name,
-/// header and contents, but for their places, means what that means, and has what is loaded of it.
+/// file that was split, whatever is answered, nothing but want of room keeps them from being joined; and the file of both has the
+/// sections of that one by number, name, header and contents, but for their places, means what that means, and has what is loaded of
+/// it.
 pub fn unstrip<'a>(
     alloc: Global,
     stripped: &ElfFile<'a>,
@@ -97,10 +97,11 @@ pub fn unstrip<'a>(
 ) -> Result<Pieces<'a>, UnstripErr>
     requires segments { SegmentsRead stripped.now.bytes.now }
     ensures file { IfOk result (λ file. file ≡ joined stripped.now.bytes.now debug.now.bytes.now) }
+    ensures joinable { OnOk result (AreJoinable stripped.now.bytes.now debug.now.bytes.now name.now) }
     ensures none { OnOk result ((e : UnstripErr) → UnstripFails stripped.now.bytes.now debug.now.bytes.now name.now e → ⊥) }
     ensures refused { IfErr result (UnstripBlames stripped.now.bytes.now debug.now.bytes.now name.now) }
-    ensures back { (b : List ℕ) → WasSplit b name.now stripped.now.bytes.now debug.now.bytes.now → IfOk result (λ file. IsRejoined b file) }
-    ensures room { (b : List ℕ) → WasSplit b name.now stripped.now.bytes.now debug.now.bytes.now → IfErr result LacksRoom }
+    ensures matched { (b : List ℕ) → WasSplit b name.now stripped.now.bytes.now debug.now.bytes.now → AreMatched stripped.now.bytes.now debug.now.bytes.now name.now }
+    ensures back { (b : List ℕ) → WasSplit b name.now stripped.now.bytes.now debug.now.bytes.now → length (joined stripped.now.bytes.now debug.now.bytes.now) ≤ output_limit → IsRejoined b (joined stripped.now.bytes.now debug.now.bytes.now) }
 {
     let file = unstrip_bytes(alloc, stripped.bytes, debug.bytes, stripped, debug, name)?;
     Ok(file)

@@ -10,7 +10,7 @@ use Rattle.dbg_words.specs.CommandLines.{CommandLine, command_line}
 use Rattle.dbg_words.specs.Decimals.{number_within}
 use Rattle.dbg_words.specs.PathWords.{path_named}
 use Rattle.dbg_words.specs.declared.command.Command.{Command}
-use Rattle.dbg_words.specs.declared.command.Command.TheVariants.{Edit, Split, Run, Show, Exercise}
+use Rattle.dbg_words.specs.declared.command.Command.TheVariants.{Edit, Split, Run, Show, Unstrip, Exercise}
 
 -- the bytes of each word
 abbrev pub texts : List (String Global) → List (List ℕ)
@@ -129,6 +129,16 @@ show_named words None = option_and_then show_one (one_of words)
 unfoldable pub show_of : CommandLine → Option Command
 show_of l = if is_bare l then show_named l.paths (two_of l.paths) else None
 
+-- unstrip STRIPPED DEBUG OUTPUT, with no option
+abbrev pub unstrip_paths : List ℕ → List ℕ × List ℕ → Option Command
+unstrip_paths word p = option_map (λ output. Unstrip p.0 p.1 output) (other_path p.0 p.1 word)
+
+abbrev pub unstrip_named : List ℕ × List ℕ × List ℕ → Option Command
+unstrip_named w = option_and_then (unstrip_paths w.2) (two_paths (w.0, w.1))
+
+unfoldable pub unstrip_of : CommandLine → Option Command
+unstrip_of l = if is_bare l then option_and_then unstrip_named (three_of l.paths) else None
+
 -- exercise SEED UNITS, two numbers, with no option
 abbrev pub exercise_seeded : List ℕ → ℕ → Option Command
 exercise_seeded word seed = option_map (λ units. Exercise seed units) (number_within 1 10000 word)
@@ -146,7 +156,8 @@ command_named name l =
     else (if same_text name (codes "split") then split_of l
     else (if same_text name (codes "run") then run_of l
     else (if same_text name (codes "show") then show_of l
-    else (if same_text name (codes "exercise") then exercise_of l else None))))
+    else (if same_text name (codes "unstrip") then unstrip_of l
+    else (if same_text name (codes "exercise") then exercise_of l else None)))))
 
 -- the command that words are, where they are one: the first names it, and none holds a NUL
 unfoldable pub command : List (List ℕ) → Option Command

@@ -5,7 +5,7 @@ ghost use Rattle.dw_base.specs.Texts.{has_nul};
 ghost use Rattle.dbg_words.specs.Words.{command, command_named, texts};
 
 use crate::line::{Line, read_line};
-use crate::named::{edit_of, exercise_of, run_of, show_of, split_of};
+use crate::named::{edit_of, exercise_of, run_of, show_of, split_of, unstrip_of};
 use dw_base::NoMemory;
 use file_tree::Text;
 use job_types::Options;
@@ -39,6 +39,12 @@ pub enum Command {
     Show {
         file: Text,
         debug: Option<Text>,
+    },
+    /// The file at `stripped` and the debug file that it names, at `debug`, are joined to one, which is put at `output`.
+    Unstrip {
+        stripped: Text,
+        debug: Text,
+        output: Text,
     },
     /// A file is made of a seed, with so many units, rewritten, and counted.
     Exercise {
@@ -82,6 +88,9 @@ fn command_named(alloc: Global, name: &str, line: &Line<'_>) -> Result<Option<Co
     }
     if name == "show" {
         return show_of(alloc, line);
+    }
+    if name == "unstrip" {
+        return unstrip_of(alloc, line);
     }
     if name == "exercise" {
         return Ok(exercise_of(line));

@@ -1,6 +1,6 @@
 //! Each command, of the command line behind its name.
 ghost use Rattle.std.specs.Prelude.{◌≡◌, IfOk, option_map, map};
-ghost use Rattle.dbg_words.specs.Words.{edit_listed, edit_named, edit_of, edit_paths, exercise_named, exercise_of, is_bare, list_path, run_below, run_named, run_of, show_named, show_of, show_one, show_two, split_named, split_of, split_paths, two_of};
+ghost use Rattle.dbg_words.specs.Words.{edit_listed, edit_named, edit_of, edit_paths, exercise_named, exercise_of, is_bare, list_path, run_below, run_named, run_of, show_named, show_of, show_one, show_two, split_named, split_of, split_paths, two_of, unstrip_named, unstrip_of, unstrip_paths};
 
 use crate::command::Command;
 use crate::decimals::number_within;
@@ -228,6 +228,49 @@ pub fn show_of(alloc: Global, line: &Line<'_>) -> Result<Option<Command>, NoMemo
         return Ok(None);
     }
     show_named(alloc, &line.paths)
+}
+
+/// Two paths joined, and a third for the file of both.
+fn unstrip_paths(
+    alloc: Global,
+    word: &str,
+    paths: (Text, Text),
+) -> Result<Option<Command>, NoMemory>
+    ensures value { IfOk result (λ c. c ≡ unstrip_paths word.now paths) }
+{
+    let Some(output) = other_path(alloc, &paths.0, &paths.1, word)? else {
+        return Ok(None);
+    };
+    let (stripped, debug) = paths;
+    Ok(Some(Command::Unstrip {
+        stripped,
+        debug,
+        output,
+    }))
+}
+
+/// A joining of three words.
+fn unstrip_named(alloc: Global, words: (&str, &str, &str)) -> Result<Option<Command>, NoMemory>
+    ensures value { IfOk result (λ c. c ≡ unstrip_named (words.entry.0.now, words.entry.1.now, words.entry.2.now)) }
+{
+    match two_paths(alloc, words.0, words.1)? {
+        None => Ok(None),
+        Some(paths) => unstrip_paths(alloc, words.2, paths),
+    }
+}
+
+/// `unstrip STRIPPED DEBUG OUTPUT`.
+#[tactic(auto, unfolding(crate::specs::Words::unstrip_of))]
+pub fn unstrip_of(alloc: Global, line: &Line<'_>) -> Result<Option<Command>, NoMemory>
+    ensures value { IfOk result (λ c. c ≡ unstrip_of line.now) }
+{
+    if !is_bare(line) {
+        return Ok(None);
+    }
+    match three_of(&line.paths) {
+        None => Ok(None),
+        Some(words) => unstrip_named(alloc, words),
+    }
 }
 
 /// An exercise of two words.

@@ -1,4 +1,4 @@
--- The edit, the split and the showing of the words, and that no other command is carried out.
+-- The edit, the split, the showing, the joining and the run of the words, and that no other command is carried out.
 use Rattle.std.proofs.Common.{◌≡◌, ℕ, List, false, Some, sym, ap, ◌∙◌, subst}
 use Rattle.dw_base.specs.Texts.{has_nul}
 use Rattle.dbg_words.specs.declared.command.Command.{Command}
@@ -6,12 +6,23 @@ use Rattle.dbg_words.specs.Words.{texts}
 use Rattle.dbg_run.specs.Shows.{base_name}
 use Rattle.dbg_run.proofs.BareLaws.{debug-name-bare}
 use Rattle.dbg_run.proofs.BuiltLaws.{built_these}
-use Rattle.dbg_run.proofs.RunLaws.{edit_ends, show_ends, split_ends}
+use Rattle.dbg_run.proofs.RootWordLaws.{run-words-fit}
+use Rattle.dbg_run.proofs.RunLaws.{edit_ends, run_due, run_ends, show_ends, split_ends, unstrip_ends}
+use Rattle.dbg_run.proofs.StartLaws.{edit_starts, run_starts, show_starts, split_starts, unstrip_starts}
 use Rattle.dbg_run.proofs.run.run_command.Goals as goal
 
-pub returns : goal.returns
-returns g c =
-    absurd (built_these (texts c.args.words.now) c.in-Some.command (sym c.in-Some.is ∙ c.in-Ok.ensures.command) c.in_default-command.not-Edit c.in_default-command.not-Split c.in_default-command.not-Show)
+pub returns-in_default-command-clause-ends : goal.returns-in_default-command-clause-ends
+returns-in_default-command-clause-ends g c =
+    absurd (built_these (texts c.args.words.now) c.in-Some.command (sym c.in-Some.is ∙ c.in-Ok.ensures.command) c.in_default-command.not-Edit c.in_default-command.not-Split c.in_default-command.not-Show c.in_default-command.not-Unstrip c.in_default-command.not-Run)
+
+pub returns-in_default-command-clause-usage : goal.returns-in_default-command-clause-usage
+returns-in_default-command-clause-usage g c =
+    absurd (built_these (texts c.args.words.now) c.in-Some.command (sym c.in-Some.is ∙ c.in-Ok.ensures.command) c.in_default-command.not-Edit c.in_default-command.not-Split c.in_default-command.not-Show c.in_default-command.not-Unstrip c.in_default-command.not-Run)
+
+pub returns-in-Run-clause-due : goal.returns-in-Run-clause-due
+returns-in-Run-clause-due g c =
+    run_due _ (g.T.Tree.seen c.args.tree.now) _ c.in-Run.root c.in-Run.options c.in-Run.jobs (sym c.in-Ok.ensures.command ∙ c.in-Some.is ∙ ap (λ (k : Command). Some k) c.in-Run.is)
+    c.run_over.ensures.due
 
 pub returns-in-Edit-clause-ends : goal.returns-in-Edit-clause-ends
 returns-in-Edit-clause-ends g c =
@@ -36,3 +47,41 @@ pub returns-in-Show-clause-ends : goal.returns-in-Show-clause-ends
 returns-in-Show-clause-ends g c =
     show_ends (texts c.args.words.now) _ _ _ _ _ c.in-Show.file _ c.in-Show.debug
     (sym c.in-Ok.ensures.command ∙ c.in-Some.is ∙ ap (λ (k : Command). Some k) c.in-Show.is) c.as_str-in-Show.ensures.value c.show.ensures.ends
+
+pub returns-in-Unstrip-clause-ends : goal.returns-in-Unstrip-clause-ends
+returns-in-Unstrip-clause-ends g c =
+    unstrip_ends (texts c.args.words.now) _ _ _ _ c.in-Unstrip.stripped c.in-Unstrip.debug c.in-Unstrip.output _ _ _
+    (sym c.in-Ok.ensures.command ∙ c.in-Some.is ∙ ap (λ (k : Command). Some k) c.in-Unstrip.is) c.as_str-in-Unstrip.ensures.value c.as_str-in-Unstrip-2.ensures.value
+    c.as_str-in-Unstrip-3.ensures.value c.unstrip.ensures.ends
+
+pub run_over-requires : goal.run_over-requires
+run_over-requires g c =
+    let fit = run-words-fit (texts c.args.words.now) c.in-Run.root c.in-Run.options c.in-Run.jobs
+    (sym c.in-Ok.ensures.command ∙ c.in-Some.is ∙ ap (λ (k : Command). Some k) c.in-Run.is) in
+    record { some = fit.0; most = fit.1; plain = fit.2 }
+
+pub returns-in-Run-clause-ends : goal.returns-in-Run-clause-ends
+returns-in-Run-clause-ends g c =
+    run_ends (texts c.args.words.now) _ _ _ _ _ c.in-Run.root c.in-Run.options c.in-Run.jobs
+    (sym c.in-Ok.ensures.command ∙ c.in-Some.is ∙ ap (λ (k : Command). Some k) c.in-Run.is) c.run_over.ensures.ends
+
+pub returns-in-Run-clause-starts : goal.returns-in-Run-clause-starts
+returns-in-Run-clause-starts g c =
+    run_starts _ _ _ _ _ _ c.in-Run.root c.in-Run.options c.in-Run.jobs
+    (sym c.in-Ok.ensures.command ∙ c.in-Some.is ∙ ap (λ (k : Command). Some k) c.in-Run.is) c.run_over.ensures.starts
+
+pub returns-in-Edit-clause-starts : goal.returns-in-Edit-clause-starts
+returns-in-Edit-clause-starts g c =
+    edit_starts _ _ _ _ _ _ c.in-Edit.input c.in-Edit.output c.in-Edit.options c.in-Edit.list (sym c.in-Ok.ensures.command ∙ c.in-Some.is ∙ ap (λ (k : Command). Some k) c.in-Edit.is)
+
+pub returns-in-Split-clause-starts : goal.returns-in-Split-clause-starts
+returns-in-Split-clause-starts g c =
+    split_starts _ _ _ _ _ _ c.in-Split.input c.in-Split.stripped c.in-Split.debug (sym c.in-Ok.ensures.command ∙ c.in-Some.is ∙ ap (λ (k : Command). Some k) c.in-Split.is)
+
+pub returns-in-Show-clause-starts : goal.returns-in-Show-clause-starts
+returns-in-Show-clause-starts g c = show_starts _ _ _ _ _ _ c.in-Show.file c.in-Show.debug (sym c.in-Ok.ensures.command ∙ c.in-Some.is ∙ ap (λ (k : Command). Some k) c.in-Show.is)
+
+pub returns-in-Unstrip-clause-starts : goal.returns-in-Unstrip-clause-starts
+returns-in-Unstrip-clause-starts g c =
+    unstrip_starts _ _ _ _ _ _ c.in-Unstrip.stripped c.in-Unstrip.debug c.in-Unstrip.output
+    (sym c.in-Ok.ensures.command ∙ c.in-Some.is ∙ ap (λ (k : Command). Some k) c.in-Unstrip.is)

@@ -1,0 +1,238 @@
+-- What the words of a run say: 1 to 64 of its jobs are in work at a time, and its seed has no NUL, as no word has one.
+use Rattle.std.proofs.Common.{◌≡◌, ℕ, ◌≤◌, ◌<◌, ◌+◌, Bool, true, false, ◌&&◌, ◌||◌, ◌==◌, List, [], ◌∷◌, map, Option, Some, None, refl, subst, lit≤}
+use Rattle.std.specs.Prelude.{if◌then◌else◌, codes, is_some, nat_le, option_and_then, unwrap_or, ⊤}
+use Rattle.std.specs.List.{AllByRecursion, list_any, position_or_len}
+use Rattle.std.specs.Str.Parse.{digits_value}
+use Rattle.std.proofs.lemmas.Bool.{leb-true}
+use Rattle.dw_base.specs.Paths.{PathMap}
+use Rattle.dw_base.specs.Texts.{has_nul, is_in, same_text}
+use Rattle.dw_base.proofs.TextLaws.{has_nul-drop}
+use Rattle.job_types.specs.Settings.{Settings, most_file}
+use Rattle.dbg_words.specs.CommandLines.{CommandLine, Look, Part, are_fit, attached, begins_with_dash, command_line, dash, equals_sign, flags, line_if_fit, line_of_parts, look_behind_one, look_behind_two, look_of, option_parts, parts_of, valued_options, value_of, with_part, word_parts}
+use Rattle.dbg_words.specs.CommandLines.Look.{plain, ending, optional, short}
+use Rattle.dbg_words.specs.CommandLines.Part.{path, value, flag}
+use Rattle.dbg_words.specs.Decimals.{is_decimal, number_within}
+use Rattle.dbg_words.specs.PathWords.{path_named}
+use Rattle.dbg_words.specs.Words.{command, command_named, edit_listed, edit_named, edit_of, edit_paths, exercise_named, exercise_of, exercise_seeded, is_bare, list_path, maps_named, number_or, one_of, other_path, run_below, run_named, run_of, run_settled, settings_limited, settings_mapped, settings_of, show_named, show_of, show_one, split_named, split_of, split_paths, three_of, two_of, two_paths, unstrip_named, unstrip_of, unstrip_paths}
+use Rattle.dbg_words.specs.declared.command.Command.{Command}
+use Rattle.dbg_words.specs.declared.command.Command.TheVariants.{Edit, Split, Run, Show, Unstrip, Exercise}
+use Rattle.dbg_run.specs.Built.{built, if_built, is_built}
+use Rattle.dbg_run.proofs.BareLaws.{AreBare, IsBare, words-bare}
+use Rattle.dbg_run.proofs.BuiltLaws.{All, all_if, all_map, all_then, any}
+
+-- ### Numbers within limits
+
+abbrev IsIn : ℕ → ℕ → ℕ → Type 0
+IsIn least most n = (least ≤ n) × (n ≤ most)
+
+within : (least most : ℕ) (word : List ℕ) → All (IsIn least most) (number_within least most word)
+unfolding number_within
+within least most word = by_tests (is_decimal word) (nat_le least (digits_value 10 word)) (nat_le (digits_value 10 word) most) refl refl
+  where
+    by_tests : (d a b : Bool) → nat_le least (digits_value 10 word) ≡ a → nat_le (digits_value 10 word) most ≡ b
+        → All (IsIn least most) (if d && (a && b) then Some (digits_value 10 word) else None)
+    by_tests true true true x y = (leb-true least (digits_value 10 word) x, leb-true (digits_value 10 word) most y)
+    by_tests true true false x y = tt
+    by_tests true false b x y = tt
+    by_tests false a b x y = tt
+
+jobs-in : (word : Option (List ℕ)) → All (IsIn 1 64) (number_or 1 64 1 word)
+jobs-in None = (lit≤ tt, lit≤ tt)
+jobs-in (Some word) = within 1 64 word
+
+-- ### The values of options
+
+abbrev ValueBare : Part → Type 0
+ValueBare (path word) = ⊤
+ValueBare (value name text) = IsBare text
+ValueBare (flag name) = ⊤
+
+abbrev ValuesBare : List Part → Type 0
+ValuesBare ps = AllByRecursion ValueBare ps
+
+abbrev LookBare : Look → Type 0
+LookBare plain = ⊤
+LookBare ending = ⊤
+LookBare (optional name text) = All IsBare text
+LookBare short = ⊤
+
+attached-bare : (text : List ℕ) → IsBare text → All IsBare (attached text)
+attached-bare text b =
+    all_if IsBare (list_any (λ c. c == equals_sign) text) _ None (has_nul-drop (position_or_len (λ c. c == equals_sign) text + 1) text b) tt
+
+rest-bare : (x : ℕ) (xs : List ℕ) → IsBare (x ∷ xs) → IsBare xs
+rest-bare x xs b = by_first (x == 0) b
+  where
+    by_first : (t : Bool) → (t || has_nul xs) ≡ false → has_nul xs ≡ false
+    by_first true e = cc
+    by_first false e = e
+
+look_if : (t : Bool) (one other : Look) → LookBare one → LookBare other → LookBare (if t then one else other)
+look_if true one other a b = a
+look_if false one other a b = b
+
+two-bare : (text : List ℕ) → IsBare text → LookBare (look_behind_two text)
+two-bare [] b = tt
+two-bare (x ∷ xs) b = attached-bare (x ∷ xs) b
+
+one-bare : (text : List ℕ) → IsBare text → LookBare (look_behind_one text)
+one-bare [] b = tt
+one-bare (x ∷ xs) b = look_if (x == dash) (look_behind_two xs) short (two-bare xs (rest-bare x xs b)) tt
+
+look-bare : (word : List ℕ) → IsBare word → LookBare (look_of word)
+look-bare [] b = tt
+look-bare (x ∷ xs) b = look_if (x == dash) (look_behind_one xs) plain (one-bare xs (rest-bare x xs b)) tt
+
+with-any : (p : Part) (o : Option (List Part)) → ValueBare p → All ValuesBare o → All ValuesBare (with_part p o)
+with-any p None b a = tt
+with-any p (Some ps) b a = (b, a)
+
+all-plain : (ws : List (List ℕ)) → ValuesBare (map path ws)
+all-plain [] = tt
+all-plain (w ∷ ws) = (tt, all-plain ws)
+
+option-bare : (name : List ℕ) (text : Option (List ℕ)) (rest : Option (List ℕ) → Option (List Part)) → All IsBare text
+    → ((n : Option (List ℕ)) → All ValuesBare (rest n)) → All ValuesBare (option_parts name text rest)
+option-bare name (Some text) rest b r =
+    all_if ValuesBare (is_in valued_options name) (with_part (value name text) (rest None)) None (with-any (value name text) (rest None) b (r None)) tt
+option-bare name None rest b r =
+    all_if ValuesBare (is_in valued_options name) (rest (Some name)) (if is_in flags name then with_part (flag name) (rest None) else None) (r (Some name))
+    (all_if ValuesBare (is_in flags name) (with_part (flag name) (rest None)) None (with-any (flag name) (rest None) tt (r None)) tt)
+
+word-bare : (l : Look) (w : List ℕ) (ws : List (List ℕ)) (rest : Option (List ℕ) → Option (List Part)) → LookBare l
+    → ((n : Option (List ℕ)) → All ValuesBare (rest n)) → All ValuesBare (word_parts l w ws rest)
+word-bare plain w ws rest b r = with-any (path w) (rest None) tt (r None)
+word-bare ending w ws rest b r = all-plain ws
+word-bare (optional name text) w ws rest b r = option-bare name text rest b r
+word-bare short w ws rest b r = tt
+
+values-bare : (ws : List (List ℕ)) (name : Option (List ℕ)) → AreBare ws → All ValuesBare (parts_of ws name)
+unfolding parts_of
+values-bare [] None bs = tt
+values-bare [] (Some name) bs = tt
+values-bare (w ∷ ws) None bs = word-bare (look_of w) w ws (parts_of ws) (look-bare w bs.0) (λ n. values-bare ws n bs.1)
+values-bare (w ∷ ws) (Some name) bs =
+    all_if ValuesBare (begins_with_dash w) None (with_part (value name w) (parts_of ws None)) tt
+    (with-any (value name w) (parts_of ws None) bs.0 (values-bare ws None bs.1))
+
+value-bare : (name : List ℕ) (ps : List Part) → ValuesBare ps → All IsBare (value_of name ps)
+value-bare name [] bs = tt
+value-bare name (path word ∷ ps) bs = value-bare name ps bs.1
+value-bare name (value n text ∷ ps) bs = all_if IsBare (same_text n name) (Some text) (value_of name ps) bs.0 (value-bare name ps bs.1)
+value-bare name (flag n ∷ ps) bs = value-bare name ps bs.1
+
+abbrev SeedBare : CommandLine → Type 0
+SeedBare l = All IsBare l.seed
+
+line-seed : (ws : List (List ℕ)) → AreBare ws → All SeedBare (command_line ws)
+unfolding command_line
+line-seed ws bs =
+    all_then ValuesBare SeedBare line_if_fit (parts_of ws None) (values-bare ws None bs)
+    (λ ps b. all_if SeedBare (are_fit ps) (Some (line_of_parts ps)) None (value-bare (codes "seed") ps b) tt)
+
+-- ### A run
+
+abbrev IsRunFit : Command → Type 0
+IsRunFit (Run root o jobs) = (0 < jobs) × (jobs ≤ 64) × (has_nul o.seed ≡ false)
+IsRunFit c = ⊤
+
+abbrev HasSeed : Settings → Type 0
+HasSeed o = has_nul o.seed ≡ false
+
+unwrap-seed : (o : Option (List ℕ)) → All IsBare o → IsBare (unwrap_or o [])
+unwrap-seed None a = refl
+unwrap-seed (Some x) a = a
+
+settings-seed : (l : CommandLine) → SeedBare l → All HasSeed (settings_of l)
+settings-seed l b =
+    all_then (λ (maps : PathMap). ⊤) HasSeed (settings_mapped l) (maps_named l.base_dir l.dest_dir) (any (maps_named l.base_dir l.dest_dir))
+    (λ maps _. all_map (λ (most : ℕ). ⊤) HasSeed (settings_limited l maps) (number_or 1 most_file most_file l.max_file) (any (number_or 1 most_file most_file l.max_file))
+    (λ most _. unwrap-seed l.seed b))
+
+run-fit : (l : CommandLine) → SeedBare l → All IsRunFit (run_of l)
+unfolding run_of
+run-fit l b =
+    all_if IsRunFit (is_some l.list_file) None (option_and_then (run_named l) (one_of l.paths)) tt
+    (all_then (λ (a : List ℕ). ⊤) IsRunFit (run_named l) (one_of l.paths) (any (one_of l.paths)) (λ w _.
+    all_then (λ (a : List ℕ). ⊤) IsRunFit (run_below l) (path_named w) (any (path_named w)) (λ root _.
+    all_then HasSeed IsRunFit (run_settled l root) (settings_of l) (settings-seed l b) (λ o seed.
+    all_map (IsIn 1 64) IsRunFit (λ jobs. Run root o jobs) (number_or 1 64 1 l.jobs) (jobs-in l.jobs) (λ jobs is. (is.0, is.1, seed))))))
+
+listed-none : (l : CommandLine) (p : List ℕ × List ℕ) (list : Option (List ℕ)) → All IsRunFit (edit_listed l p list)
+listed-none l p None = all_map (λ a. ⊤) IsRunFit (λ o. Edit p.0 p.1 o None) (settings_of l) (any (settings_of l)) (λ o _. tt)
+listed-none l p (Some list) = all_map (λ a. ⊤) IsRunFit (λ o. Edit p.0 p.1 o (Some list)) (settings_of l) (any (settings_of l)) (λ o _. tt)
+
+edit-none : (l : CommandLine) → All IsRunFit (edit_of l)
+unfolding edit_of
+edit-none l =
+    all_if IsRunFit (is_some l.jobs || l.skip_refused) None (option_and_then (edit_named l) (two_of l.paths)) tt
+    (all_then (λ a. ⊤) IsRunFit (edit_named l) (two_of l.paths) (any (two_of l.paths)) (λ w _.
+    all_then (λ a. ⊤) IsRunFit (edit_paths l) (two_paths w) (any (two_paths w)) (λ p _.
+    all_then (λ a. ⊤) IsRunFit (edit_listed l p) (list_path p l.list_file) (any (list_path p l.list_file)) (λ list _. listed-none l p list))))
+
+split-none : (l : CommandLine) → All IsRunFit (split_of l)
+unfolding split_of
+split-none l =
+    all_if IsRunFit (is_bare l) (option_and_then split_named (three_of l.paths)) None
+    (all_then (λ a. ⊤) IsRunFit split_named (three_of l.paths) (any (three_of l.paths)) (λ w _.
+    all_then (λ a. ⊤) IsRunFit (split_paths w.2) (two_paths (w.0, w.1)) (any (two_paths (w.0, w.1))) (λ p _.
+    all_map (λ a. ⊤) IsRunFit (λ debug. Split p.0 p.1 debug) (other_path p.0 p.1 w.2) (any (other_path p.0 p.1 w.2)) (λ debug _. tt)))) tt
+
+unstrip-none : (l : CommandLine) → All IsRunFit (unstrip_of l)
+unfolding unstrip_of
+unstrip-none l =
+    all_if IsRunFit (is_bare l) (option_and_then unstrip_named (three_of l.paths)) None
+    (all_then (λ a. ⊤) IsRunFit unstrip_named (three_of l.paths) (any (three_of l.paths)) (λ w _.
+    all_then (λ a. ⊤) IsRunFit (unstrip_paths w.2) (two_paths (w.0, w.1)) (any (two_paths (w.0, w.1))) (λ p _.
+    all_map (λ a. ⊤) IsRunFit (λ output. Unstrip p.0 p.1 output) (other_path p.0 p.1 w.2) (any (other_path p.0 p.1 w.2)) (λ output _. tt)))) tt
+
+show-none : (l : CommandLine) → All IsRunFit (show_of l)
+unfolding show_of
+show-none l = all_if IsRunFit (is_bare l) (show_named l.paths (two_of l.paths)) None (by_paths (two_of l.paths)) tt
+  where
+    by_paths : (w : Option (List ℕ × List ℕ)) → All IsRunFit (show_named l.paths w)
+    by_paths (Some w) = all_map (λ a. ⊤) IsRunFit (λ p. Show p.0 (Some p.1)) (two_paths w) (any (two_paths w)) (λ p _. tt)
+    by_paths None = all_then (λ a. ⊤) IsRunFit show_one (one_of l.paths) (any (one_of l.paths)) (λ w _.
+        all_map (λ a. ⊤) IsRunFit (λ file. Show file None) (path_named w) (any (path_named w)) (λ file _. tt))
+
+exercise-none : (l : CommandLine) → All IsRunFit (exercise_of l)
+unfolding exercise_of
+exercise-none l =
+    all_if IsRunFit (is_bare l) (option_and_then exercise_named (two_of l.paths)) None
+    (all_then (λ a. ⊤) IsRunFit exercise_named (two_of l.paths) (any (two_of l.paths)) (λ w _.
+    all_then (λ a. ⊤) IsRunFit (exercise_seeded w.1) (number_within 0 18446744073709551615 w.0) (any (number_within 0 18446744073709551615 w.0)) (λ seed _.
+    all_map (λ a. ⊤) IsRunFit (λ units. Exercise seed units) (number_within 1 10000 w.1) (any (number_within 1 10000 w.1)) (λ units _. tt)))) tt
+
+named-fit : (name : List ℕ) (l : CommandLine) → SeedBare l → All IsRunFit (command_named name l)
+unfolding command_named
+named-fit name l b =
+    all_if IsRunFit (same_text name (codes "edit")) (edit_of l) _ (edit-none l)
+    (all_if IsRunFit (same_text name (codes "split")) (split_of l) _ (split-none l)
+    (all_if IsRunFit (same_text name (codes "run")) (run_of l) _ (run-fit l b)
+    (all_if IsRunFit (same_text name (codes "show")) (show_of l) _ (show-none l)
+    (all_if IsRunFit (same_text name (codes "unstrip")) (unstrip_of l) _ (unstrip-none l)
+    (all_if IsRunFit (same_text name (codes "exercise")) (exercise_of l) None (exercise-none l) tt)))))
+
+command-fit : (words : List (List ℕ)) → All IsRunFit (command words)
+unfolding command
+command-fit [] = tt
+command-fit (name ∷ rest) = by_nul (list_any has_nul (name ∷ rest)) refl
+  where
+    behind : (n r : Bool) → (n || r) ≡ false → r ≡ false
+    behind false r e = e
+    behind true r e = cc
+
+    by_nul : (t : Bool) → list_any has_nul (name ∷ rest) ≡ t → All IsRunFit (if t then None else option_and_then (command_named name) (command_line rest))
+    by_nul true e = tt
+    by_nul false e =
+        all_then SeedBare IsRunFit (command_named name) (command_line rest) (line-seed rest (words-bare rest (behind (has_nul name) (list_any has_nul rest) e)))
+        (λ l b. named-fit name l b)
+
+built-fit : (words : List (List ℕ)) → All IsRunFit (built words)
+unfolding built
+built-fit words =
+    all_then IsRunFit IsRunFit if_built (command words) (command-fit words) (λ c fit. all_if IsRunFit (is_built c) (Some c) None fit tt)
+
+pub run-words-fit : (words : List (List ℕ)) (root : List ℕ) (o : Settings) (jobs : ℕ) → built words ≡ Some (Run root o jobs)
+    → (0 < jobs) × (jobs ≤ 64) × (has_nul o.seed ≡ false)
+run-words-fit words root o jobs is = subst (All IsRunFit) is (built-fit words)
