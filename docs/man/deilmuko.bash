@@ -2,7 +2,7 @@
 _deilmuko() {
     local word=${COMP_WORDS[COMP_CWORD]} before=${COMP_WORDS[COMP_CWORD-1]} options=
     if [ "$COMP_CWORD" -eq 1 ]; then
-        mapfile -t COMPREPLY < <(compgen -W 'edit split show' -- "$word")
+        mapfile -t COMPREPLY < <(compgen -W 'edit split show unstrip run' -- "$word")
         return
     fi
     case $before in
@@ -11,9 +11,11 @@ _deilmuko() {
     --seed) return ;;
     --list-file) mapfile -t COMPREPLY < <(compgen -f -- "$word"); return ;;
     --max-file) return ;;
+    --jobs) return ;;
     esac
     case ${COMP_WORDS[1]} in
     edit) options='--base-dir --dest-dir --build-id --seed --list-file --max-file' ;;
+    run) options='--base-dir --dest-dir --build-id --seed --jobs --skip-refused --max-file' ;;
     esac
     case $word in
     -*) mapfile -t COMPREPLY < <(compgen -W "$options" -- "$word") ;;
