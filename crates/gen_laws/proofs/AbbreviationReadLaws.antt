@@ -1,5 +1,5 @@
 -- The abbreviations of a generated file are a table.
-use Rattle.std.proofs.Common.{Bool, true, false, ◌≡◌, ℕ, List, [], ◌∷◌, refl}
+use Rattle.std.proofs.Common.{true, false, ◌≡◌, List, [], ◌∷◌, refl}
 use Rattle.std.specs.Prelude.{pos}
 use Rattle.std.proofs.lemmas.Bool.{eqb-false, ltb-true}
 use Rattle.dw_base.specs.AbbreviationBytes.{abbreviations_at}

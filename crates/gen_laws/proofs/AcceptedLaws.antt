@@ -1,10 +1,9 @@
 -- A generated file is taken by an edit with any prefix map.
-use Rattle.std.proofs.Common.{◌≡◌, ℕ, ◌≤◌, List, length, sym, arith, subst}
-use Rattle.dw_base.specs.DebugData.{DebugData, around_of}
+use Rattle.std.proofs.Common.{ℕ, ◌≤◌, List, length, sym, arith, subst}
+use Rattle.dw_base.specs.DebugData.{DebugData}
 use Rattle.dw_base.specs.Paths.{IsPathMap, PathMap}
-use Rattle.dw_meaning.specs.DataOutput.{DataFits, changes_of}
+use Rattle.dw_meaning.specs.DataOutput.{DataFits}
 use Rattle.dw_meaning.specs.EditRows.{IsAccepted}
-use Rattle.dw_meaning.specs.FileMeanings.{file_data}
 use Rattle.dw_meaning.specs.NewAddends.{AddendsFit}
 use Rattle.dw_meaning.proofs.PlainFileLaws.{file-addends}
 use Rattle.dbg_gen.specs.Asked.{AreFew}
@@ -12,9 +11,9 @@ use Rattle.dbg_gen.specs.GeneratedFiles.{file_of_counts, generated}
 use Rattle.dbg_gen.specs.VariableCounts.{variable_counts}
 use Rattle.gen_laws.proofs.AroundLaws.{counted_around, counted_data}
 use Rattle.gen_laws.proofs.BodyLaws.{counted_changes}
-use Rattle.gen_laws.proofs.DataReadLaws.{counted_readings, data-reads}
+use Rattle.gen_laws.proofs.DataReadLaws.{counted_readings}
 use Rattle.gen_laws.proofs.FileLoadedLaws.{none-loaded, none-relocations}
-use Rattle.gen_laws.proofs.FileTakenLaws.{IsCounted, counted-file, file-reads, info_of, str_of}
+use Rattle.gen_laws.proofs.FileTakenLaws.{IsCounted, counted-file, file-reads}
 use Rattle.gen_laws.proofs.LayoutFitLaws.{layout-fits}
 use Rattle.gen_laws.proofs.LineWriteLaws.{tables-writable}
 use Rattle.gen_laws.proofs.ReadingLaws.{units-inline}

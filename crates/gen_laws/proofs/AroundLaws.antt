@@ -1,7 +1,5 @@
 -- What stands around the units of a generated file: their texts, and a line table at each place that they name.
-use Rattle.std.proofs.Common.{◌≡◌, ℕ, ◌+◌, ◌*◌, ◌^◌, ◌<◌, ◌≤◌, true, List, [], ◌∷◌, ◌++◌, length, slice_index, Some, refl, sym, ap, ◌∙◌, arith, subst}
-use Rattle.std.specs.Prelude.{IsTrue}
-use Rattle.std.proofs.lemmas.List.{length-append}
+use Rattle.std.proofs.Common.{◌≡◌, ℕ, ◌^◌, ◌<◌, ◌≤◌, true, List, length, refl, sym, arith, subst}
 use Rattle.dw_base.specs.Cells.{bytes_of, plain_cells}
 use Rattle.dw_base.specs.DebugData.{Around, DebugData, around_of, line_table, start_number}
 use Rattle.dw_base.specs.LineMeanings.{is_there}
@@ -11,7 +9,7 @@ use Rattle.dw_base.specs.Texts.{laid_texts}
 use Rattle.dw_base.specs.declared.shared.Order.TheVariants.{Little}
 use Rattle.dbg_gen.specs.Asked.{AreFew}
 use Rattle.dbg_gen.specs.GeneratedLines.{lines_of}
-use Rattle.dbg_gen.specs.GeneratedTexts.{chained, texts_of}
+use Rattle.dbg_gen.specs.GeneratedTexts.{texts_of}
 use Rattle.dbg_gen.specs.GeneratedUnits.{units_of}
 use Rattle.dbg_gen.proofs.SizeLaws.{length-lines_of, length-texts_of}
 use Rattle.dbg_gen.proofs.TextThereLaws.{texts-there}

@@ -1,8 +1,8 @@
 -- The sections of the output of a generated file, and how long they are at most.
-use Rattle.std.proofs.Common.{◌≡◌, ℕ, zero, suc, ◌+◌, ◌*◌, ◌^◌, ◌<◌, ◌≤◌, ◌==◌, Bool, true, false, if◌then◌else◌, List, [], ◌∷◌, ◌++◌, length, refl, sym, ap, ◌∙◌, arith, subst}
+use Rattle.std.proofs.Common.{◌≡◌, ℕ, ◌+◌, ◌*◌, ◌≤◌, List, [], ◌∷◌, ◌++◌, length, refl, ap, ◌∙◌, arith}
 use Rattle.std.proofs.lemmas.List.{append-nil, length-append}
-use Rattle.dw_base.specs.Cells.{Cell, bytes_of, plain_cells}
-use Rattle.dw_base.specs.DebugData.{Around, DataReadings, DebugData, source_around, table_of}
+use Rattle.dw_base.specs.Cells.{bytes_of, plain_cells}
+use Rattle.dw_base.specs.DebugData.{Around, DebugData, source_around, table_of}
 use Rattle.dw_base.specs.Elf.{contents_of}
 use Rattle.dw_base.specs.Forms.{in_line_str, in_str}
 use Rattle.dw_base.specs.LineReadings.{all_lines}
@@ -12,22 +12,19 @@ use Rattle.dw_base.specs.Roles.{role_of}
 use Rattle.dw_base.specs.SectionTexts.{file_mentions}
 use Rattle.dw_base.specs.StringTables.{Mention, appending, new_table, new_texts}
 use Rattle.dw_base.specs.TextChanges.{TableChange, TableChanges, edited_all, edited_by, mentions_of}
-use Rattle.dw_base.specs.Texts.{laid_texts}
 use Rattle.dw_base.specs.UnitStates.{UnitState}
-use Rattle.dw_base.specs.declared.debug_sections.DebugSection.TheVariants.{Line, LineStr, Str}
+use Rattle.dw_base.specs.declared.debug_sections.DebugSection.TheVariants.{Line}
 use Rattle.dw_base.proofs.UnitEditLaws.{length-bytes_of}
-use Rattle.dw_meaning.specs.DataOutput.{Body, body_in, changes_of, new_bodies, table_change}
-use Rattle.dw_meaning.specs.FileMeanings.{file_body, file_data, new_body}
+use Rattle.dw_meaning.specs.DataOutput.{body_in, changes_of, new_bodies, table_change}
+use Rattle.dw_meaning.specs.FileMeanings.{file_body, new_body}
 use Rattle.dw_meaning.proofs.RelocatedBodyLaws.{file_body-loaded}
 use Rattle.dw_meaning.proofs.SectionKeptLaws.{edited-size}
 use Rattle.dbg_gen.specs.Asked.{AreFew}
-use Rattle.dbg_gen.specs.GeneratedLines.{lines_of}
 use Rattle.dbg_gen.specs.GeneratedTexts.{texts_of}
-use Rattle.dbg_gen.specs.GeneratedUnits.{units_of}
 use Rattle.dbg_gen.proofs.SizeLaws.{length-texts_of, length-units_of}
 use Rattle.gen_laws.proofs.AroundLaws.{counted_around, counted_data, stands-around}
 use Rattle.gen_laws.proofs.DataReadLaws.{counted_readings}
-use Rattle.gen_laws.proofs.FileTakenLaws.{IsCounted, info_of, str_of}
+use Rattle.gen_laws.proofs.FileTakenLaws.{IsCounted, info_of}
 use Rattle.gen_laws.proofs.LineWriteLaws.{length-tables, table_room}
 use Rattle.gen_laws.proofs.MentionLaws.{length-new_table, lines-unnamed, mentions_room, units-other, units-room}
 use Rattle.gen_laws.proofs.UnitReadLaws.{section_pieces, units-cells}

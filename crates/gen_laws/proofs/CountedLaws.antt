@@ -1,15 +1,14 @@
 -- What a generated file means has these counts of units, entries and rows.
-use Rattle.std.proofs.Common.{◌≡◌, ℕ, zero, suc, ◌+◌, ◌<◌, ◌≤◌, List, [], ◌∷◌, ◌++◌, length, slice_index, refl, sym, ap, ◌∙◌, arith, subst}
+use Rattle.std.proofs.Common.{◌≡◌, ℕ, zero, suc, ◌+◌, ◌≤◌, List, length, refl, ap, ◌∙◌, arith, subst}
 use Rattle.std.proofs.lemmas.List.{append-nil}
 use Rattle.dw_base.specs.Cells.{plain_cells}
 use Rattle.dw_base.specs.DebugData.{DebugData, line_source}
 use Rattle.dw_base.specs.FileViews.{view_of}
-use Rattle.dw_base.specs.LineMeanings.{LineMeaning, line_meanings}
-use Rattle.dw_base.specs.Lists.{tabulate}
+use Rattle.dw_base.specs.LineMeanings.{line_meanings}
 use Rattle.dw_base.specs.UnitMeanings.{UnitMeaning, unit_meanings, units_of}
 use Rattle.dw_base.specs.ViewData.{Meaning, meaning_of}
 use Rattle.dw_base.proofs.ListLaws.{get_or-tabulate}
-use Rattle.dw_meaning.specs.FileMeanings.{Means, file_data}
+use Rattle.dw_meaning.specs.FileMeanings.{Means}
 use Rattle.dw_meaning.proofs.DataOneLaws.{means-one}
 use Rattle.dbg_gen.specs.Asked.{AreFew}
 use Rattle.dbg_gen.specs.GeneratedFiles.{file_of_counts, generated}

@@ -1,22 +1,13 @@
 -- The debug data of a generated file can be read.
-use Rattle.std.proofs.Common.{◌≡◌, ℕ, ◌+◌, ◌*◌, ◌^◌, ◌<◌, ◌≤◌, ◌==◌, Bool, true, false, List, [], ◌∷◌, ◌++◌, length, refl, sym, ap, ◌∙◌, arith, subst}
-use Rattle.std.specs.Prelude.{⊤}
-use Rattle.dw_base.specs.Cells.{bytes_of, plain_cells}
+use Rattle.std.proofs.Common.{ℕ, ◌≤◌, List, length, refl, sym, arith, subst}
+use Rattle.dw_base.specs.Cells.{plain_cells}
 use Rattle.dw_base.specs.DebugData.{DataReadings, indexing_of, line_source}
-use Rattle.dw_base.specs.Elf.{e_type, order_of}
-use Rattle.dw_base.specs.Layout.{is_loaded_kind, output_limit}
-use Rattle.dw_base.specs.LineReadings.{AreTables}
-use Rattle.dw_base.specs.TextIndexes.{EachUse, IndexUse, NamesSlot}
-use Rattle.dw_base.specs.Texts.{laid_texts}
-use Rattle.dw_base.specs.declared.elf_numbers.TheConstants.{ET_REL}
+use Rattle.dw_base.specs.TextIndexes.{EachUse, NamesSlot}
 use Rattle.dw_base.specs.declared.shared.Order.TheVariants.{Little}
 use Rattle.dw_base.proofs.PlainCellLaws.{bytes_of-plain}
 use Rattle.dw_meaning.specs.DataOutput.{DataReads}
-use Rattle.dw_meaning.specs.FileMeanings.{FileReads, file_data}
-use Rattle.dw_meaning.proofs.PlainFileLaws.{relocations-read}
 use Rattle.dw_meaning.proofs.PlainUnits.{none-names, none-offsets}
 use Rattle.dbg_gen.specs.Asked.{AreFew}
-use Rattle.dbg_gen.specs.GeneratedFiles.{file_of_counts, file_with}
 use Rattle.dbg_gen.specs.GeneratedLines.{lines_of}
 use Rattle.dbg_gen.specs.GeneratedTexts.{texts_of}
 use Rattle.dbg_gen.specs.GeneratedUnits.{units_of}

@@ -1,6 +1,5 @@
 -- How many units and entries a generated file means.
-use Rattle.std.proofs.Common.{◌≡◌, ℕ, zero, suc, ◌+◌, ◌*◌, ◌<◌, ◌≤◌, ◌==◌, Bool, true, false, if◌then◌else◌, List, [], ◌∷◌, ◌++◌, length, slice_index, Option, Some, None, refl, sym, ap, ◌∙◌, arith, subst}
-use Rattle.dw_base.specs.AbbreviationTables.{Abbreviation}
+use Rattle.std.proofs.Common.{◌≡◌, ℕ, zero, suc, ◌+◌, ◌*◌, ◌≤◌, Bool, true, false, List, [], ◌∷◌, ◌++◌, length, slice_index, Option, Some, None, refl, ap, ◌∙◌, arith}
 use Rattle.dw_base.specs.Cells.{plain_cells}
 use Rattle.dw_base.specs.DebugData.{Around, Lasting}
 use Rattle.dw_base.specs.Forests.{AttributeMeaning, Forest, HeadMeaning, Mark, all_entries, attribute, begins, entry, followed_by, innermost, no_entries, no_mark, null, opens, outer, with_entry}
@@ -9,7 +8,7 @@ use Rattle.dw_base.specs.Lebs.{uleb_at}
 use Rattle.dw_base.specs.Numbers.{number_bytes}
 use Rattle.dw_base.specs.Pieces.{Piece}
 use Rattle.dw_base.specs.UnitHeaders.{UnitBase}
-use Rattle.dw_base.specs.UnitMeanings.{Following, UnitMeaning, following, head_mark, mark_of, unit_meanings, with_mark}
+use Rattle.dw_base.specs.UnitMeanings.{Following, following, head_mark, mark_of, unit_meanings, with_mark}
 use Rattle.dw_base.specs.UnitStates.{UnitState, at_code, at_values, piece_header}
 use Rattle.dw_base.specs.declared.dwarf_numbers.TheConstants.{DW_TAG_compile_unit, DW_TAG_variable}
 use Rattle.dw_base.specs.declared.shared.Order.TheVariants.{Little}
@@ -20,7 +19,7 @@ use Rattle.dbg_gen.specs.GeneratedTexts.{chained, directory, unit_name, variable
 use Rattle.dbg_gen.specs.GeneratedUnits.{text_offset}
 use Rattle.gen_laws.specs.Counts.{entries_in, entries_of}
 use Rattle.gen_laws.proofs.AbbreviationReadLaws.{directory_spec, lines_spec, name_spec}
-use Rattle.gen_laws.proofs.UnitChainLaws.{end_piece, front_pieces, piece, size_of, unit_pieces, variable_pieces}
+use Rattle.gen_laws.proofs.UnitChainLaws.{end_piece, front_pieces, piece, size_of, variable_pieces}
 use Rattle.gen_laws.proofs.UnitPieceLaws.{before, generated_base, header-found, header_bytes, header_of, within}
 use Rattle.gen_laws.proofs.UnitReadLaws.{all_pieces, pieces_of, unit_start}
 

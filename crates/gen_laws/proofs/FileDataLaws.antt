@@ -1,14 +1,14 @@
 -- The debug data of a generated file: its units, its abbreviations, its texts and its line tables, and nothing else.
-use Rattle.std.proofs.Common.{◌≡◌, ℕ, Bool, true, false, List, [], ◌∷◌, Option, Some, None, refl, sym, ap, ◌∙◌, ◌==◌}
+use Rattle.std.proofs.Common.{◌≡◌, ℕ, true, false, List, [], ◌∷◌, Option, refl, ap, ◌∙◌, ◌==◌}
 use Rattle.dw_base.specs.Cells.{Cell, CellSection, Located, plain_cells}
 use Rattle.dw_base.specs.DebugData.{DebugData}
 use Rattle.dw_base.specs.DebugSections.{debug_section}
 use Rattle.dw_base.specs.Elf.{e_type, order_of}
-use Rattle.dw_base.specs.FileViews.{View, section_after, section_bytes, section_named, view_of, view_relocations}
+use Rattle.dw_base.specs.FileViews.{View, section_after, section_bytes, section_named, view_relocations}
 use Rattle.dw_base.specs.Layout.{is_loaded_kind}
 use Rattle.dw_base.specs.Notes.{BuildId, build_id_of}
 use Rattle.dw_base.specs.SectionRelocations.{cells_from}
-use Rattle.dw_base.specs.UnitHeaders.{UnitSection, in_info}
+use Rattle.dw_base.specs.UnitHeaders.{in_info}
 use Rattle.dw_base.specs.ViewData.{debug_data, located, macro_sections, unit_sections}
 use Rattle.dw_base.specs.declared.elf_numbers.TheConstants.{ET_REL}
 use Rattle.dw_base.specs.declared.shared.Order.TheVariants.{Little}

@@ -1,8 +1,8 @@
 -- No section of a generated file is loaded.
-use Rattle.std.proofs.Common.{◌≡◌, ◌≢◌, ℕ, zero, suc, ◌+◌, ◌<◌, ◌≤◌, ◌==◌, ◌&&◌, Bool, true, false, not, List, [], ◌∷◌, length, refl, sym, ap, ◌∙◌, arith, subst}
+use Rattle.std.proofs.Common.{◌≡◌, ℕ, zero, suc, ◌<◌, ◌==◌, false, not, List, sym, ap, ◌∙◌, arith}
 use Rattle.std.specs.Prelude.{bit_and}
 use Rattle.std.proofs.lemmas.Bool.{true≢false}
-use Rattle.dw_base.specs.Elf.{nth_section, section_count, is_empty_kind}
+use Rattle.dw_base.specs.Elf.{nth_section, section_count}
 use Rattle.dw_base.specs.Layout.{is_alloc}
 use Rattle.dw_base.specs.declared.elf_numbers.TheConstants.{SHF_ALLOC}
 use Rattle.dw_meaning.specs.FileFails.{ReadIsLoaded}

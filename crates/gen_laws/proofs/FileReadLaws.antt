@@ -1,23 +1,18 @@
 -- A generated file reads back: its records read, and it has six sections, each with its name, its type and its contents.
-use Rattle.std.proofs.Common.{◌≡◌, ◌≢◌, ℕ, zero, suc, ◌+◌, ◌^◌, ◌≤◌, ◌<◌, ◌==◌, Bool, true, false, not, List, [], ◌∷◌, ◌++◌, length, get_or, refl, sym, ap, ◌∙◌, arith, subst, if◌then◌else◌}
-use Rattle.std.specs.Prelude.{codes, ⊤, bit_and, IsTrue}
+use Rattle.std.proofs.Common.{◌≡◌, ◌≢◌, ℕ, zero, suc, ◌≤◌, ◌<◌, true, false, List, [], ◌∷◌, length, get_or, refl, sym, ap, ◌∙◌, arith, subst}
+use Rattle.std.specs.Prelude.{codes, ⊤}
 use Rattle.std.specs.Int.{is_power_of_two}
 use Rattle.std.proofs.lemmas.Bool.{true≢false}
-use Rattle.dw_base.specs.DebugSectionFails.{DebugSectionsRead, IsSecond, NameReads, is_active, is_debug_name, is_split_name, is_supplementary_name, is_zdebug_name}
-use Rattle.dw_base.specs.DebugSections.{is_listed}
 use Rattle.dw_base.specs.Elf.{class_of, order_of, e_type, e_phoff, e_phnum, e_shoff, e_shnum, e_shentsize, e_phentsize, e_shstrndx, nth_section, section_count, name_index, name_table, section_name, contents_at, contents_of, is_empty_kind}
 use Rattle.dw_base.specs.ElfFails.{ElfReads}
 use Rattle.dw_base.specs.Fields.{FieldsFit}
-use Rattle.dw_base.specs.Layout.{Part, before_table, is_alloc, is_loaded_kind, laid_out, output_limit, shdr_fields, with_table}
+use Rattle.dw_base.specs.Layout.{Part, before_table, laid_out, output_limit, shdr_fields, with_table}
 use Rattle.dw_base.specs.Numbers.{spelled, with_number}
 use Rattle.dw_base.specs.Parts.{FitParts, FrontReads, PartsRead, PartsReadBack, numbered_front, parts_file, part_contents}
-use Rattle.dw_base.specs.Texts.{ends_in, text_in, same_text}
-use Rattle.dw_base.specs.declared.records.Section.{Section}
+use Rattle.dw_base.specs.Texts.{ends_in, text_in}
 use Rattle.dw_base.specs.declared.shared.Class.TheVariants.{C64}
 use Rattle.dw_base.specs.declared.shared.Order.TheVariants.{Little}
 use Rattle.dw_base.proofs.PartsAgainLaws.{Full, parts_read_back}
-use Rattle.dw_base.proofs.TextLaws.{same_text-from}
-use Rattle.dw_meaning.proofs.PlainTests.{all_below, below-true}
 use Rattle.dbg_gen.specs.GeneratedFiles.{file_header, file_with, head_of, name_bytes, null_part, parts_with, section_part}
 use Rattle.dbg_gen.specs.GeneratedUnits.{abbreviations}
 

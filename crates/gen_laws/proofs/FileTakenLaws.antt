@@ -1,8 +1,8 @@
 -- A generated file can be read: its records, its sections, and its debug data.
-use Rattle.std.proofs.Common.{◌≡◌, ℕ, ◌≤◌, ◌==◌, ◌||◌, Bool, true, false, List, length, refl, sym, ap, ◌∙◌, subst}
+use Rattle.std.proofs.Common.{◌≡◌, ℕ, ◌≤◌, ◌==◌, ◌||◌, true, false, List, length, sym, ap, subst}
 use Rattle.dw_base.specs.DebugData.{DebugData}
 use Rattle.dw_base.specs.Elf.{class_of, e_phnum, e_type, order_of}
-use Rattle.dw_base.specs.Layout.{is_loaded_kind, output_limit}
+use Rattle.dw_base.specs.Layout.{is_loaded_kind}
 use Rattle.dw_base.specs.Texts.{laid_texts}
 use Rattle.dw_base.specs.declared.elf_numbers.TheConstants.{ET_DYN, ET_EXEC, ET_REL}
 use Rattle.dw_base.specs.declared.shared.Class.TheVariants.{C64}
@@ -11,7 +11,7 @@ use Rattle.dw_meaning.specs.DataOutput.{DataReads}
 use Rattle.dw_meaning.specs.FileMeanings.{FileReads, file_data}
 use Rattle.dw_meaning.proofs.PlainFileLaws.{relocations-read}
 use Rattle.dbg_gen.specs.Asked.{AreFew}
-use Rattle.dbg_gen.specs.GeneratedFiles.{file_of_counts, file_with}
+use Rattle.dbg_gen.specs.GeneratedFiles.{file_of_counts}
 use Rattle.dbg_gen.specs.GeneratedLines.{lines_of}
 use Rattle.dbg_gen.specs.GeneratedTexts.{texts_of}
 use Rattle.dbg_gen.specs.GeneratedUnits.{units_of}

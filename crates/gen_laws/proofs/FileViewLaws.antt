@@ -1,20 +1,17 @@
 -- The names of the sections of a generated file can be read, and its view.
-use Rattle.std.proofs.Common.{◌≡◌, ◌≢◌, ℕ, zero, suc, ◌+◌, ◌≤◌, ◌<◌, ◌==◌, ◌||◌, ◌&&◌, Bool, true, false, not, List, [], ◌∷◌, ◌++◌, length, get_or, refl, sym, ap, ◌∙◌, arith, subst, if◌then◌else◌}
+use Rattle.std.proofs.Common.{◌≡◌, ℕ, zero, suc, ◌<◌, ◌==◌, ◌||◌, Bool, true, false, not, List, [], ◌∷◌, get_or, refl, sym, ap, ◌∙◌, arith, subst}
 use Rattle.std.specs.Prelude.{codes, bit_and, IsTrue}
 use Rattle.std.proofs.lemmas.Bool.{true≢false}
 use Rattle.dw_base.specs.DebugSectionFails.{DebugSectionsRead, IsSecond, NameReads, is_active, is_debug_name, is_split_name, is_supplementary_name, is_zdebug_name}
 use Rattle.dw_base.specs.DebugSections.{is_listed}
-use Rattle.dw_base.specs.Elf.{e_type, nth_section, section_count, name_index, section_name, contents_of, is_empty_kind, order_of}
-use Rattle.dw_base.specs.FileViews.{View, ViewSection, view_of, view_section}
-use Rattle.dw_base.specs.Layout.{is_alloc, is_loaded_kind}
-use Rattle.dw_base.specs.Lists.{tabulate}
+use Rattle.dw_base.specs.Elf.{e_type, nth_section, name_index, section_name, contents_of, order_of}
+use Rattle.dw_base.specs.FileViews.{ViewSection, view_of, view_section}
+use Rattle.dw_base.specs.Layout.{is_loaded_kind}
 use Rattle.dw_base.specs.Notes.{build_id_of}
-use Rattle.dw_base.specs.RelocationSectionFails.{relocates_read}
-use Rattle.dw_base.specs.SectionRelocations.{relocations_of}
 use Rattle.dw_base.specs.Texts.{same_text}
 use Rattle.dw_base.specs.declared.records.Section.{Section}
 use Rattle.dw_base.specs.declared.shared.Order.TheVariants.{Little}
-use Rattle.dw_base.specs.declared.elf_numbers.TheConstants.{ET_REL, SHF_COMPRESSED, SHF_ALLOC}
+use Rattle.dw_base.specs.declared.elf_numbers.TheConstants.{ET_REL, SHF_COMPRESSED}
 use Rattle.dw_base.proofs.SectionRelocationLaws.{relocations_of-loaded}
 use Rattle.dw_base.proofs.TextLaws.{same_text-from}
 use Rattle.dw_meaning.proofs.FileBackLaws.{other-holder}

@@ -1,10 +1,10 @@
 -- The output of a generated file can be written: nothing of it but section 0 stays at its place, none of its sections is loaded, and it is far
 -- within the limit.
-use Rattle.std.proofs.Common.{◌≡◌, ◌≢◌, ℕ, zero, suc, ◌+◌, ◌*◌, ◌^◌, ◌<◌, ◌≤◌, ◌==◌, ◌&&◌, ◌||◌, nat_le, Bool, true, false, not, if◌then◌else◌, List, [], ◌∷◌, ◌++◌, length, slice_index, take, refl, sym, ap, ◌∙◌, arith, subst}
+use Rattle.std.proofs.Common.{◌≡◌, ℕ, zero, suc, ◌+◌, ◌<◌, ◌≤◌, ◌==◌, ◌||◌, nat_le, true, false, not, List, length, slice_index, take, refl, sym, ap, ◌∙◌, arith, subst}
 use Rattle.std.specs.Prelude.{bit_and}
 use Rattle.std.proofs.lemmas.Bool.{and_parts, leb-true, true≢false}
 use Rattle.std.proofs.lemmas.List.{length-append, length-take-le}
-use Rattle.dw_base.specs.Elf.{class_of, contents_of, ehdr_size, is_empty_kind, nth_section, section_count, sections_of, segments_of}
+use Rattle.dw_base.specs.Elf.{contents_of, ehdr_size, is_empty_kind, nth_section, sections_of, segments_of}
 use Rattle.dw_base.specs.ElfFails.{ElfReads}
 use Rattle.dw_base.specs.Layout.{Part, fixed_end, is_alloc, is_fixed, is_loaded_kind, laid_out, output_limit, part_of, with_bodies}
 use Rattle.dw_base.specs.LayoutFails.{BeginsInHeader, LayoutFits, LiesAcross}
@@ -22,7 +22,7 @@ use Rattle.dbg_gen.specs.GeneratedTexts.{chained, directory, texts_of}
 use Rattle.dbg_gen.specs.GeneratedUnits.{units_of}
 use Rattle.dbg_gen.proofs.SizeLaws.{length-laid_out, length-table_of, room}
 use Rattle.dbg_gen.proofs.TextThereLaws.{texts-there}
-use Rattle.gen_laws.proofs.BodyLaws.{BodiesFit, bodies-are, bodies-fit}
+use Rattle.gen_laws.proofs.BodyLaws.{bodies-are, bodies-fit}
 use Rattle.gen_laws.proofs.DataReadLaws.{counted_readings}
 use Rattle.gen_laws.proofs.FileReadLaws.{HasSection}
 use Rattle.gen_laws.proofs.FileTakenLaws.{IsCounted, info_of, str_of}

@@ -1,18 +1,16 @@
 -- The header of a generated line table reads, wherever the table stands in its section.
-use Rattle.std.proofs.Common.{◌≡◌, ℕ, ◌+◌, ◌-◌, ◌^◌, ◌<◌, ◌≤◌, ◌==◌, Bool, true, false, List, [], ◌∷◌, ◌++◌, length, take, drop, slice_index, Option, Some, None, refl, sym, ap, ◌∙◌, arith, subst}
+use Rattle.std.proofs.Common.{◌≡◌, ℕ, ◌+◌, ◌^◌, ◌<◌, ◌≤◌, true, List, [], ◌∷◌, ◌++◌, length, take, slice_index, Some, refl, sym, ap, ◌∙◌, arith, subst}
 use Rattle.std.specs.Int.{w8, cast_signed}
 use Rattle.std.proofs.lemmas.Bool.{le-leb}
 use Rattle.std.proofs.lemmas.List.{append_assoc, append-nil, length-append, take_at}
-use Rattle.dw_base.specs.Lebs.{first_reserved, initial_length_at}
-use Rattle.dw_base.specs.LineHeaders.{flags_place, header_with, has_standard_operands, is_header, length_place, line_header, standard_operands}
+use Rattle.dw_base.specs.LineHeaders.{flags_place, header_with, has_standard_operands, is_header, length_place, standard_operands}
 use Rattle.dw_base.specs.Numbers.{number_at, number_bytes, spelled}
-use Rattle.dw_base.specs.Texts.{same_text}
 use Rattle.dw_base.specs.declared.line_tables.LineHeader.{LineHeader}
 use Rattle.dw_base.specs.declared.shared.Order.TheVariants.{Little}
 use Rattle.dw_base.specs.declared.shared.Width.TheVariants.{W32}
 use Rattle.dw_base.proofs.ContributionBackLaws.{StandsAt, spelled-there}
 use Rattle.dw_base.proofs.NumberLaws.{length-number_bytes, spelled-number_bytes}
-use Rattle.dw_meaning.proofs.LineHeaderLaws.{HeaderIs, header-there, written-length}
+use Rattle.dw_meaning.proofs.LineHeaderLaws.{HeaderIs, written-length}
 use Rattle.dw_meaning.proofs.LineReadLaws.{first-stand}
 use Rattle.dbg_gen.specs.GeneratedLines.{line_header as generated_header, line_lists, line_numbers, table_of}
 use Rattle.dbg_gen.proofs.SizeLaws.{length-table_of}

@@ -1,17 +1,17 @@
 -- The lists of a generated line table read: one directory, and one file.
-use Rattle.std.proofs.Common.{◌≡◌, ◌≢◌, ℕ, ◌+◌, ◌-◌, ◌^◌, ◌<◌, ◌≤◌, Bool, true, false, List, [], ◌∷◌, ◌++◌, length, Option, Some, None, refl, sym, ap, ◌∙◌, arith, subst}
+use Rattle.std.proofs.Common.{◌≡◌, ℕ, ◌+◌, ◌^◌, ◌<◌, false, List, [], ◌∷◌, ◌++◌, length, Some, refl, sym, ap, ◌∙◌, arith, subst}
 use Rattle.std.specs.Prelude.{codes}
 use Rattle.std.specs.Fmt.{decimal}
 use Rattle.std.proofs.lemmas.List.{append_assoc, length-append}
 use Rattle.dw_base.specs.LineTexts.{file_numbers, inline_text}
 use Rattle.dw_base.specs.Lebs.{uleb_at}
-use Rattle.dw_base.specs.Texts.{ends_in, has_nul, text_in}
+use Rattle.dw_base.specs.Texts.{has_nul}
 use Rattle.dw_base.specs.declared.line_tables.FilePlace.{FilePlace}
 use Rattle.dw_base.specs.declared.line_tables.TextPlace.{TextPlace}
 use Rattle.dw_base.proofs.ContributionBackLaws.{StandsAt}
 use Rattle.dw_base.proofs.TextLaws.{has_nul-append_false}
-use Rattle.dw_meaning.proofs.LineReadLaws.{Both, file_numbers-both, inline-here}
-use Rattle.dw_meaning.proofs.LineWalkLaws.{OldDirs, OldFile, OldFiles}
+use Rattle.dw_meaning.proofs.LineReadLaws.{file_numbers-both, inline-here}
+use Rattle.dw_meaning.proofs.LineWalkLaws.{OldDirs, OldFiles}
 use Rattle.dbg_gen.specs.GeneratedLines.{line_lists}
 use Rattle.dbg_gen.proofs.OnceLaws.{decimal-bare}
 use Rattle.gen_laws.proofs.StandLaws.{stands-at, stands-second, text-there}

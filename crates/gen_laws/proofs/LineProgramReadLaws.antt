@@ -1,19 +1,16 @@
 -- The program of a generated line table is whole opcodes, none of which defines a file: an address, special opcodes, and the end of the sequence.
-use Rattle.std.proofs.Common.{◌≡◌, ℕ, zero, suc, ◌+◌, ◌-◌, ◌*◌, ◌^◌, ◌<◌, ◌≤◌, nat_lt, Bool, true, false, List, [], ◌∷◌, ◌++◌, length, take, slice_index, replicate, Option, Some, None, refl, sym, ap, ◌∙◌, arith, subst}
+use Rattle.std.proofs.Common.{◌≡◌, ℕ, zero, suc, ◌+◌, ◌-◌, ◌*◌, ◌^◌, ◌<◌, ◌≤◌, nat_lt, true, List, [], ◌∷◌, ◌++◌, length, take, slice_index, replicate, Some, None, refl, ap, ◌∙◌, arith}
 use Rattle.std.proofs.lemmas.Bool.{le-leb, lt-ltb, le-ltb, ne_eqb}
-use Rattle.std.proofs.lemmas.List.{append_assoc, append-nil, length-append, length-replicate, length-take-le, get_or-take}
+use Rattle.std.proofs.lemmas.List.{length-append, length-replicate, length-take-le}
 use Rattle.dw_base.specs.Lebs.{uleb_at}
-use Rattle.dw_base.specs.LinePrograms.{extended_at, extended_by, extended_in, extended_operands, if_ranged, opcode_at, plain_opcode}
+use Rattle.dw_base.specs.LinePrograms.{extended_at, extended_in, extended_operands, if_ranged, opcode_at}
 use Rattle.dw_base.specs.Numbers.{number_bytes}
-use Rattle.dw_base.specs.UnitHeaders.{is_address_size}
 use Rattle.dw_base.specs.declared.line_numbers.TheConstants.{DW_LNE_end_sequence, DW_LNE_set_address}
-use Rattle.dw_base.specs.declared.line_tables.FilePlace.{FilePlace}
 use Rattle.dw_base.specs.declared.line_tables.LineHeader.{LineHeader}
-use Rattle.dw_base.specs.declared.line_tables.Opcode.{Opcode}
 use Rattle.dw_base.specs.declared.shared.Order.TheVariants.{Little}
 use Rattle.dw_base.proofs.ContributionBackLaws.{StandsAt}
 use Rattle.dw_base.proofs.NumberLaws.{length-number_bytes}
-use Rattle.dw_meaning.proofs.LineReadLaws.{Both, uleb-both}
+use Rattle.dw_meaning.proofs.LineReadLaws.{uleb-both}
 use Rattle.dw_meaning.proofs.LineWalkLaws.{Opcodes, one_opcode, program_over}
 use Rattle.dbg_gen.specs.GeneratedLines.{line_program}
 use Rattle.gen_laws.proofs.StandLaws.{byte-there, stands-at, stands-first, stands-second}

@@ -1,14 +1,13 @@
 -- The line tables of a generated file read, one after another.
-use Rattle.std.proofs.Common.{◌≡◌, ◌≢◌, ℕ, zero, suc, ◌+◌, ◌*◌, ◌^◌, ◌<◌, ◌≤◌, ◌⊎◌, inl, inr, Bool, true, false, List, [], ◌∷◌, ◌++◌, length, take, slice_index, Option, Some, None, refl, sym, ap, ◌∙◌, arith, subst}
+use Rattle.std.proofs.Common.{◌≡◌, ◌≢◌, ℕ, zero, suc, ◌+◌, ◌^◌, ◌<◌, ◌≤◌, inl, inr, List, [], ◌∷◌, ◌++◌, length, take, slice_index, refl, sym, ap, ◌∙◌, arith, subst}
 use Rattle.std.specs.Prelude.{codes}
 use Rattle.std.specs.Fmt.{decimal}
 use Rattle.std.proofs.lemmas.Bool.{cases_lt}
 use Rattle.std.proofs.lemmas.List.{append_assoc, append-nil, length-append, take_at}
 use Rattle.dw_base.specs.LinePrograms.{next_opcode}
-use Rattle.dw_base.specs.LineReadings.{AreTables, LineReading, ReadsTable, TablesTo, table_starts}
+use Rattle.dw_base.specs.LineReadings.{AreTables, LineReading, ReadsTable, TablesTo}
 use Rattle.dw_base.specs.LineSources.{LineSource}
 use Rattle.dw_base.specs.LineTables.{HasLists, old_lists, table_bytes}
-use Rattle.dw_base.specs.declared.line_tables.FilePlace.{FilePlace}
 use Rattle.dw_base.specs.declared.line_tables.LineHeader.{LineHeader}
 use Rattle.dw_base.specs.Walks.{ComesTo}
 use Rattle.dw_base.specs.declared.shared.Order.{Order}
@@ -18,7 +17,7 @@ use Rattle.dw_meaning.proofs.LineWalkLaws.{dirs-walk, files-walk, opcodes-walk}
 use Rattle.dbg_gen.specs.Asked.{AreFew}
 use Rattle.dbg_gen.specs.GeneratedLines.{line_header as generated_header, line_lists, line_numbers, line_program, line_table, lines_of, table_of}
 use Rattle.dbg_gen.specs.GeneratedTexts.{chained}
-use Rattle.gen_laws.proofs.LineHeadLaws.{TableParts, head_at, header-is, table-parts, up_to}
+use Rattle.gen_laws.proofs.LineHeadLaws.{head_at, header-is, table-parts, up_to}
 use Rattle.gen_laws.proofs.LineListReadLaws.{dirs-there, dirs_of, file_name, files-there, files_of}
 use Rattle.gen_laws.proofs.LineProgramReadLaws.{program-there}
 use Rattle.dbg_gen.proofs.SizeLaws.{length-line_header, length-line_program, length-table_of}

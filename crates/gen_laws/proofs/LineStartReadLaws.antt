@@ -1,11 +1,10 @@
 -- A line table of a generated file starts at the place that its unit says.
-use Rattle.std.proofs.Common.{◌≡◌, ℕ, zero, suc, ◌+◌, ◌<◌, ◌≤◌, ◌==◌, ◌⊎◌, inl, inr, Bool, true, false, if◌then◌else◌, List, [], ◌∷◌, ◌++◌, length, slice_index, Option, Some, None, refl, sym, ap, ◌∙◌, arith, subst}
+use Rattle.std.proofs.Common.{◌≡◌, ℕ, zero, suc, ◌+◌, ◌<◌, ◌==◌, inl, inr, Bool, true, false, if◌then◌else◌, List, [], ◌∷◌, ◌++◌, length, slice_index, Option, Some, refl, sym, ap, arith, subst}
 use Rattle.std.proofs.lemmas.Bool.{cases_lt, eq-eqb}
 use Rattle.dw_base.specs.DebugData.{start_number}
 use Rattle.dw_base.specs.LineMeanings.{is_there}
 use Rattle.dw_base.specs.LineReadings.{LineReading, table_starts}
 use Rattle.dbg_gen.specs.GeneratedLines.{lines_of}
-use Rattle.dbg_gen.specs.GeneratedTexts.{chained}
 use Rattle.gen_laws.proofs.LineSectionReadLaws.{reading_at, readings_of}
 
 starts-append : (rs qs : List LineReading) → table_starts (rs ++ qs) ≡ table_starts rs ++ table_starts qs

@@ -1,5 +1,5 @@
 -- The line tables of a generated file can be written with their paths mapped, and each is short.
-use Rattle.std.proofs.Common.{◌≡◌, ◌≢◌, ℕ, zero, suc, ◌+◌, ◌-◌, ◌*◌, ◌^◌, ◌<◌, ◌≤◌, ◌==◌, Bool, true, false, if◌then◌else◌, List, [], ◌∷◌, ◌++◌, length, take, drop, slice_index, Option, Some, None, Contains, slice_index_or, refl, sym, ap, ◌∙◌, arith, subst}
+use Rattle.std.proofs.Common.{◌≡◌, ◌≢◌, ℕ, zero, suc, ◌+◌, ◌-◌, ◌*◌, ◌^◌, ◌<◌, ◌≤◌, List, [], ◌∷◌, ◌++◌, length, drop, slice_index, Option, Contains, slice_index_or, refl, sym, ap, ◌∙◌, arith}
 use Rattle.std.proofs.lemmas.Bool.{eq-eqb}
 use Rattle.std.proofs.lemmas.List.{append_assoc, length-append, length-take}
 use Rattle.dw_base.specs.DebugData.{Around, source_around}
@@ -10,9 +10,9 @@ use Rattle.dw_base.specs.LineSources.{LineSource}
 use Rattle.dw_base.specs.LineTables.{LineTable}
 use Rattle.dw_base.specs.LineWriteFails.{CanWrite}
 use Rattle.dw_base.specs.Numbers.{number_bytes}
-use Rattle.dw_base.specs.Paths.{IsPathMap, PathMap, mapped_path, prefix_limit}
+use Rattle.dw_base.specs.Paths.{IsPathMap, PathMap}
 use Rattle.dw_base.specs.TextChanges.{TableChange, TableChanges}
-use Rattle.dw_base.specs.WrittenLines.{Change, all_changes, bytes_at, changed, inline_change, length_bytes, part, paths_of, with_header_length, written_header, written_rest, written_table}
+use Rattle.dw_base.specs.WrittenLines.{Change, all_changes, bytes_at, changed, inline_change, part, with_header_length, written_header, written_rest, written_table}
 use Rattle.dw_base.specs.declared.debug_sections.DebugSection.TheVariants.{LineStr, Str}
 use Rattle.dw_base.specs.declared.line_tables.TextPlace.{TextPlace}
 use Rattle.dw_base.specs.declared.shared.Width.TheVariants.{W32}
@@ -20,7 +20,7 @@ use Rattle.dw_base.proofs.NumberLaws.{length-number_bytes}
 use Rattle.dw_base.proofs.PathLaws.{length-mapped_path}
 use Rattle.dw_meaning.specs.DataOutput.{EachWritable}
 use Rattle.dbg_gen.specs.Asked.{AreFew}
-use Rattle.dbg_gen.specs.GeneratedLines.{line_header as generated_header, line_program, lines_of}
+use Rattle.dbg_gen.specs.GeneratedLines.{line_header as generated_header, lines_of}
 use Rattle.dbg_gen.proofs.SizeLaws.{length-line_header, length-line_program}
 use Rattle.gen_laws.proofs.LineListReadLaws.{file_name, place_of}
 use Rattle.gen_laws.proofs.LineSectionReadLaws.{lists-behind, lists_place, reading_at, readings_of}

@@ -1,9 +1,8 @@
 -- The texts that a generated file names, and how long a new table of them is at most, whatever it keeps and whatever asks for a new place.
-use Rattle.std.proofs.Common.{◌≡◌, ℕ, zero, suc, ◌+◌, ◌*◌, ◌^◌, ◌<◌, ◌≤◌, ◌==◌, Bool, true, false, if◌then◌else◌, List, [], ◌∷◌, ◌++◌, length, slice_index, refl, sym, ap, ◌∙◌, arith, subst}
+use Rattle.std.proofs.Common.{◌≡◌, ℕ, zero, suc, ◌+◌, ◌*◌, ◌<◌, ◌≤◌, Bool, true, false, if◌then◌else◌, List, [], ◌∷◌, ◌++◌, length, slice_index, refl, sym, ap, ◌∙◌, arith}
 use Rattle.std.proofs.lemmas.Bool.{eq-eqb}
 use Rattle.std.proofs.lemmas.List.{append_assoc, length-append}
-use Rattle.dw_base.specs.Cells.{Located, plain_cells}
-use Rattle.dw_base.specs.DebugData.{Around, source_around}
+use Rattle.dw_base.specs.DebugData.{Around}
 use Rattle.dw_base.specs.Forms.{TextSection, form_rows, in_line_str, in_str, kind_in}
 use Rattle.dw_base.specs.LineChanges.{line_mentions, mention_in, paths_mentions}
 use Rattle.dw_base.specs.LineReadings.{LineReading, table_read}

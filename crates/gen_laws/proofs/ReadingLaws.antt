@@ -1,11 +1,9 @@
 -- What is read of a generated file: its units as pieces, its line tables, and no string offsets, macro units or name tables. No value of its
 -- units names a text by index, and each that is to say where a line table starts has a form that can.
-use Rattle.std.proofs.Common.{◌≡◌, ℕ, zero, suc, ◌+◌, ◌^◌, ◌<◌, ◌≤◌, true, List, [], ◌∷◌, ◌++◌, length, Option, Some, None, refl, sym, ap, ◌∙◌, arith, subst}
-use Rattle.std.specs.Prelude.{IsTrue}
+use Rattle.std.proofs.Common.{◌≡◌, ℕ, ◌+◌, List, [], ◌∷◌, ◌++◌, refl, ap, ◌∙◌, arith}
 use Rattle.std.proofs.lemmas.Bool.{ne_eqb}
 use Rattle.std.proofs.lemmas.List.{append-nil}
-use Rattle.dw_base.specs.Cells.{Located, plain_cells}
-use Rattle.dw_base.specs.DebugData.{Around, DataReadings, Lasting, around_of}
+use Rattle.dw_base.specs.DebugData.{DataReadings, Lasting}
 use Rattle.dw_base.specs.Forms.{form_rows, kind_in}
 use Rattle.dw_base.specs.Pieces.{EachPiece, Piece}
 use Rattle.dw_base.specs.Roles.{role_of}

@@ -1,10 +1,10 @@
 -- How many rows a generated line table gives: one for each special opcode, and one at the end of the sequence.
-use Rattle.std.proofs.Common.{◌≡◌, ℕ, zero, suc, ◌+◌, ◌-◌, ◌*◌, ◌^◌, ◌<◌, ◌≤◌, ◌==◌, Bool, true, false, if◌then◌else◌, List, [], ◌∷◌, ◌++◌, length, take, drop, slice_index, replicate, Option, Some, None, refl, sym, ap, ◌∙◌, arith, subst}
+use Rattle.std.proofs.Common.{◌≡◌, ℕ, zero, suc, ◌+◌, ◌-◌, ◌*◌, ◌≤◌, List, [], ◌∷◌, ◌++◌, length, take, drop, slice_index, replicate, Some, None, refl, sym, ap, ◌∙◌, arith}
 use Rattle.std.proofs.lemmas.Bool.{le-leb, lt-ltb}
 use Rattle.std.proofs.lemmas.List.{append_assoc, append-nil, drop_at, length-append, length-drop, length-take-le, take_at}
 use Rattle.dw_base.specs.Cells.{Cell, bytes_of, plain_cells}
 use Rattle.dw_base.specs.Lebs.{uleb_at}
-use Rattle.dw_base.specs.LineMeanings.{FileText, LineMeaning, dir_texts, file_texts, line_meaning, line_meanings, line_params, program_rows, shown_rows}
+use Rattle.dw_base.specs.LineMeanings.{FileText, dir_texts, file_texts, line_meaning, line_meanings, line_params, program_rows, shown_rows}
 use Rattle.dw_base.specs.LineOperations.{extended, extended_in, extended_operation, operation_in, operation_of, operations, operations_behind, special, special_operation, with_those}
 use Rattle.dw_base.specs.LineReadings.{LineReading}
 use Rattle.dw_base.specs.LineRegisters.{behind_row, gives_row, moved, rows_of, start_registers}
@@ -23,8 +23,7 @@ use Rattle.dw_base.proofs.ContributionBackLaws.{StandsAt}
 use Rattle.dw_base.proofs.NumberLaws.{length-number_bytes}
 use Rattle.dw_base.proofs.PlainCellLaws.{plain_cells-append}
 use Rattle.dw_base.proofs.UnitEditLaws.{length-bytes_of}
-use Rattle.dbg_gen.specs.Asked.{AreFew}
-use Rattle.dbg_gen.specs.GeneratedLines.{line_header as generated_header, line_program, line_table, lines_of, table_of}
+use Rattle.dbg_gen.specs.GeneratedLines.{line_header as generated_header, line_program, line_table, lines_of}
 use Rattle.dbg_gen.proofs.SizeLaws.{length-table_of}
 use Rattle.gen_laws.specs.Counts.{rows_in}
 use Rattle.gen_laws.proofs.BodyLaws.{length-plain}

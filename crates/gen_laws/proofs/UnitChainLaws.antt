@@ -1,5 +1,5 @@
 -- The pieces of the units of a generated file, one unit after another: they lead from its start to its end, and their cells are its bytes.
-use Rattle.std.proofs.Common.{◌≡◌, ℕ, zero, suc, ◌+◌, ◌*◌, ◌^◌, ◌<◌, ◌≤◌, List, [], ◌∷◌, ◌++◌, length, slice_index, refl, sym, ap, ◌∙◌, arith, subst}
+use Rattle.std.proofs.Common.{◌≡◌, ℕ, zero, suc, ◌+◌, ◌*◌, ◌<◌, ◌≤◌, List, [], ◌∷◌, ◌++◌, length, refl, sym, ap, ◌∙◌, arith, subst}
 use Rattle.std.proofs.lemmas.List.{append_assoc, append-nil, length-append}
 use Rattle.dw_base.specs.Cells.{Cell, plain_cells}
 use Rattle.dw_base.specs.Lebs.{first_reserved}
@@ -13,9 +13,8 @@ use Rattle.dw_base.specs.declared.shared.Order.TheVariants.{Little}
 use Rattle.dw_base.proofs.NumberLaws.{length-number_bytes}
 use Rattle.dw_base.proofs.PlainCellLaws.{plain_cells-append}
 use Rattle.dw_meaning.proofs.PieceLaws.{joined-append, leads-more}
-use Rattle.dbg_gen.specs.GeneratedLines.{lines_of}
 use Rattle.dbg_gen.specs.GeneratedTexts.{chained, directory, unit_name, variable_name}
-use Rattle.dbg_gen.specs.GeneratedUnits.{text_offset, unit_bytes, unit_entries, unit_entry, unit_with, units_of, variable_entry}
+use Rattle.dbg_gen.specs.GeneratedUnits.{text_offset, unit_bytes, unit_entries, unit_entry, unit_with, variable_entry}
 use Rattle.gen_laws.proofs.AbbreviationReadLaws.{directory_spec, lines_spec, name_spec}
 use Rattle.dbg_gen.proofs.SizeLaws.{length-unit_entry, length-unit_with}
 use Rattle.gen_laws.proofs.UnitPieceLaws.{Steps, before, end-code, generated_base, header-step, header_bytes, last-name-step, lines-step, name-step, unit-code, variable-code, within}

@@ -1,5 +1,5 @@
 -- The pieces of a generated unit, each from its state to the next: a header, codes, and values.
-use Rattle.std.proofs.Common.{◌≡◌, ◌≢◌, ℕ, zero, suc, ◌+◌, ◌-◌, ◌^◌, ◌<◌, ◌≤◌, ◌==◌, ◌&&◌, Bool, true, false, not, List, [], ◌∷◌, ◌++◌, length, Option, Some, None, refl, sym, ap, ◌∙◌, arith, subst, if◌then◌else◌}
+use Rattle.std.proofs.Common.{◌≡◌, ℕ, ◌+◌, ◌<◌, ◌≤◌, ◌==◌, ◌&&◌, Bool, true, false, List, [], ◌∷◌, ◌++◌, Option, Some, None, refl, sym, ap, ◌∙◌, arith, subst, if◌then◌else◌}
 use Rattle.std.proofs.lemmas.Bool.{le-leb, ne_eqb, eq-eqb}
 use Rattle.std.proofs.lemmas.List.{length-append}
 use Rattle.dw_base.specs.AbbreviationTables.{Abbreviation}
@@ -8,12 +8,11 @@ use Rattle.dw_base.specs.Forms.{form_rows, kind_in}
 use Rattle.dw_base.specs.Lebs.{first_reserved, initial_length_at, uleb_at}
 use Rattle.dw_base.specs.Numbers.{number_at, number_bytes, spelled}
 use Rattle.dw_base.specs.UnitHeaders.{UnitBase, header_of_length, in_info, is_header, unit_header}
-use Rattle.dw_base.specs.UnitPieces.{FitsKind, FitsMode, IsCode, IsHeader, IsValue}
+use Rattle.dw_base.specs.UnitPieces.{FitsKind, FitsMode}
 use Rattle.dw_base.specs.UnitStates.{Mode, UnitState, after_code, after_header, at_code, at_header, at_values, before_unit, between, headed, in_unit, past, piece_header}
 use Rattle.dw_base.specs.Values.{value_of}
 use Rattle.dw_base.specs.declared.dwarf_numbers.TheConstants.{DW_TAG_compile_unit, DW_TAG_variable}
 use Rattle.dw_base.specs.declared.shared.Order.TheVariants.{Little}
-use Rattle.dw_base.specs.declared.shared.Width.{Width}
 use Rattle.dw_base.specs.declared.shared.Width.TheVariants.{W32}
 use Rattle.dw_base.specs.declared.units.UnitHeader.{UnitHeader}
 use Rattle.dw_base.specs.declared.values.Spec.{Spec}

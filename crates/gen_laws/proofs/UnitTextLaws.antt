@@ -1,26 +1,25 @@
 -- Each offset of a text in a generated unit names one that ends in the table of texts.
-use Rattle.std.proofs.Common.{◌≡◌, ℕ, zero, suc, ◌+◌, ◌^◌, ◌<◌, ◌≤◌, true, false, List, [], ◌∷◌, ◌++◌, length, slice_index, refl, sym, ap, ◌∙◌, arith, subst}
-use Rattle.std.specs.Prelude.{IsTrue, ⊤}
+use Rattle.std.proofs.Common.{◌≡◌, ℕ, ◌+◌, ◌^◌, ◌<◌, ◌≤◌, true, false, List, [], length, sym, ap, ◌∙◌, arith}
+use Rattle.std.specs.Prelude.{IsTrue}
 use Rattle.std.proofs.lemmas.List.{append-nil}
-use Rattle.dw_base.specs.Cells.{Cell, Located, bytes_of, field_of, offset_of, plain_cells}
+use Rattle.dw_base.specs.Cells.{Located, field_of, offset_of, plain_cells}
 use Rattle.dw_base.specs.DebugData.{Around, line_table, table_of}
 use Rattle.dw_base.specs.Forms.{form_rows, in_str, kind_in}
 use Rattle.dw_base.specs.LineMeanings.{is_there}
 use Rattle.dw_base.specs.Numbers.{number_bytes, spelled}
-use Rattle.dw_base.specs.Pieces.{EachPiece, Piece}
+use Rattle.dw_base.specs.Pieces.{EachPiece}
 use Rattle.dw_base.specs.Roles.{role_of}
 use Rattle.dw_base.specs.StringTables.{place_in}
 use Rattle.dw_base.specs.TextChanges.{NamesText}
 use Rattle.dw_base.specs.Texts.{ends_in, has_nul, is_in, laid_texts, text_in}
-use Rattle.dw_base.specs.UnitStates.{UnitState}
 use Rattle.dw_base.specs.declared.shared.Order.{Order}
 use Rattle.dw_base.specs.declared.shared.Order.TheVariants.{Little}
 use Rattle.dw_base.proofs.NumberLaws.{spelled-number_bytes}
 use Rattle.dw_base.proofs.PlainCellLaws.{bytes_of-plain}
 use Rattle.dw_base.proofs.TextLaws.{ends_in-place_in, place_in-lt, text_in-place_in}
-use Rattle.dbg_gen.specs.Asked.{HasUnit, HasUnits}
+use Rattle.dbg_gen.specs.Asked.{HasUnits}
 use Rattle.dbg_gen.specs.GeneratedLines.{lines_of}
-use Rattle.dbg_gen.specs.GeneratedTexts.{chained, directory, unit_name, variable_name}
+use Rattle.dbg_gen.specs.GeneratedTexts.{directory, unit_name, variable_name}
 use Rattle.dbg_gen.specs.GeneratedUnits.{text_offset}
 use Rattle.gen_laws.proofs.UnitEachLaws.{each-piece}
 use Rattle.gen_laws.proofs.UnitReadLaws.{all_pieces}

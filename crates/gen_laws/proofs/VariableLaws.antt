@@ -1,11 +1,11 @@
 -- No unit of a generated file has more variables than 16.
-use Rattle.std.proofs.Common.{◌≡◌, ℕ, zero, suc, ◌+◌, ◌*◌, ◌/◌, ◌%◌, ◌^◌, ◌<◌, ◌≤◌, inl, inr, List, [], ◌∷◌, ◌++◌, get_or, length, slice_index, ap, sym, ◌∙◌, arith, subst}
+use Rattle.std.proofs.Common.{◌≡◌, ℕ, ◌+◌, ◌*◌, ◌/◌, ◌%◌, ◌^◌, ◌≤◌, inl, inr, length, slice_index, arith}
 use Rattle.std.proofs.lemmas.Bool.{cases_lt}
 use Rattle.std.proofs.lemmas.List.{get_or_past}
 use Rattle.dw_base.specs.Lists.{tabulate}
 use Rattle.dw_base.proofs.ListLaws.{get_or-tabulate, length-tabulate}
 use Rattle.dbg_gen.specs.Asked.{AreFew}
-use Rattle.dbg_gen.specs.VariableCounts.{state_after, stepped, variable_count, variable_counts}
+use Rattle.dbg_gen.specs.VariableCounts.{state_after, variable_count, variable_counts}
 
 four-bits : (x : ℕ) → 1 + x % 2 ^ 64 / 2 ^ 60 ≤ 16
 four-bits x = omega arith
