@@ -5,7 +5,7 @@
 
 use dbg_ends::{End, tell};
 use dbg_run::run_words;
-use file_tree::{OsSink, OsTree};
+use os_tree::{OsSink, OsTree};
 use std::process::ExitCode;
 use std::rt::Env;
 use std::{env, io};

@@ -5,8 +5,6 @@ pub mod PastLaws
 pub mod LookLaws
 pub mod CauseLaws
 pub mod SortLaws
-pub mod Sayings
-pub mod RisingLaws
 pub mod ImageLaws
 pub mod SeekLaws
 pub mod MomentLaws

@@ -2,8 +2,7 @@
 //!
 //! This layer promises: what each call of a tree or a sink does and why it may fail (`Tree`, `Sink`),
 //! kept in full by `MemTree` and `MemSink`, which tell what they hold.
-//! It does not promise: what the real file system or the terminal holds (`OsTree`, `OsSink`), of
-//! which only the causes of answers are proved.
+//! It does not promise: what a tree or a sink holds that tells nothing of it.
 //!
 //! ```
 //! let mut tree = MemTree::new(alloc, Vec::new(alloc))?;
@@ -24,12 +23,6 @@ mod looks;
 mod mem_sink;
 mod mem_tree;
 mod node;
-mod os_changes;
-mod os_folders;
-mod os_looks;
-mod os_sink;
-mod os_stores;
-mod os_tree;
 mod places;
 mod sink;
 mod sorts;
@@ -42,8 +35,6 @@ pub use laws::{image_laws, moment_laws};
 pub use mem_sink::MemSink;
 pub use mem_tree::MemTree;
 pub use node::{Found, Listed, Node, TreeErr};
-pub use os_sink::OsSink;
-pub use os_tree::OsTree;
 pub use sink::{Sink, SinkErr};
 pub use text::{Blob, Paths, Text};
 pub use tree::Tree;

@@ -1,5 +1,6 @@
 //! Trees and sinks tried on worked cases, the real file system among them.
 use file_tree::*;
+use os_tree::OsTree;
 use std::alloc::{AllocError, Global};
 use std::io::ErrorKind;
 use std::os::unix::fs::MetadataExt;

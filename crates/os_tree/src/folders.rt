@@ -5,8 +5,8 @@
 //! to a path is followed: each folder there is looked at once.
 //!
 //! This layer promises: it is safe and returns. What the system answers isn't proved.
-use crate::os_looks::what_stands;
-use crate::os_stores::Unstored;
+use crate::looks::what_stands;
+use crate::stores::Unstored;
 use std::alloc::{AllocError, Global};
 use std::collections::BTreeMap;
 use std::fs::Metadata;

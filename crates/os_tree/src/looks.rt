@@ -6,10 +6,9 @@
 ghost use Rattle.std.specs.Prelude.{IfOk, IsTrue};
 ghost use Rattle.file_tree.specs.Causes.{IsWithin, IsListed, AreInOrder};
 
-use crate::node::{Found, Listed};
-use crate::os_folders::Folders;
-use crate::os_stores::Unstored;
-use crate::text::{Blob, Paths, Text};
+use crate::folders::Folders;
+use crate::stores::Unstored;
+use file_tree::{Blob, Found, Listed, Paths, Text};
 use std::cmp::Ordering;
 use std::fs::Metadata;
 use std::io::{ErrorKind, Read};

@@ -6,12 +6,11 @@ ghost use Rattle.std.specs.Prelude.{◌≡◌, ◌≤◌, ◌+◌, false, IfOk, 
 ghost use Rattle.file_tree.specs.Seen.{no_past};
 ghost use Rattle.file_tree.specs.Causes.{Rose};
 
-use crate::node::{Found, Listed, Node, TreeErr};
-use crate::os_changes::{put_at, put_file_at, ready_to_move, ready_to_put, ready_to_remove};
-use crate::os_folders::Folders;
-use crate::os_looks::{Owner, list_at, read_at};
-use crate::os_stores::Unstored;
-use crate::tree::Tree;
+use crate::changes::{put_at, put_file_at, ready_to_move, ready_to_put, ready_to_remove};
+use crate::folders::Folders;
+use crate::looks::{Owner, list_at, read_at};
+use crate::stores::Unstored;
+use file_tree::{Found, Listed, Node, Tree, TreeErr};
 use std::rt::Files;
 use std::{fs, io};
 

@@ -2,10 +2,10 @@
 //! none takes away what is neither a file nor a link.
 //!
 //! This layer promises: they are safe and return. What the system does isn't proved.
-use crate::node::Node;
-use crate::os_folders::Folders;
-use crate::os_looks::{Owner, is_node, what_stands};
-use crate::os_stores::Unstored;
+use crate::folders::Folders;
+use crate::looks::{Owner, is_node, what_stands};
+use crate::stores::Unstored;
+use file_tree::Node;
 use std::fs::{OpenFile, OpenOptions, Permissions};
 use std::io::{ErrorKind, Write};
 use std::os::unix::fs::{MetadataExt, OpenOptionsExt, PermissionsExt, lchown, symlink};

@@ -4,7 +4,7 @@
 //! the bytes isn't proved.
 ghost use Rattle.std.specs.Prelude.{◌≡◌, None};
 
-use crate::sink::{Sink, SinkErr};
+use file_tree::{Sink, SinkErr};
 use std::io::{ErrorKind, Write};
 
 /// A sink that hands its pieces to a writer.

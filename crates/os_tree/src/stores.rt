@@ -2,7 +2,7 @@
 //! folders in which names changed.
 //!
 //! This layer promises: it is safe and returns. What the system stores isn't proved.
-use crate::os_folders::folder_of;
+use crate::folders::folder_of;
 use std::alloc::{AllocError, Global};
 use std::collections::BTreeSet;
 use std::fs::OpenFile;

@@ -1,5 +1,0 @@
-use Rattle.file_tree.proofs.RisingLaws.{RisesBelow}
-use Rattle.file_tree.proofs.os_looks.are_rising.Given as goal
-
-abbrev pub invariant-loop-i : goal.invariant-loop-i
-invariant-loop-i l = RisesBelow l.texts l.i

@@ -1,0 +1,2 @@
+pub mod RisingLaws
+pub mod Sayings
