@@ -9,6 +9,8 @@
 #[cfg(test)]
 mod events;
 #[cfg(test)]
+mod odd_files;
+#[cfg(test)]
 mod runs;
 #[cfg(test)]
 mod texts;

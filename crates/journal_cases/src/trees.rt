@@ -1,9 +1,11 @@
 //! Trees and sinks tried on worked cases, the real file system among them.
+use crate::odd_files::OddFiles;
 use file_tree::*;
-use os_tree::OsTree;
+use os_tree::{OsSink, OsTree};
 use std::alloc::{AllocError, Global};
+use std::fs::Permissions;
 use std::io::ErrorKind;
-use std::os::unix::fs::MetadataExt;
+use std::os::unix::fs::{MetadataExt, PermissionsExt};
 use std::process::Abort;
 use std::test::Fail;
 use std::{fs, io};
@@ -127,10 +129,10 @@ fn try_steps<T: Tree>(
 const COMMON: [(Step, &str); 26] = [
     (Step::List("tree_test", 9), "paths"),
     (Step::Read("tree_test/a", 9), "absent"),
-    (Step::Put("tree_test/a/c", 0o4666, "first"), "ok"),
+    (Step::Put("tree_test/a/c", 0o1666, "first"), "ok"),
     (Step::Put("tree_test/a.b", 0o600, "second"), "ok"),
     (Step::Link("tree_test/to", "../elsewhere"), "ok"),
-    (Step::Read("tree_test/a/c", 5), "file 4666 first"),
+    (Step::Read("tree_test/a/c", 5), "file 1666 first"),
     (Step::Read("tree_test/a/c", 3), "too large 5"),
     (Step::Read("tree_test/to", 0), "link ../elsewhere"),
     (Step::Read("tree_test/a", 9), "folder"),
@@ -293,6 +295,50 @@ fn a_file_is_put_under_one_spelling_and_a_hard_link_is_another_file(
     Ok(())
 }
 
+/// Calls on the same: a name that is gone is forgotten, and may be put under another spelling.
+const FORGOTTEN: [(Step, &str); 18] = [
+    (Step::Read("forgotten_test/in/a", 9), "file 644 first"),
+    (Step::Put("forgotten_test/by/a", 0o644, "lost"), "failed"),
+    (
+        Step::Rename("forgotten_test/in/a", "forgotten_test/in/b"),
+        "ok",
+    ),
+    (Step::Put("forgotten_test/by/a", 0o600, "second"), "ok"),
+    (Step::Put("forgotten_test/in/a", 0o600, "lost"), "failed"),
+    (Step::Put("forgotten_test/by/b", 0o600, "lost"), "failed"),
+    (Step::Read("forgotten_test/in/b", 9), "file 644 first"),
+    (Step::Remove("forgotten_test/in/b"), "ok"),
+    (Step::Put("forgotten_test/by/b", 0o600, "third"), "ok"),
+    (Step::Remove("forgotten_test/in/b"), "ok"),
+    (Step::Put("forgotten_test/in/b", 0o600, "fourth"), "ok"),
+    (
+        Step::Rename("forgotten_test/in/b", "forgotten_test/in/b"),
+        "ok",
+    ),
+    (Step::Put("forgotten_test/by/b", 0o600, "lost"), "failed"),
+    (
+        Step::Rename("forgotten_test/in/c", "forgotten_test/in/d"),
+        "ok",
+    ),
+    (
+        Step::Rename("forgotten_test/by/a", "forgotten_test"),
+        "failed",
+    ),
+    (Step::Put("forgotten_test/in/a", 0o600, "lost"), "failed"),
+    (Step::Read("forgotten_test/in/a", 9), "file 600 second"),
+    (Step::Read("forgotten_test/in/b", 9), "file 600 fourth"),
+];
+
+#[test]
+fn a_name_that_is_gone_may_be_put_under_another_spelling(rt: HostRuntime) -> Result<(), Fail> {
+    make_place(&rt, "forgotten_test")?;
+    std::os::unix::fs::symlink(&rt, "in", "forgotten_test/by")?;
+    let mut tree = OsTree::new(&rt);
+    try_steps(&rt, rt.alloc(), &mut tree, &FORGOTTEN)?;
+    fs::remove_dir_all(&rt, "forgotten_test")?;
+    Ok(())
+}
+
 /// Calls below a folder that was listed, where a link is on the way.
 const LINKED: [(Step, &str); 10] = [
     (
@@ -319,6 +365,21 @@ const LINKED: [(Step, &str); 10] = [
     ),
 ];
 
+/// The same where a file behind the link was read before the list, and one was that is put again.
+const LINKED_EARLY: [(Step, &str); 8] = [
+    (Step::Read("linked_test/by/a", 9), "file 644 first"),
+    (Step::Put("linked_test/by/b", 0o600, "second"), "ok"),
+    (Step::Put("linked_test/in/c", 0o600, "third"), "ok"),
+    (
+        Step::List("linked_test", 9),
+        "paths linked_test/by linked_test/in/a linked_test/in/b linked_test/in/c",
+    ),
+    (Step::Read("linked_test/by/a", 9), "failed"),
+    (Step::Put("linked_test/by/b", 0o600, "lost"), "failed"),
+    (Step::Remove("linked_test/by/b"), "failed"),
+    (Step::Put("linked_test/in/c", 0o600, "again"), "ok"),
+];
+
 #[test]
 fn no_link_on_the_way_is_followed_below_the_folder_of_the_first_list(
     rt: HostRuntime,
@@ -334,6 +395,8 @@ fn no_link_on_the_way_is_followed_below_the_folder_of_the_first_list(
     )?;
     let mut tree = OsTree::new(&rt);
     try_steps(&rt, rt.alloc(), &mut tree, &LINKED)?;
+    let mut tree = OsTree::new(&rt);
+    try_steps(&rt, rt.alloc(), &mut tree, &LINKED_EARLY)?;
     fs::remove_dir_all(&rt, "linked_test")?;
     Ok(())
 }
@@ -349,19 +412,51 @@ const TOO_LONG_LATER: &str =
 const LONG_LATER: &str =
     "barred_test/none/nnnnnnnnnnnnnnnnnnnnnnnnnnnnnnnnnnnnnnnnnnnnnnnnnnnnnnnnnnnnnnnnnnnnnnnnnnnnnnnnnnnnnnnnnnnnnnnnnnnnnnnnnnnnnnnnnnnnnnnnnnnnnnnnnnnnnnnnnnnnnnnnnnnnnnnnnnnnnnnnnnnnnnnnnnnnnnnnnnnnnnnnnnnnnnnnnnnnnnnnnnnnnnnnnnnnnnnnnnnnnnnnnnnnnnnnnnnnnnnnnnnnnnnnnnnnnnn";
 
-/// Looks at these names where nothing was listed.
-const UNLISTED: [(Step, &str); 2] = [
+/// Names of 143 and of 144 bytes there.
+const SURE_LATER: &str =
+    "barred_test/none/nnnnnnnnnnnnnnnnnnnnnnnnnnnnnnnnnnnnnnnnnnnnnnnnnnnnnnnnnnnnnnnnnnnnnnnnnnnnnnnnnnnnnnnnnnnnnnnnnnnnnnnnnnnnnnnnnnnnnnnnnnnnnnnnnnnnnnnnnnnnnnn";
+
+const UNSURE_LATER: &str =
+    "barred_test/none/nnnnnnnnnnnnnnnnnnnnnnnnnnnnnnnnnnnnnnnnnnnnnnnnnnnnnnnnnnnnnnnnnnnnnnnnnnnnnnnnnnnnnnnnnnnnnnnnnnnnnnnnnnnnnnnnnnnnnnnnnnnnnnnnnnnnnnnnnnnnnnnn";
+
+/// Looks at these names, at a folder with no file below it, and below a device, where nothing was listed.
+const UNLISTED: [(Step, &str); 4] = [
     (Step::Read(TOO_LONG, 0), "absent"),
     (Step::Read(TOO_LONG_LATER, 0), "absent"),
+    (Step::Read("barred_test/empty", 0), "folder"),
+    (Step::Read("/dev/full/a", 0), "absent"),
 ];
 
 /// The same below a folder that was listed.
-const LISTED: [(Step, &str); 5] = [
+const LISTED: [(Step, &str); 14] = [
     (Step::List("barred_test", 9), "paths barred_test/in/a"),
     (Step::Read(TOO_LONG, 0), "failed"),
     (Step::Read(TOO_LONG_LATER, 0), "failed"),
     (Step::Read(LONG_LATER, 0), "absent"),
     (Step::Read("barred_test/in/b", 0), "absent"),
+    (Step::Read("barred_test/in/a/b", 0), "absent"),
+    (Step::Read("barred_test/in", 0), "folder"),
+    (Step::Read("barred_test/empty", 0), "failed"),
+    (Step::Read("barred_test/empty/folder", 0), "failed"),
+    (Step::Read("barred_test/empty/none", 0), "absent"),
+    (Step::Link("barred_test/empty/folder/to", "nowhere"), "ok"),
+    (Step::Read("barred_test/empty", 0), "folder"),
+    (Step::Remove("barred_test/empty/folder/to"), "ok"),
+    (Step::Read("barred_test/empty", 0), "failed"),
+];
+
+/// Looks at a device and below it, behind a list of the folder in which it lies.
+const AT_A_DEVICE: [(Step, &str); 2] = [
+    (Step::Read("/dev/full", 0), "failed"),
+    (Step::Read("/dev/full/a", 0), "failed"),
+];
+
+/// Looks at names below a folder that was listed, where a name has 143 bytes at most.
+const LISTED_SHORT: [(Step, &str); 4] = [
+    (Step::List("barred_test", 9), "paths barred_test/in/a"),
+    (Step::Read(SURE_LATER, 0), "absent"),
+    (Step::Read(UNSURE_LATER, 0), "failed"),
+    (Step::Read(LONG_LATER, 0), "failed"),
 ];
 
 #[test]
@@ -369,25 +464,74 @@ fn what_can_be_no_file_is_a_fault_below_the_folder_of_the_first_list(
     rt: HostRuntime,
 ) -> Result<(), Fail> {
     make_place(&rt, "barred_test")?;
+    fs::create_dir_all(&rt, "barred_test/empty/folder")?;
     let mut tree = OsTree::new(&rt);
     try_steps(&rt, rt.alloc(), &mut tree, &UNLISTED)?;
     let mut tree = OsTree::new(&rt);
     try_steps(&rt, rt.alloc(), &mut tree, &LISTED)?;
     let mut tree = OsTree::new(&rt);
     let _ = tree.list("/dev", 0);
-    try_steps(
-        &rt,
-        rt.alloc(),
-        &mut tree,
-        &[(Step::Read("/dev/full", 0), "failed")],
-    )?;
+    try_steps(&rt, rt.alloc(), &mut tree, &AT_A_DEVICE)?;
+    let mut tree = OsTree::new(OddFiles { files: &rt });
+    try_steps(&rt, rt.alloc(), &mut tree, &LISTED_SHORT)?;
     fs::remove_dir_all(&rt, "barred_test")?;
     Ok(())
 }
 
+/// Reads of a file of 6 bytes that took the place of one of 4, and a put with its mode.
+const SWAPPED: [(Step, &str); 4] = [
+    (Step::Read("swapped_test/in/swapped", 3), "too large 4"),
+    (Step::Read("swapped_test/in/swapped", 5), "too large 6"),
+    (Step::Read("swapped_test/in/swapped", 6), "file 4750 opened"),
+    (Step::Put("swapped_test/put", 0o4750, "put"), "ok"),
+];
+
+/// Makes the file of these bytes, with this mode.
+fn make_file(files: &HostRuntime, path: &str, bytes: &[u8], mode: u32) -> Result<(), Fail> {
+    fs::write(files, path, bytes)?;
+    // Only the superuser gives a file away.
+    let _ = std::os::unix::fs::lchown(files, path, Some(1234), Some(5678));
+    fs::set_permissions(files, path, Permissions::from_mode(mode))?;
+    Ok(())
+}
+
+#[test]
+fn what_is_said_of_a_file_is_of_the_one_that_was_opened(rt: HostRuntime) -> Result<(), Fail> {
+    make_place(&rt, "swapped_test")?;
+    make_file(&rt, "swapped_test/in/looked", b"look", 0o640)?;
+    make_file(&rt, "swapped_test/in/swapped", b"opened", 0o4750)?;
+    let mut tree = OsTree::new(OddFiles { files: &rt });
+    try_steps(&rt, rt.alloc(), &mut tree, &SWAPPED)?;
+    let opened = fs::symlink_metadata(&rt, "swapped_test/in/swapped")?;
+    let put = fs::symlink_metadata(&rt, "swapped_test/put")?;
+    assert_eq!(rt; put.uid(), opened.uid());
+    assert_eq!(rt; put.gid(), opened.gid());
+    fs::remove_file(&rt, "swapped_test/in/swapped")?;
+    fs::create_dir(&rt, "swapped_test/in/swapped")?;
+    try_steps(
+        &rt,
+        rt.alloc(),
+        &mut tree,
+        &[(Step::Read("swapped_test/in/swapped", 6), "failed")],
+    )?;
+    fs::remove_dir_all(&rt, "swapped_test")?;
+    Ok(())
+}
+
+/// Puts of files where none was read yet: none runs as its owner or group.
+const UNOWNED: [(Step, &str); 5] = [
+    (Step::Read("owned_test/in/a", 0), "too large 5"),
+    (Step::Put("owned_test/user", 0o4755, "put"), "failed"),
+    (Step::Put("owned_test/group", 0o2711, "put"), "failed"),
+    (Step::Put("owned_test/plain", 0o1755, "put"), "ok"),
+    (
+        Step::List("owned_test", 9),
+        "paths owned_test/in/a owned_test/plain",
+    ),
+];
+
 /// Puts of files with the mode of one that was read, with and without a bit by which it runs as its owner or group.
-const OWNED: [(Step, &str); 5] = [
-    (Step::Put("owned_test/before", 0o4755, "put"), "ok"),
+const OWNED: [(Step, &str); 4] = [
     (Step::Read("owned_test/in/a", 9), "file 644 first"),
     (Step::Put("owned_test/user", 0o4755, "put"), "ok"),
     (Step::Put("owned_test/group", 0o2711, "put"), "ok"),
@@ -406,11 +550,12 @@ fn a_file_that_runs_as_its_owner_takes_the_owner_of_the_file_that_was_read(
     rt: HostRuntime,
 ) -> Result<(), Fail> {
     make_place(&rt, "owned_test")?;
+    let mut tree = OsTree::new(&rt);
+    try_steps(&rt, rt.alloc(), &mut tree, &UNOWNED)?;
     // Only the superuser gives a file away.
     if std::os::unix::fs::lchown(&rt, "owned_test/in/a", Some(1234), Some(5678)).is_ok() {
         let mut tree = OsTree::new(&rt);
         try_steps(&rt, rt.alloc(), &mut tree, &OWNED)?;
-        assert_eq!(rt; owner_text(&rt, "owned_test/before")?.as_str(), "0 0 4755");
         assert_eq!(rt;
             owner_text(&rt, "owned_test/user")?.as_str(),
             "1234 5678 4755"

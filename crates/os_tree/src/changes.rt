@@ -72,7 +72,8 @@ fn give_to<R: Files>(rt: &R, path: &str, file: &R::File, owner: Owner) -> io::Re
     }
 }
 
-/// Sets exactly this mode. A file that is to run as its owner or its group is given to the owner before.
+/// Sets exactly this mode. A file that is to run as its owner or its group is given to the owner before; it fails
+/// where none is known.
 fn set_mode<R: Files>(
     rt: &R,
     path: &str,
@@ -81,8 +82,9 @@ fn set_mode<R: Files>(
     owner: Option<Owner>,
 ) -> io::Result<()> {
     if mode & SET_ID_BITS != 0 {
-        if let Some(owner) = owner {
-            give_to(rt, path, file, owner)?;
+        match owner {
+            None => return Err(io::Error::from(ErrorKind::PermissionDenied)),
+            Some(owner) => give_to(rt, path, file, owner)?,
         }
     }
     file.set_permissions(Permissions::from_mode(mode))
@@ -175,15 +177,14 @@ pub(crate) fn ready_to_put<R: Files + AllocGlobal>(
     Ok(())
 }
 
-/// Whether a file or a link is at the path. It fails where the path lies below the root and a link is on the way to it.
+/// Whether a file or a link is at the path, whose folder is looked at. It fails where the path lies below the root
+/// and what is no folder and no file is on the way to it.
 fn holds_node<R: Files + AllocGlobal>(
     rt: &R,
     path: &str,
     folders: &mut Folders,
 ) -> io::Result<bool> {
-    if folders.is_below_root(path) {
-        folders.find(rt, path)?;
-    }
+    folders.find(rt, path)?;
     Ok(matches!(occupant_of(rt, path)?, Occupant::Node))
 }
 

@@ -15,11 +15,8 @@ use std::os::unix::fs::MetadataExt;
 use std::rt::Files;
 use std::{fs, io};
 
-/// In place of a spelling's number: the file was met under more than one.
-const VARIOUS: u64 = u64::MAX;
-
-/// Every system takes names of so many bytes.
-const USUAL_LEN: usize = 255;
+/// Every file system in use takes names of so many bytes: most take up to 255, but eCryptfs up to 143.
+const SURE_LEN: usize = 143;
 
 /// A folder that is there.
 #[derive(Clone, Copy)]
@@ -30,6 +27,17 @@ pub(crate) struct Folder {
     spelling: u64,
     // whether the names of it and of the folders above it are noted to be stored
     is_noted: bool,
+    // whether it was met before the root was known, when links on the way to any path were followed
+    is_early: bool,
+}
+
+/// Under which spellings of its folder a file was met.
+#[derive(Clone, Copy)]
+enum MetUnder {
+    /// The one with this number.
+    One(u64),
+    /// More than one.
+    Various,
 }
 
 /// The folders that were met, and the names of the files in them that were read or put.
@@ -37,7 +45,7 @@ pub(crate) struct Folder {
 pub(crate) struct Folders {
     root: Option<String>,
     known: BTreeMap<String, Folder>,
-    files: BTreeMap<(u64, u64), BTreeMap<String, u64>>,
+    files: BTreeMap<(u64, u64), BTreeMap<String, MetUnder>>,
 }
 
 /// The folder in which the path lies, as the path spells it, and the path's name there. The folder is
@@ -92,23 +100,32 @@ fn no_folder<T>() -> io::Result<T> {
     Err(io::Error::from(ErrorKind::NotADirectory))
 }
 
+/// Whether a file that was met so was met under this spelling alone.
+fn is_met_under(met: MetUnder, spelling: u64) -> bool {
+    match met {
+        MetUnder::One(first) => first == spelling,
+        MetUnder::Various => false,
+    }
+}
+
 /// Notes the name under this spelling of its folder; whether it was met under no other one.
 fn note_in(
     alloc: Global,
-    names: &mut BTreeMap<String, u64>,
+    names: &mut BTreeMap<String, MetUnder>,
     name: &str,
     spelling: u64,
 ) -> Result<bool, AllocError> {
     match names.get_mut(name) {
-        Some(first) => {
-            if *first != spelling {
-                *first = VARIOUS;
+        Some(met) => {
+            if is_met_under(*met, spelling) {
+                return Ok(true);
             }
-            return Ok(*first == spelling);
+            *met = MetUnder::Various;
+            return Ok(false);
         }
         None => {}
     }
-    names.insert(String::from_str(alloc, name)?, spelling)?;
+    names.insert(String::from_str(alloc, name)?, MetUnder::One(spelling))?;
     Ok(true)
 }
 
@@ -141,7 +158,23 @@ impl Folders {
         }
     }
 
-    /// Tries those names of the path that no system may take, in the root: it fails where they are too long.
+    /// The folder, if it was met. Below the root what was met before the root was known doesn't count: links
+    /// may be on the way to it.
+    fn met(&self, folder: &str) -> Option<Folder> {
+        match self.known.get(folder) {
+            None => None,
+            Some(known) => {
+                if known.is_early && self.is_below_root(folder) {
+                    None
+                } else {
+                    Some(*known)
+                }
+            }
+        }
+    }
+
+    /// Tries those names of the path that a file system may not take, in the root: it fails where they are too
+    /// long.
     pub(crate) fn try_long_names<R: Files + AllocGlobal>(
         &self,
         rt: &R,
@@ -149,7 +182,7 @@ impl Folders {
     ) -> io::Result<()> {
         if let Some(root) = &self.root {
             for name in path.split('/') {
-                if name.len() > USUAL_LEN {
+                if name.len() > SURE_LEN {
                     let tried = format!(in rt.alloc(); "{root}/{name}")?;
                     what_stands(rt, tried.as_str())?;
                 }
@@ -158,7 +191,7 @@ impl Folders {
         Ok(())
     }
 
-    /// Keeps what was found of the folder.
+    /// Keeps what was found of the folder. A spelling keeps its number.
     pub(crate) fn know(
         &mut self,
         alloc: Global,
@@ -175,13 +208,15 @@ impl Folders {
             inode: found.ino(),
             spelling,
             is_noted,
+            is_early: self.root.is_none(),
         };
         self.known
             .insert(String::from_str(alloc, folder)?, folder_found)?;
         Ok(folder_found)
     }
 
-    /// Looks at the folder: nothing where none is there. Below the root it fails where a link is there.
+    /// Looks at the folder: nothing where none is there. Below the root it fails where what is there is no
+    /// folder and no file, as a link, a pipe or a device.
     fn look<R: Files + AllocGlobal>(&mut self, rt: &R, folder: &str) -> io::Result<Option<Folder>> {
         let stands = if self.is_below_root(folder) {
             what_stands(rt, folder)?
@@ -193,7 +228,7 @@ impl Folders {
             Some(found) => {
                 if found.is_dir() {
                     Ok(Some(self.know(rt.alloc(), folder, &found, false)?))
-                } else if found.is_symlink() {
+                } else if self.is_below_root(folder) && !found.is_file() {
                     no_folder()
                 } else {
                     Ok(None)
@@ -208,9 +243,8 @@ impl Folders {
         rt: &R,
         folder: &str,
     ) -> io::Result<Option<Folder>> {
-        match self.known.get(folder) {
-            Some(known) => return Ok(Some(*known)),
-            None => {}
+        if let Some(known) = self.met(folder) {
+            return Ok(Some(known));
         }
         self.look(rt, folder)
     }
@@ -237,16 +271,15 @@ impl Folders {
     }
 
     /// The folder in which the path lies, if it is there. It fails where the path lies below the root and
-    /// a link is on the way.
+    /// what is no folder and no file is on the way.
     pub(crate) fn find<R: Files + AllocGlobal>(
         &mut self,
         rt: &R,
         path: &str,
     ) -> io::Result<Option<Folder>> {
         let folder = cut(path).0;
-        match self.known.get(folder) {
-            Some(known) => return Ok(Some(*known)),
-            None => {}
+        if let Some(known) = self.met(folder) {
+            return Ok(Some(known));
         }
         if self.is_below_root(folder) {
             self.find_below_root(rt, folder)
@@ -279,13 +312,10 @@ impl Folders {
         folder: &str,
         unstored: &mut Unstored<R>,
     ) -> io::Result<Folder> {
-        match self.known.get(folder) {
-            Some(known) => {
-                if known.is_noted {
-                    return Ok(*known);
-                }
+        if let Some(known) = self.met(folder) {
+            if known.is_noted {
+                return Ok(known);
             }
-            None => {}
         }
         let made = match self.look(rt, folder)? {
             None => self.make_new(rt, folder, unstored)?,
@@ -309,13 +339,10 @@ impl Folders {
         folder: &str,
         unstored: &mut Unstored<R>,
     ) -> io::Result<Folder> {
-        match self.known.get(folder) {
-            Some(known) => {
-                if known.is_noted {
-                    return Ok(*known);
-                }
+        if let Some(known) = self.met(folder) {
+            if known.is_noted {
+                return Ok(known);
             }
-            None => {}
         }
         let first = if folder.starts_with('/') { "/" } else { "" };
         let mut above = match self.met_or_look(rt, first)? {
@@ -362,6 +389,34 @@ impl Folders {
         Ok(())
     }
 
+    /// Forgets the name of a file that was taken away, where its folder was met.
+    pub(crate) fn forget(&mut self, path: &str) {
+        let (folder, name) = cut(path);
+        if let Some(folder) = self.met(folder) {
+            if let Some(names) = self.files.get_mut(&(folder.device, folder.inode)) {
+                names.remove(name);
+            }
+        }
+    }
+
+    /// Whether both paths are one name in one folder, which was met.
+    fn are_one(&self, path: &str, other: &str) -> bool {
+        let ((folder, name), (other_folder, other_name)) = (cut(path), cut(other));
+        match (self.met(folder), self.met(other_folder)) {
+            (Some(one), Some(two)) => {
+                one.device == two.device && one.inode == two.inode && name == other_name
+            }
+            _ => false,
+        }
+    }
+
+    /// Forgets the name of a file that was moved, unless the file still has it.
+    pub(crate) fn forget_moved(&mut self, from: &str, to: &str) {
+        if !self.are_one(from, to) {
+            self.forget(from);
+        }
+    }
+
     /// Notes the file of this name in the folder; whether it was met under no other spelling.
     fn note(&mut self, alloc: Global, folder: Folder, name: &str) -> Result<bool, AllocError> {
         let key = (folder.device, folder.inode);
@@ -370,7 +425,10 @@ impl Folders {
             None => {}
         }
         let mut names = BTreeMap::new(alloc);
-        names.insert(String::from_str(alloc, name)?, folder.spelling)?;
+        names.insert(
+            String::from_str(alloc, name)?,
+            MetUnder::One(folder.spelling),
+        )?;
         self.files.insert(key, names)?;
         Ok(true)
     }

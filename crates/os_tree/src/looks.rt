@@ -10,7 +10,7 @@ use crate::folders::Folders;
 use crate::stores::Unstored;
 use file_tree::{Blob, Found, Listed, Paths, Text};
 use std::cmp::Ordering;
-use std::fs::Metadata;
+use std::fs::{Metadata, OpenFile};
 use std::io::{ErrorKind, Read};
 use std::os::unix::fs::{MetadataExt, PermissionsExt};
 use std::rt::Files;
@@ -42,9 +42,48 @@ pub(crate) fn is_node(found: &Metadata) -> bool {
     found.is_file() || found.is_symlink()
 }
 
+/// Whether a file or a link lies in the folder, not below those in it. These are added to the ones that are to be
+/// searched.
+fn has_node<R: Files + AllocGlobal + Clone + Drop>(
+    rt: &R,
+    folder: &str,
+    to_search: &mut Vec<String>,
+) -> io::Result<bool> {
+    for entry in fs::read_dir(rt, folder)? {
+        let entry = entry?;
+        let found = entry.metadata()?;
+        if is_node(&found) {
+            return Ok(true);
+        }
+        if found.is_dir() {
+            let name = entry.file_name();
+            to_search.push(format!(in rt.alloc(); "{folder}/{name}")?)?;
+        }
+    }
+    Ok(false)
+}
+
+/// Whether a file or a link lies below the folder, at any depth.
+fn has_node_below<R: Files + AllocGlobal + Clone + Drop>(rt: &R, folder: &str) -> io::Result<bool> {
+    let mut to_search = Vec::new(rt.alloc());
+    to_search.push(String::from_str(rt.alloc(), folder)?)?;
+    for _ in 0..u64::MAX {
+        match to_search.pop() {
+            None => break,
+            Some(next) => {
+                if has_node(rt, next.as_str(), &mut to_search)? {
+                    return Ok(true);
+                }
+            }
+        }
+    }
+    Ok(false)
+}
+
 /// What a read meets at a path below the root. What can't become a file is no answer there: what is
-/// neither a file, a link nor a folder, and a name that is too long, also where its folder isn't there yet.
-fn stands_below_root<R: Files + AllocGlobal>(
+/// neither a file, a link nor a folder, a folder with no file and no link below it, which is none to a tree,
+/// and a name that is too long, also where its folder isn't there yet.
+fn stands_below_root<R: Files + AllocGlobal + Clone + Drop>(
     rt: &R,
     path: &str,
     folders: &mut Folders,
@@ -58,7 +97,7 @@ fn stands_below_root<R: Files + AllocGlobal>(
             Ok(None)
         }
         Some(found) => {
-            if is_node(&found) || found.is_dir() {
+            if is_node(&found) || found.is_dir() && has_node_below(rt, path)? {
                 Ok(Some(found))
             } else {
                 Err(io::Error::from(ErrorKind::AlreadyExists))
@@ -78,26 +117,29 @@ fn stands_elsewhere<R: Files>(rt: &R, path: &str) -> io::Result<Option<Metadata>
     }
 }
 
-/// Reads a file that has at most `limit` bytes. Its owner is kept where it is given whole; with a limit of
-/// 0 it is only looked at.
+/// Reads a file that has at most `limit` bytes. Length, owner and mode are those of the file that was opened: it
+/// fails where that is no plain file any more. The owner is kept where the file is given whole; with a limit of 0
+/// it is only looked at.
 fn read_file<R: Files + AllocGlobal>(
     rt: &R,
     path: &str,
-    found: &Metadata,
     limit: u64,
     owner: &mut Option<Owner>,
 ) -> io::Result<Found>
     ensures { IfOk result (IsWithin limit) }
 {
+    let file = fs::open(rt, path)?;
+    let found = file.metadata()?;
+    if !found.is_file() {
+        return Err(io::Error::from(ErrorKind::InvalidInput));
+    }
     if found.len() > limit {
         return Ok(Found::TooLarge { size: found.len() });
     }
     // A byte more than the file has: its end is met without moving what was read to a larger place.
     let room = (found.len() as usize).saturating_add(1);
     let mut bytes = Vec::with_capacity(rt.alloc(), room)?;
-    fs::open(rt, path)?
-        .take(limit.saturating_add(1))
-        .read_to_end(&mut bytes)?;
+    file.take(limit.saturating_add(1)).read_to_end(&mut bytes)?;
     if bytes.len() as u64 > limit {
         let size = bytes.len() as u64;
         return Ok(Found::TooLarge { size });
@@ -115,7 +157,8 @@ fn read_file<R: Files + AllocGlobal>(
     })
 }
 
-/// What is at the path where this stands.
+/// What is at the path where this stands. A file that is too large isn't opened, so that a look at one needs no
+/// leave to read it.
 fn read_found<R: Files + AllocGlobal>(
     rt: &R,
     path: &str,
@@ -132,14 +175,17 @@ fn read_found<R: Files + AllocGlobal>(
         let target = Text::copy_of(rt.alloc(), target.as_str())?;
         Ok(Found::Link { target })
     } else if found.is_file() {
-        read_file(rt, path, found, limit, owner)
+        if found.len() > limit {
+            return Ok(Found::TooLarge { size: found.len() });
+        }
+        read_file(rt, path, limit, owner)
     } else {
         Ok(Found::Absent)
     }
 }
 
 /// What is at the path.
-pub(crate) fn read_at<R: Files + AllocGlobal>(
+pub(crate) fn read_at<R: Files + AllocGlobal + Clone + Drop>(
     rt: &R,
     path: &str,
     limit: u64,

@@ -120,6 +120,9 @@ impl<R: Files + AllocGlobal + Clone + Drop> Tree for OsTree<R> {
             return Ok(());
         }
         let renamed = fs::rename(&self.rt, from, to);
+        if renamed.is_ok() {
+            self.folders.forget_moved(from, to);
+        }
         self.done(renamed)
     }
 
@@ -129,6 +132,9 @@ impl<R: Files + AllocGlobal + Clone + Drop> Tree for OsTree<R> {
             return Ok(());
         }
         let removed = fs::remove_file(&self.rt, path);
+        if removed.is_ok() {
+            self.folders.forget(path);
+        }
         self.done(removed)
     }
 
