@@ -10,7 +10,7 @@
 ghost use Rattle.std.specs.Prelude.{◌≤◌, length, OnOk};
 ghost use Rattle.dw_base.specs.Layout.{output_limit};
 
-use dbg_job::{Options, Outcome, outcome};
+use dbg_job::{Options, Outcome, Verdict, outcome, verdict};
 use dbg_split::split;
 use dw_base::{Fault, OUTPUT_LIMIT};
 use std::alloc::Global;
@@ -71,4 +71,19 @@ pub fn become_of(
         return Err(Fault::NoMemory);
     }
     outcome(alloc, bytes, options, name)
+}
+
+/// What is said of that file before its outputs are made.
+pub fn said_of(
+    alloc: Global,
+    bytes: &[u8],
+    options: &Options,
+    name: &[u8],
+) -> Result<Verdict, Fault>
+    ensures small { OnOk result (length bytes.now ≤ output_limit) }
+{
+    if OUTPUT_LIMIT < bytes.len() as u64 {
+        return Err(Fault::NoMemory);
+    }
+    verdict(alloc, bytes, options, name)
 }

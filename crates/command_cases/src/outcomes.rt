@@ -1,13 +1,13 @@
 //! What becomes of files of a build root. The expected reasons, refusals, ids and sums are another program's.
-use crate::become_of;
 use crate::split_files::{STRIPPED, WHOLE};
 use crate::splits::{joined, put};
+use crate::{become_of, said_of};
 use dbg_job::{LeftWhy, Options, Outcome};
 use debug_link::crc32;
 use dw_base::{Fault, Kind, Refusal};
 use dw_paths::Maps;
 use file_tree::Blob;
-use job_types::MOST_FILE;
+use job_types::{MOST_FILE, Verdict};
 use std::alloc::Global;
 use std::process::Abort;
 use std::test::Fail;
@@ -59,6 +59,10 @@ fn a_file_is_left_by_the_first_rule_that_applies(rt: HostRuntime) -> Result<(), 
             Ok(Outcome::Left(found)) => assert_eq!(rt; found, *why, "{}", *shows),
             _ => assert!(rt; false, "it is left: {}", *shows),
         }
+        match said_of(alloc, &bytes, &options, b"a.debug") {
+            Ok(Verdict::Left(found)) => assert_eq!(rt; found, *why, "{}", *shows),
+            _ => assert!(rt; false, "it is said to be left: {}", *shows),
+        }
     }
     Ok(())
 }
@@ -70,6 +74,10 @@ fn a_file_that_is_not_left_is_refused_as_by_an_edit(rt: HostRuntime) -> Result<(
     let bytes = joined(alloc, WHOLE)?;
     assert_eq!(rt;
         become_of(alloc, &bytes, &options, b"a.debug").err(),
+        Some(Fault::Refused(Refusal::at(Kind::Unit, 4, 0)))
+    );
+    assert_eq!(rt;
+        said_of(alloc, &bytes, &options, b"a.debug").err(),
         Some(Fault::Refused(Refusal::at(Kind::Unit, 4, 0)))
     );
     Ok(())
@@ -106,6 +114,21 @@ fn assert_split(rt: &impl Abort, shows: &str, outcome: &Outcome, wanted: Split) 
     }
 }
 
+/// Asserts that a file is said to be split, with this build-id and no sources.
+fn assert_said(rt: &impl Abort, shows: &str, verdict: &Verdict, wanted: Split) {
+    let (_, build_id, _, _) = wanted;
+    match verdict {
+        Verdict::Split {
+            id: Some(id),
+            sources,
+        } => {
+            assert_eq!(rt; id.as_slice(), build_id, "{}", shows);
+            assert!(rt; sources.as_slice().is_empty(), "{}", shows);
+        }
+        _ => assert!(rt; false, "it is said to be split: {}", shows),
+    }
+}
+
 #[test]
 fn a_file_that_is_loaded_is_edited_and_split(rt: HostRuntime) -> Result<(), Fail> {
     let alloc = rt.alloc();
@@ -118,6 +141,8 @@ fn a_file_that_is_loaded_is_edited_and_split(rt: HostRuntime) -> Result<(), Fail
         put(&mut bytes, 255, b'h');
         let outcome = become_of(alloc, &bytes, &options, b"a.debug")?;
         assert_split(&rt, shows, &outcome, wanted);
+        let verdict = said_of(alloc, &bytes, &options, b"a.debug")?;
+        assert_said(&rt, shows, &verdict, wanted);
     }
     Ok(())
 }

@@ -3,6 +3,7 @@ pub mod EditedLaws
 pub mod FixedEndLaws
 pub mod IdKeptLaws
 pub mod IdPlaceLaws
+pub mod JudgedLaws
 pub mod LeavingLaws
 pub mod MadeLaws
 pub mod MappedKeptLaws

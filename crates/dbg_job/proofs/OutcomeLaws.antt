@@ -1,9 +1,9 @@
 -- What becomes of a file: what is given is its outcome and keeps what it means, what is refused has a row, and no row holds where something
 -- is given.
-use Rattle.std.proofs.Common.{Bool, true, false, ◌≡◌, ℕ, ◌==◌, nat_le, List, length, Option, sym, ap, ◌∙◌, refl, subst, arith}
+use Rattle.std.proofs.Common.{Bool, true, false, ◌≡◌, ℕ, ◌==◌, nat_le, List, length, Option, sym, ◌∙◌, refl, subst, arith}
 use Rattle.std.proofs.lemmas.Bool.{le-leb}
 use Rattle.dw_base.specs.Elf.{class_of}
-use Rattle.dw_base.specs.ElfFails.{ElfFails, ElfReads}
+use Rattle.dw_base.specs.ElfFails.{ElfReads}
 use Rattle.dw_base.specs.Layout.{is_loaded_kind}
 use Rattle.dw_base.specs.LayoutReads.{is_known_kind}
 use Rattle.dw_base.specs.Numbers.{spelled}
@@ -26,26 +26,20 @@ use Rattle.dw_meaning.specs.Loaded.{LoadedKept}
 use Rattle.dw_meaning.specs.RelocationFails.{RelocationsReadIn}
 use Rattle.dw_view.specs.PairViews.{pair_view}
 use Rattle.dw_view.specs.Pairs.{IsPaired}
-use Rattle.build_ident.specs.IdFails.{IdFails}
-use Rattle.dbg_split.specs.DebugFile.{debug_file}
 use Rattle.dbg_split.specs.PairMeanings.{MeansAsOne, ReadApart}
 use Rattle.dbg_split.specs.SplitFails.{SplitFails}
 use Rattle.dbg_split.specs.SplitFails.SplitFails.{elf as elf_fails, long_debug as debug_fails, long_stripped as stripped_fails, shape as shape_fails}
-use Rattle.dbg_split.specs.StrippedFile.{stripped_file}
 use Rattle.job_types.specs.Settings.{Settings}
 use Rattle.job_types.specs.declared.outcome.LeftWhy.{LeftWhy}
-use Rattle.job_types.specs.declared.outcome.LeftWhy.TheVariants.{NoElf}
 use Rattle.job_types.specs.declared.outcome.Outcome.{Outcome}
 use Rattle.job_types.specs.declared.outcome.Outcome.TheVariants as outcome
-use Rattle.dbg_job.specs.EditedFiles.{EditedFails, IsEditOf, IsEditable, IsEdited}
+use Rattle.dbg_job.specs.EditedFiles.{IsEditable, IsEdited}
 use Rattle.dbg_job.specs.Leaving.{IsLeft, IsTaken, begins_as_elf, has_link, has_work}
 use Rattle.dbg_job.specs.Leaving.IsLeft.{no_elf, other_type, linked, nothing}
-use Rattle.dbg_job.specs.NewIds.{IdFits, id_bytes}
-use Rattle.dbg_job.specs.Outcomes.{AreSourcesOf, IsMade, IsOutcome, IsSplitOf, OutcomeFails, OutcomeKeeps, PairFails, PairKeeps, PairTooLong}
-use Rattle.dbg_job.specs.Outcomes.IsMade.{left as made_left, edited as made_edited, split as made_split}
-use Rattle.dbg_job.specs.Outcomes.IsOutcome.{left as is_left, edited as is_edited, split as is_split}
+use Rattle.dbg_job.specs.NewIds.{IdFits}
+use Rattle.dbg_job.specs.Outcomes.{OutcomeFails, OutcomeKeeps, PairFails, PairKeeps, PairTooLong}
 use Rattle.dbg_job.specs.Outcomes.OutcomeFails.{elf as elf_row, edit as edit_row, pair as pair_row}
-use Rattle.dbg_job.specs.Outcomes.OutcomeKeeps.{left as keeps_left, edited as keeps_edited, split as keeps_split}
+use Rattle.dbg_job.specs.Outcomes.OutcomeKeeps.{split as keeps_split}
 use Rattle.dbg_job.specs.Outcomes.PairFails.{id as id_row, long as long_row, shape as shape_row}
 use Rattle.dbg_job.specs.Outcomes.PairTooLong.{debug as long_debug, stripped as long_stripped}
 use Rattle.dbg_job.specs.SameSections.{SameSections}
@@ -101,17 +95,6 @@ split-excludes s b name file taken w fits kept sections only none r (pair_row is
 
 -- ### What is refused
 
-pub refused-elf : (s : Settings) (b name : List ℕ) (f : Fault) (t : Bool) → t ≡ begins_as_elf b → t ≡ true → Blames (ElfFails b) f → Blames (OutcomeFails s b name) f
-refused-elf s b name NoMemory t is begins h = tt
-refused-elf s b name (Refused r) t is begins h = elf_row (sym is ∙ begins) h
-
-pub refused-edit : (s : Settings) (b name : List ℕ) (f : Fault) → IsTaken b → Blames (EditedFails s b) f → Blames (OutcomeFails s b name) f
-refused-edit s b name NoMemory taken h = tt
-refused-edit s b name (Refused r) taken h = edit_row taken h
-
-pub refused-id : (s : Settings) (b name : List ℕ) (r : Refusal) → IsTaken b → is_loaded_kind b ≡ true → IdFails b r → OutcomeFails s b name r
-refused-id s b name r taken loaded h = pair_row taken loaded (id_row h)
-
 split-row : (s : Settings) (b name file : List ℕ) (r : Refusal) → IsTaken b → is_loaded_kind b ≡ true → IsEdited s b file → ElfReads file → SameSections b file
     → SplitFails file name r → PairFails s b name r
 split-row s b name file r taken loaded is reads sections (elf_fails h) = absurd (elf_excludes file r reads h)
@@ -124,11 +107,6 @@ pub refused-split : (s : Settings) (b name file : List ℕ) (f : Fault) → IsTa
 refused-split s b name file NoMemory taken loaded is kept sections h = tt
 refused-split s b name file (Refused r) taken loaded is kept sections h =
     pair_row taken loaded (split-row s b name file r taken loaded is kept.new.reads.elf sections h)
-
-pub refused-parts : (s : Settings) (b name file x : List ℕ) (f : Fault) → IsTaken b → is_loaded_kind b ≡ true → IsEdited s b file → MeaningKept s.maps b file
-    → SameSections b file → x ≡ file → Blames (SplitFails x name) f → Blames (OutcomeFails s b name) f
-refused-parts s b name file x f taken loaded is kept sections same h =
-    refused-split s b name file f taken loaded is kept sections (subst (λ (y : List ℕ). Blames (SplitFails y name) f) same h)
 
 -- ### What is kept
 
@@ -153,15 +131,7 @@ pair-keeps m b file debug stripped kept one = record {
 view-reads : (m : PathMap) (b file : List ℕ) → MeaningKept m b file → ViewReads file
 view-reads m b file kept = record { sections = kept.new.reads.names; relocations = kept.new.reads.relocations.sections }
 
--- the outcome of a pair
-pub split-is : (s : Settings) (b name file stripped debug : List ℕ) (id : Option (List ℕ)) (names : List (List ℕ)) (o : Outcome) → IsTaken b → is_loaded_kind b ≡ true
-    → IsEdited s b file → AreSourcesOf s b names → stripped ≡ stripped_file file name → debug ≡ debug_file file → id ≡ id_bytes file
-    → o ≡ outcome.Split stripped debug id names → IsOutcome s b name o
-split-is s b name file stripped debug id names o taken loaded is sources strips debugs ids made =
-    subst (IsOutcome s b name) (sym (made ∙ ap (λ (x : List ℕ). outcome.Split x debug id names) strips ∙ ap (λ (x : List ℕ). outcome.Split (stripped_file file name) x id names) debugs
-    ∙ ap (λ (x : Option (List ℕ)). outcome.Split (stripped_file file name) (debug_file file) x names) ids))
-    (is_split taken loaded is sources)
-
+-- the two files of a pair
 pub split-keeps : (m : PathMap) (b name file stripped debug : List ℕ) (id : Option (List ℕ)) (names : List (List ℕ)) (o : Outcome) → MeaningKept m b file → LoadedKept b file
     → MeansAsOne file debug stripped → ReadApart file debug stripped → (has_nul name ≡ false → IsPaired stripped debug name) → LoadedKept file stripped
     → o ≡ outcome.Split stripped debug id names → OutcomeKeeps m b name o
@@ -169,48 +139,3 @@ split-keeps m b name file stripped debug id names o kept loaded one read paired 
     subst (OutcomeKeeps m b name) (sym made)
     (keeps_split (pair-keeps m b file debug stripped kept one) (read.debug_reads (view-reads m b file kept)) (read.stripped_reads (view-reads m b file kept))
     (record { same = here.same ∙ loaded.same }) paired)
-
-pub made-split : (s : Settings) (b name file stripped debug : List ℕ) (id : Option (List ℕ)) (names : List (List ℕ)) (o : Outcome) → IsTaken b → is_loaded_kind b ≡ true
-    → IdFits b → IsEditOf s b file → IsSplitOf file name → AreSourcesOf s b names → stripped ≡ stripped_file file name → debug ≡ debug_file file → id ≡ id_bytes file
-    → o ≡ outcome.Split stripped debug id names → IsMade s b name o
-made-split s b name file stripped debug id names o taken loaded fits is parts sources strips debugs ids made =
-    subst (IsMade s b name) (sym (made ∙ ap (λ (x : List ℕ). outcome.Split x debug id names) strips ∙ ap (λ (x : List ℕ). outcome.Split (stripped_file file name) x id names) debugs
-    ∙ ap (λ (x : Option (List ℕ)). outcome.Split (stripped_file file name) (debug_file file) x names) ids))
-    (made_split taken loaded fits is parts sources)
-
--- and that of an edited file
-pub edited-is : (s : Settings) (b name file bytes : List ℕ) (names : List (List ℕ)) → IsTaken b → is_loaded_kind b ≡ false → IsEdited s b file → AreSourcesOf s b names
-    → bytes ≡ file → IsOutcome s b name (outcome.Edited bytes names)
-edited-is s b name file bytes names taken free is sources same =
-    subst (λ (x : List ℕ). IsOutcome s b name (outcome.Edited x names)) (sym same) (is_edited taken free is sources)
-
-pub edited-keeps : (m : PathMap) (b name file bytes : List ℕ) (names : List (List ℕ)) → MeaningKept m b file → LoadedKept b file → bytes ≡ file
-    → OutcomeKeeps m b name (outcome.Edited bytes names)
-edited-keeps m b name file bytes names kept loaded same =
-    subst (λ (x : List ℕ). OutcomeKeeps m b name (outcome.Edited x names)) (sym same) (keeps_edited kept loaded)
-
-pub made-edited : (s : Settings) (b name file bytes : List ℕ) (names : List (List ℕ)) → IsTaken b → is_loaded_kind b ≡ false → IsEditOf s b file → AreSourcesOf s b names
-    → bytes ≡ file → IsMade s b name (outcome.Edited bytes names)
-made-edited s b name file bytes names taken free is sources same =
-    subst (λ (x : List ℕ). IsMade s b name (outcome.Edited x names)) (sym same) (made_edited taken free is sources)
-
-pub ruleset edited_rules = (refused-edit, edited-excludes, edited-is, edited-keeps, made-edited)
-
-pub ruleset split_rules = (refused-id, refused-edit, refused-split, split-excludes, split-is, split-keeps)
-
--- a file that is left
-pub left-is : (s : Settings) (b name : List ℕ) (why : LeftWhy) → IsLeft b why → IsOutcome s b name (outcome.Left why)
-left-is s b name why is = is_left is
-
-pub left-keeps : (m : PathMap) (b name : List ℕ) (why : LeftWhy) → OutcomeKeeps m b name (outcome.Left why)
-left-keeps m b name why = keeps_left
-
-pub made-left : (s : Settings) (b name : List ℕ) (why : LeftWhy) → IsLeft b why → IsMade s b name (outcome.Left why)
-made-left s b name why is = made_left is
-
-pub ruleset read_rules = (left-is, left-keeps, left-excludes, made-left)
-
-pub no-elf : (b : List ℕ) (t : Bool) → t ≡ begins_as_elf b → t ≡ false → IsLeft b NoElf
-no-elf b t is none = no_elf (sym is ∙ none)
-
-pub ruleset whole_rules = (refused-elf, no-elf, left-is, left-keeps, left-excludes, made-left)

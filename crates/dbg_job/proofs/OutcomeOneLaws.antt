@@ -77,5 +77,3 @@ outcome-one s b name _ _ (is_split {file = f} {names = ns} taken loaded is sourc
 -- so what is given is the only one
 pub only-one : (s : Settings) (b name : List ℕ) (o : Outcome) → IsOutcome s b name o → (p : Outcome) → IsOutcome s b name p → p ≡ o
 only-one s b name o is p other = outcome-one s b name p o other is
-
-pub ruleset only_rules = (only-one)

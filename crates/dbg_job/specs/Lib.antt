@@ -3,3 +3,4 @@ pub mod EditedFiles
 pub mod SameSections
 pub mod Leaving
 pub mod Outcomes
+pub mod Judged

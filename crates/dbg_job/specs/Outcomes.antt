@@ -22,9 +22,11 @@ use Rattle.dbg_split.specs.PairMeanings.{ViewMeans}
 use Rattle.dbg_split.specs.SplitFails.{SplitFails, Unsplittable}
 use Rattle.dbg_split.specs.StrippedFile.{stripped_file}
 use Rattle.job_types.specs.Settings.{Settings}
+use Rattle.job_types.specs.Verdicts.{verdict_of}
 use Rattle.job_types.specs.declared.outcome.LeftWhy.{LeftWhy}
 use Rattle.job_types.specs.declared.outcome.Outcome.{Outcome}
 use Rattle.job_types.specs.declared.outcome.Outcome.TheVariants as outcome
+use Rattle.job_types.specs.declared.outcome.Verdict.{Verdict}
 use Rattle.dbg_job.specs.EditedFiles.{EditedFails, IsEditOf, IsEdited}
 use Rattle.dbg_job.specs.Leaving.{IsLeft, IsTaken, begins_as_elf}
 use Rattle.dbg_job.specs.NewIds.{IdFits, id_bytes}
@@ -55,6 +57,12 @@ pub data IsMade (s : Settings) (b name : List ℕ) : Outcome → Type 0 where
       → IsMade s b name (outcome.Edited file names)
   split : {file : List ℕ} {names : List (List ℕ)} → IsTaken b → is_loaded_kind b ≡ true → IdFits b → IsEditOf s b file → IsSplitOf file name
       → AreSourcesOf s b names → IsMade s b name (outcome.Split (stripped_file file name) (debug_file file) (id_bytes file) names)
+
+-- this is said of a file whose debug file is to have this name: what becomes of it says so
+pub record IsSaid (s : Settings) (b name : List ℕ) (verdict : Verdict) : Type 0 where
+  pub outcome : Outcome
+  pub made : IsMade s b name outcome
+  pub says : verdict_of outcome ≡ verdict
 
 -- one of the two files that a file is split into would be too long
 pub data PairTooLong (file name : List ℕ) : Refusal → Type 0 where

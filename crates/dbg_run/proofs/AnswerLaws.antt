@@ -1,15 +1,15 @@
 -- What the run over a root promises over any judge, of the judge of files.
-use Rattle.std.proofs.Common.{◌≡◌, ℕ, ◌≤◌, true, List, length, subst, ◌⊎◌}
+use Rattle.std.proofs.Common.{◌≡◌, ℕ, true, List, subst, ◌⊎◌}
 use Rattle.std.specs.Prelude.{Some, Result, Ok, Err, IfErr, IfOk, IsTrue}
 use Rattle.dbg_job.specs.EditedFiles.{EditedFails}
 use Rattle.dbg_job.specs.Outcomes.{OutcomeFails}
 use Rattle.dbg_split.specs.SplitFails.{SplitFails}
 use Rattle.file_tree.specs.Causes.{Rose}
 use Rattle.file_tree.specs.Seen.{Seen, map_now, now_of}
-use Rattle.file_tree.specs.Trees.{TreeMap, keys_below}
+use Rattle.file_tree.specs.Trees.{TreeMap}
 use Rattle.job_types.specs.Settings.{Settings}
 use Rattle.journal_core.specs.Table.{CoreState}
-use Rattle.root_plan.specs.Roots.{most_paths, work_folder}
+use Rattle.root_plan.specs.Roots.{work_folder}
 use Rattle.file_judge.specs.FileJudges.{file_view}
 use Rattle.root_run.specs.declared.run_err.RunErr.{RunErr}
 use Rattle.root_run.specs.Cores.{LeadsTo, SettlesFew, ShowsCore}
@@ -40,8 +40,7 @@ pub record Answered (root : List ℕ) (o s : Settings) (jobs : ℕ) (old new : S
   pub exact : (t : TreeMap) (n : ℕ) → now_of old ≡ Some t → RunDue root (work_folder root) o (file_view s) (OutcomeFails s) t n
       → (answer_status result ≡ n) ⊎ RunCut root (work_folder root) o (file_view s) (OutcomeFails s) t (answer_status result)
   pub completes : (start : TreeMap) → IsUnderway start root (work_folder root) o (file_view s) (OutcomeFails s) old
-      → IsUnopposed start root o (file_view s) (OutcomeFails s) → length (keys_below (map_now old.past) root) ≤ most_paths
-      → (Rose old.faults new.faults → ⊥) → IfErr result (λ e. run_status e ≡ 13)
+      → IsUnopposed start root o (file_view s) (OutcomeFails s) → (Rose old.faults new.faults → ⊥) → IfErr result (λ e. run_status e ≡ 13)
   pub below : OnlyBelow root (now_of old) (now_of new)
   pub tells : new.tells ≡ old.tells
 
@@ -73,7 +72,7 @@ answered_ran root o s jobs old new result same answered =
       fault = a.fault;
       due = a.due;
       comes = a.exact;
-      completes = λ u. a.completes u.start u.underway u.unopposed u.few;
+      completes = λ u. a.completes u.start u.underway u.unopposed;
       below = a.below;
       tells = a.tells;
     }

@@ -1,6 +1,6 @@
 -- The command `run` over a build root: how it ends, when it is done, what it keeps, whichever start it is, and what keeps it from being done.
 -- This project's profile.
-use Rattle.std.specs.Prelude.{◌≡◌, ◌≢◌, ◌⊎◌, ◌++◌, ◌<◌, ◌≤◌, ℕ, true, false, List, length, map, Option, Some, Result, IfErr, IfOk, IsTrue, is_some}
+use Rattle.std.specs.Prelude.{◌≡◌, ◌≢◌, ◌⊎◌, ◌++◌, ◌<◌, ℕ, true, false, List, length, map, Option, Some, Result, IfErr, IfOk, IsTrue, is_some}
 use Rattle.std.specs.Option.{ForSome}
 use Rattle.std.specs.FinMap as fin
 use Rattle.dw_base.specs.Paths.{PathMap}
@@ -12,7 +12,7 @@ use Rattle.file_tree.specs.declared.node.Node.TheVariants as node
 use Rattle.file_tree.specs.Causes.{Rose}
 use Rattle.file_tree.specs.Heard.{Heard, Said, grown}
 use Rattle.file_tree.specs.Seen.{Seen, Past, Happened, map_now, now_of}
-use Rattle.file_tree.specs.Trees.{TreeMap, is_below, keys_below}
+use Rattle.file_tree.specs.Trees.{TreeMap, is_below}
 use Rattle.job_types.specs.Modes.{not_executable}
 use Rattle.job_types.specs.Settings.{Settings}
 use Rattle.journal_core.specs.declared.event.Phase.TheVariants.{Closed}
@@ -25,7 +25,7 @@ use Rattle.work_journal.specs.Runs.{Runs}
 use Rattle.root_plan.specs.declared.plan_err.PlanErr.{PlanErr}
 use Rattle.root_plan.specs.declared.plan_err.PlanErr.TheVariants as plan
 use Rattle.root_plan.specs.Makers.{job_at}
-use Rattle.root_plan.specs.Roots.{in_root, most_paths, work_folder}
+use Rattle.root_plan.specs.Roots.{in_root, work_folder}
 use Rattle.root_plan.specs.Targets.{debug_name, debug_path}
 use Rattle.file_judge.specs.FileJudges.{file_view}
 use Rattle.file_judge.specs.KeptNodes.{IsKeptPair}
@@ -185,13 +185,11 @@ PartsMean m b name stripped debug = IsKeptPair m b name (record { stripped = str
 
 -- ### What keeps it from being done
 
--- nothing does: it is underway in the tree, and may have begun to change it; nothing is opposed to a run over the root as it was; and not too
--- many paths lie below the root now
+-- nothing does: it is underway in the tree, and may have begun to change it; and nothing is opposed to a run over the root as it was
 pub record RootUnopposed (root : List ℕ) (o : Settings) (seen : Seen) : Type 0 where
   pub start : TreeMap
   pub underway : IsUnderwayIn start root o seen
   pub unopposed : IsUnopposed start root o (file_view o) (OutcomeFails o)
-  pub few : length (keys_below (map_now seen.past) root) ≤ most_paths
 
 -- ### A start
 

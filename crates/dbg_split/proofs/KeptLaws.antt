@@ -20,7 +20,7 @@ use Rattle.debug_link.specs.Sums.{crc32}
 use Rattle.dbg_split.specs.DebugFile.{debug_file}
 
 -- a front keeps its length
-front-length : (c : Class) (o : Order) (front : List ℕ) (count names : ℕ) → ehdr_size c ≤ length front → length (numbered_front c o front count names) ≡ length front
+pub front-length : (c : Class) (o : Order) (front : List ℕ) (count names : ℕ) → ehdr_size c ≤ length front → length (numbered_front c o front count names) ≡ length front
 unfolding numbered_front
 front-length c o front count names header =
     let places = number_places c in

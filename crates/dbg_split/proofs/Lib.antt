@@ -4,6 +4,7 @@ pub mod Rows
 pub mod DroppableLaws
 pub mod MarkLaws
 pub mod KeptLaws
+pub mod MeasureLaws
 pub mod StrippedLaws
 pub mod DebugFileLaws
 pub mod KeptPartLaws

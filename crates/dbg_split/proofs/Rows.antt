@@ -91,6 +91,10 @@ split_free b name link debug o sum r reads o_is debug_is sum_is link_is can debu
     let whole : stripped_with b link ≡ stripped_file b name = stripped-is b name link (stripped_with b link) debug o sum o_is debug_is sum_is link_is refl in
     split_excludes b name r reads can debug_short (λ x long. short x (subst (λ (out : List ℕ). TooLong (length out) x) (sym whole) long)) fails
 
+pub shape-row : (b name : List ℕ) (f : Fault) → ElfReads b → Blames (Unsplittable b) f → Blames (SplitFails b name) f
+shape-row b name NoMemory reads bars = tt
+shape-row b name (Refused r) reads bars = shape reads bars
+
 pub debug-long : (b name : List ℕ) (f : Fault) → ElfReads b → Blames (TooLong (length (debug_file b))) f → Blames (SplitFails b name) f
 debug-long b name NoMemory reads long = tt
 debug-long b name (Refused r) reads long = long_debug reads long

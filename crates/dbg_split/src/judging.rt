@@ -1,19 +1,22 @@
 //! What keeps a file from being split: this project's profile.
 
-ghost use Rattle.std.specs.Prelude.{◌≡◌, ◌≢◌, ◌<◌, ◌&&◌, ◌||◌, ℕ, true, false, OnOk, IfErr};
+ghost use Rattle.std.specs.Prelude.{◌≡◌, ◌≢◌, ◌<◌, ◌&&◌, ◌||◌, ℕ, true, false, IfOk, OnOk, IfErr};
 ghost use Rattle.dw_base.specs.Elf.{section_count, name_index};
 ghost use Rattle.dw_base.specs.ElfFails.{SegmentsRead};
 ghost use Rattle.dw_base.specs.Layout.{fixed_end, is_loaded_kind};
 ghost use Rattle.dw_base.specs.Lists.{tabulate};
+ghost use Rattle.dw_base.specs.Refusals.{Blames};
 ghost use Rattle.dw_base.specs.declared.fault.Refusal.{Refusal};
 ghost use Rattle.dbg_split.specs.Droppable.{is_droppable};
 ghost use Rattle.dbg_split.specs.SplitFails.{SectionBars, Unsplittable, drops_before, is_link, is_loaded_data};
 
+use crate::marking::droppables;
 use crate::names::is_named;
 use crate::read_names::is_read;
-use dw_base::{Kind, Refusal};
+use dw_base::{Fault, Kind, Refusal};
 use elf_file::ElfFile;
 use elf_layout::{begins_in_header, lies_across};
+use std::alloc::Global;
 
 /// The name of the link to a debug file.
 pub const DEBUG_LINK: &[u8] = b".gnu_debuglink";
@@ -86,7 +89,7 @@ fn sections_can_be_split(elf: &ElfFile, end: u64, dropped: &[bool]) -> Result<()
 /// The file is one that is loaded, and has a section name table that may change. Refused as `FileType`,
 /// `Header` or `Fixed` exactly where it isn't.
 #[tactic(auto, using(crate::proofs::Rows::whole_rows))]
-pub fn file_fits(elf: &ElfFile) -> Result<(), Refusal>
+fn file_fits(elf: &ElfFile) -> Result<(), Refusal>
     requires segments { SegmentsRead elf.now.bytes.now }
     ensures loaded { OnOk result (is_loaded_kind elf.now.bytes.now ≡ true) }
     ensures named { OnOk result (name_index elf.now.bytes.now ≢ 0) }
@@ -104,7 +107,7 @@ pub fn file_fits(elf: &ElfFile) -> Result<(), Refusal>
 /// Nothing keeps a file that is loaded and has names from being split. Refused as `Fixed` or `Twice` at
 /// (a section, 0) exactly where one does.
 #[tactic(auto, using(crate::proofs::Rows::whole_rows))]
-pub fn can_be_split(elf: &ElfFile, end: u64, dropped: &[bool]) -> Result<(), Refusal>
+fn can_be_split(elf: &ElfFile, end: u64, dropped: &[bool]) -> Result<(), Refusal>
     requires loaded { is_loaded_kind elf.now.bytes.now ≡ true }
     requires named { name_index elf.now.bytes.now ≢ 0 }
     requires end { end ≡ fixed_end elf.now.bytes.now }
@@ -117,4 +120,20 @@ pub fn can_be_split(elf: &ElfFile, end: u64, dropped: &[bool]) -> Result<(), Ref
     }
     sections_can_be_split(elf, end, dropped)?;
     Ok(())
+}
+
+/// Which sections the stripped file of a file doesn't keep, by their numbers; nothing keeps the file from being split. Refused as
+/// `FileType`, `Header`, `Fixed` or `Twice` exactly where something does.
+#[tactic(auto, using(crate::proofs::Rows::shape_rows))]
+pub fn dropped_sections(alloc: Global, elf: &ElfFile) -> Result<Vec<bool>, Fault>
+    requires segments { SegmentsRead elf.now.bytes.now }
+    ensures dropped { IfOk result (λ dropped. dropped.items ≡ tabulate (is_droppable elf.now.bytes.now) (section_count elf.now.bytes.now)) }
+    ensures named { OnOk result (name_index elf.now.bytes.now ≢ 0) }
+    ensures none { OnOk result ((r : Refusal) → Unsplittable elf.now.bytes.now r → ⊥) }
+    ensures refused { IfErr result (Blames (Unsplittable elf.now.bytes.now)) }
+{
+    file_fits(elf)?;
+    let dropped = droppables(alloc, elf)?;
+    can_be_split(elf, elf.fixed_end(), &dropped)?;
+    Ok(dropped)
 }

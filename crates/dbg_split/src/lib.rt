@@ -4,7 +4,8 @@
 //! This layer promises: the stripped file and the debug file are the defined ones, byte for byte; both read
 //! back, with their sections by number, name and contents, and together have the sections of the file and
 //! mean what it means; what is loaded is kept; a file is refused only by a row that holds, at its place, and
-//! split where none does, want of memory aside. `droppable` takes no memory.
+//! split where none does, want of memory aside. Whether a file can be split is said without making the two (`check_split`).
+//! `droppable` takes no memory.
 //! It does not promise: what another program makes of the two.
 //! Read first: `specs/Droppable.antt`, then `StrippedFile.antt`, `DebugFile.antt`, `StrippedReads.antt`,
 //! `DebugFileReads.antt`, `PairViews.antt`, `PairMeanings.antt`, `SplitFails.antt`.
@@ -20,6 +21,7 @@ mod debug_file;
 mod dropping;
 mod judging;
 mod marking;
+mod measuring;
 mod names;
 mod read_names;
 mod splitting;
@@ -29,4 +31,4 @@ pub use dropping::droppable;
 pub use elf_layout::Pieces;
 pub use marking::droppables;
 pub use names::{is_named, is_named_from};
-pub use splitting::{Pair, split};
+pub use splitting::{Pair, check_split, split};

@@ -19,9 +19,8 @@ ghost use Rattle.dbg_split.specs.StrippedFile.{stripped_file};
 ghost use Rattle.dbg_split.specs.StrippedReads.{ReadsStripped};
 
 use crate::debug_file::debug_file;
-use crate::judging::{can_be_split, file_fits};
-use crate::marking::droppables;
-use crate::stripping::stripped_file;
+use crate::judging::dropped_sections;
+use crate::stripping::{check_stripped, stripped_file};
 use debug_link::{crc32_of, link_bytes};
 use dw_base::{Fault, NoMemory};
 use elf_file::ElfFile;
@@ -54,14 +53,27 @@ fn split_file<'a>(alloc: Global, elf: &ElfFile<'a>, debug_name: &[u8]) -> Result
     ensures none { OnOk result ((r : Refusal) → SplitFails elf.now.bytes.now debug_name.now r → ⊥) }
     ensures refused { IfErr result (Blames (SplitFails elf.now.bytes.now debug_name.now)) }
 {
-    file_fits(elf)?;
-    let dropped = droppables(alloc, elf)?;
-    let end = elf.fixed_end();
-    can_be_split(elf, end, &dropped)?;
+    let dropped = dropped_sections(alloc, elf)?;
     let debug = debug_file(alloc, elf, &dropped)?;
     let link = link_bytes(alloc, elf.order, debug_name, sum_of(alloc, &debug)?)?;
-    let stripped = stripped_file(alloc, elf, end, &dropped, link)?;
+    let stripped = stripped_file(alloc, elf, elf.fixed_end(), &dropped, link)?;
     Ok(Pair { stripped, debug })
+}
+
+/// A file that was read can be split.
+#[tactic(auto, using(crate::proofs::Rows::shape_rows))]
+fn check_file(alloc: Global, elf: &ElfFile, debug_name: &[u8]) -> Result<(), Fault>
+    requires reads { ElfReads elf.now.bytes.now }
+    requires small { length elf.now.bytes.now ≤ output_limit }
+    ensures none { OnOk result ((r : Refusal) → SplitFails elf.now.bytes.now debug_name.now r → ⊥) }
+    ensures refused { IfErr result (Blames (SplitFails elf.now.bytes.now debug_name.now)) }
+{
+    let dropped = dropped_sections(alloc, elf)?;
+    debug_file(alloc, elf, &dropped)?;
+    // A link is as long with any sum.
+    let link = link_bytes(alloc, elf.order, debug_name, 0)?;
+    check_stripped(alloc, elf, elf.fixed_end(), &dropped, link)?;
+    Ok(())
 }
 
 /// What `split` gives, byte for byte, and what is known of the file then.
@@ -115,4 +127,18 @@ pub fn split<'a>(alloc: Global, bytes: &'a [u8], debug_name: &[u8]) -> Result<Pa
 {
     let pair = split_bytes(alloc, bytes, debug_name)?;
     Ok(pair)
+}
+
+/// A file can be split: `split` makes the two files of it, or memory is short. Refused exactly where `split` refuses, and as
+/// that does. None of the two is made: no sum is taken, and what stays at its place isn't copied.
+#[tactic(auto, using(crate::proofs::Rows::split_rows))]
+pub fn check_split(alloc: Global, bytes: &[u8], debug_name: &[u8]) -> Result<(), Fault>
+    requires small { length bytes.now ≤ output_limit }
+    ensures bytes { OnOk result ((k : ℕ) → slice_index bytes.now k < 256) }
+    ensures none { OnOk result ((r : Refusal) → SplitFails bytes.now debug_name.now r → ⊥) }
+    ensures refused { IfErr result (Blames (SplitFails bytes.now debug_name.now)) }
+{
+    let elf = ElfFile::read(alloc, bytes)?;
+    check_file(alloc, &elf, debug_name)?;
+    Ok(())
 }

@@ -3,8 +3,8 @@
 
 ghost use Rattle.std.specs.Prelude.{◌≡◌, ◌≢◌, ◌+◌, ◌^◌, ◌<◌, ◌≤◌, ◌&&◌, not, [], if◌then◌else◌, length, take, IfOk, OnOk, IfErr};
 ghost use Rattle.dw_base.specs.Elf.{is_empty_kind, name_index, section_count};
-ghost use Rattle.dw_base.specs.Layout.{fixed_end};
-ghost use Rattle.dw_base.specs.ElfFails.{SegmentsRead};
+ghost use Rattle.dw_base.specs.Layout.{fixed_end, output_limit};
+ghost use Rattle.dw_base.specs.ElfFails.{ElfReads, SegmentsRead};
 ghost use Rattle.dw_base.specs.LayoutFails.{TooLong};
 ghost use Rattle.dw_base.specs.Lists.{tabulate};
 ghost use Rattle.dw_base.specs.Refusals.{Blames};
@@ -15,6 +15,7 @@ ghost use Rattle.dbg_split.specs.Droppable.{is_droppable};
 ghost use Rattle.dbg_split.specs.StrippedFile.{info_is_number, kept_before, kept_parts, link_head, link_part, new_number, stripped_body, stripped_head, stripped_part, stripped_parts, stripped_with};
 
 use crate::dropping::is_relocations;
+use crate::measuring::check_parts;
 use dw_base::elf_numbers::{SHF_INFO_LINK, SHT_PROGBITS};
 use dw_base::{Fault, NoMemory, Section};
 use elf_file::ElfFile;
@@ -262,4 +263,27 @@ pub fn stripped_file(
     let names = new_number(elf, dropped, &counts, elf.names);
     let parts = stripped_parts(alloc, elf, end, dropped, &counts, link)?;
     write_parts(alloc, elf, fixed_part(elf, end), &parts, names)
+}
+
+/// The stripped file with a link of these contents isn't too long; `dropped` says which sections it doesn't keep.
+/// Refused as `TooLarge` exactly where it is.
+pub fn check_stripped(
+    alloc: Global,
+    elf: &ElfFile,
+    end: u64,
+    dropped: &[bool],
+    link: Vec<u8>,
+) -> Result<(), Fault>
+    requires reads { ElfReads elf.now.bytes.now }
+    requires small { length elf.now.bytes.now ≤ output_limit }
+    requires named { name_index elf.now.bytes.now ≢ 0 }
+    requires end { end ≡ fixed_end elf.now.bytes.now }
+    requires dropped { dropped.now ≡ tabulate (is_droppable elf.now.bytes.now) (section_count elf.now.bytes.now) }
+    ensures none { OnOk result ((r : Refusal) → TooLong (length (stripped_with elf.now.bytes.now link.items)) r → ⊥) }
+    ensures refused { IfErr result (Blames (TooLong (length (stripped_with elf.now.bytes.now link.items)))) }
+{
+    let counts = kept_before(alloc, elf, dropped)?;
+    let parts = stripped_parts(alloc, elf, end, dropped, &counts, link)?;
+    check_parts(alloc, elf, end, &parts)?;
+    Ok(())
 }

@@ -5,30 +5,22 @@ use Rattle.dw_base.specs.Refusals.{Blames}
 use Rattle.dw_base.specs.declared.fault.Fault.{Fault}
 use Rattle.dw_base.specs.declared.fault.Fault.TheVariants.{NoMemory, Refused}
 use Rattle.dbg_job.specs.EditedFiles.{EditedFails, IsEditOf}
-use Rattle.dbg_job.specs.Outcomes.{IsMade, IsSplitOf, OutcomeFails}
+use Rattle.dbg_job.specs.Outcomes.{IsSaid, IsSplitOf, OutcomeFails}
 use Rattle.dbg_job.proofs.EditedLaws.{editable-excludes}
-use Rattle.dbg_job.proofs.MadeLaws.{made-excludes}
+use Rattle.dbg_job.proofs.JudgedLaws.{said-excludes}
 use Rattle.dbg_split.specs.DebugFile.{debug_file}
 use Rattle.dbg_split.specs.SplitFails.{SplitFails}
 use Rattle.dbg_split.specs.StrippedFile.{stripped_file}
 use Rattle.job_types.specs.Settings.{Settings}
-use Rattle.job_types.specs.declared.outcome.Outcome.{Outcome}
-use Rattle.root_plan.specs.Verdicts.{Pair, Verdict, verdict_of}
-use Rattle.file_judge.specs.FileJudges.{IsPairOf, IsSaid}
+use Rattle.job_types.specs.declared.outcome.Verdict.{Verdict}
+use Rattle.root_plan.specs.Verdicts.{Pair}
+use Rattle.file_judge.specs.FileJudges.{IsPairOf}
 
 -- ### What is said
 
-pub is-said : (s : Settings) (b name : List ℕ) (o : Outcome) → IsMade s b name o → IsSaid s b name (verdict_of o)
-is-said s b name o made = record { outcome = o; made = made; says = refl }
-
-said-whole : (s : Settings) (b name : List ℕ) (f : Fault) (x : Verdict) → Blames (OutcomeFails s b name) f → IsSaid s b name x → f ≡ NoMemory
-said-whole s b name NoMemory x fails said = refl
-said-whole s b name (Refused r) x fails said = absurd (made-excludes s b name said.outcome r said.made fails)
-
-pub said-only : (s : Settings) (b name : List ℕ) (f : Fault) → Blames (OutcomeFails s b name) f → (x : Verdict) → IsSaid s b name x → f ≡ NoMemory
-said-only s b name f fails x said = said-whole s b name f x fails said
-
-pub ruleset outcome_rules = (is-said, said-only)
+pub said-only : (s : Settings) (b name : List ℕ) (f : Fault) (x : Verdict) → Blames (OutcomeFails s b name) f → IsSaid s b name x → f ≡ NoMemory
+said-only s b name NoMemory x fails said = refl
+said-only s b name (Refused r) x fails said = absurd (said-excludes s b name x said r fails)
 
 -- ### What is made
 

@@ -2,18 +2,11 @@
 -- pair that this is split into. This project's profile.
 use Rattle.std.specs.Prelude.{◌≡◌, ℕ, List}
 use Rattle.dbg_job.specs.EditedFiles.{IsEditOf}
-use Rattle.dbg_job.specs.Outcomes.{IsMade, IsSplitOf}
+use Rattle.dbg_job.specs.Outcomes.{IsSaid, IsSplitOf}
 use Rattle.dbg_split.specs.DebugFile.{debug_file}
 use Rattle.dbg_split.specs.StrippedFile.{stripped_file}
 use Rattle.job_types.specs.Settings.{Settings}
-use Rattle.job_types.specs.declared.outcome.Outcome.{Outcome}
-use Rattle.root_plan.specs.Verdicts.{JudgeView, Pair, Verdict, verdict_of}
-
--- this is said of a file whose debug file is to have this name: what becomes of it says so
-pub record IsSaid (s : Settings) (b name : List ℕ) (verdict : Verdict) : Type 0 where
-  pub outcome : Outcome
-  pub made : IsMade s b name outcome
-  pub says : verdict_of outcome ≡ verdict
+use Rattle.root_plan.specs.Verdicts.{JudgeView, Pair}
 
 -- the two files that an edited file is split into, where it can be split
 pub record IsPairOf (file name : List ℕ) (pair : Pair) : Type 0 where

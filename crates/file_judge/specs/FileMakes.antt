@@ -11,17 +11,19 @@ use Rattle.hex.specs.Hex.{IsBytes}
 use Rattle.dbg_job.specs.NewIds.{id_bytes}
 use Rattle.dbg_job.specs.Outcomes.{IsIdBytes, IsMade, names_of}
 use Rattle.dbg_job.specs.Outcomes.IsMade.{left as made_left, edited as made_edited, split as made_split}
-use Rattle.dbg_job.proofs.MadeLaws.{made-ids, made-is}
-use Rattle.dbg_job.proofs.OutcomeOneLaws.{edited-one, outcome-one}
+use Rattle.dbg_job.proofs.JudgedLaws.{said-one}
+use Rattle.dbg_job.proofs.MadeLaws.{made-ids}
+use Rattle.dbg_job.proofs.OutcomeOneLaws.{edited-one}
 use Rattle.dbg_job.proofs.RisingNameLaws.{made-names, made-texts}
 use Rattle.dbg_split.specs.DebugFile.{debug_file}
 use Rattle.dbg_split.specs.StrippedFile.{stripped_file}
 use Rattle.file_tree.specs.Causes.{AreInOrder}
 use Rattle.job_types.specs.Settings.{Settings}
+use Rattle.job_types.specs.Verdicts.{verdict_of}
 use Rattle.job_types.specs.declared.outcome.Outcome.{Outcome}
 use Rattle.job_types.specs.declared.outcome.Outcome.TheVariants as outcome
 use Rattle.work_texts.specs.Rules.{may_have_id, rise_after}
-use Rattle.root_plan.specs.Verdicts.{AreSources, IsJudge, Made, id_of, verdict_of}
+use Rattle.root_plan.specs.Verdicts.{AreSources, IsJudge, Made, id_of}
 use Rattle.root_plan.specs.Verdicts.Made.{not_made, made_one, made_two}
 use Rattle.file_judge.specs.FileJudges.{file_view}
 
@@ -73,14 +75,13 @@ outcome-made s b name _ (made_edited {file = file} {names = names} taken free is
 outcome-made s b name _ (made_split {file = file} {names = names} taken loaded fits is parts sources) =
     let made : IsMade s b name (outcome.Split (stripped_file file name) (debug_file file) (id_bytes file) names) = made_split taken loaded fits is parts sources in
     let id : MayBeId (id_of (id_bytes file)) = made-id s b name (stripped_file file name) (debug_file file) (id_bytes file) names made in
-    made_two {file = file} {pair = record { stripped = stripped_file file name; debug = debug_file file }} is (record { splits = parts; is = refl }) id.may id.bytes
+    made_two {id = id_bytes file} {file = file} {pair = record { stripped = stripped_file file name; debug = debug_file file }} is (record { splits = parts; is = refl }) id.may id.bytes
     (names-are s b name (outcome.Split (stripped_file file name) (debug_file file) (id_bytes file) names) made)
 
 pub file_makes : (s : Settings) → IsJudge (file_view s)
 file_makes s = record {
   makes = λ b name verdict said. subst (Made (file_view s) b name) said.says (outcome-made s b name said.outcome said.made);
-  one_verdict = λ b name x y one two.
-      sym one.says ∙ ap verdict_of (outcome-one s b name one.outcome two.outcome (made-is s b name one.outcome one.made) (made-is s b name two.outcome two.made)) ∙ two.says;
+  one_verdict = said-one s;
   one_file = λ b x y one two. edited-one s b x y one.edited two.edited;
   one_pair = λ file name x y one two. one.is ∙ sym two.is;
 }

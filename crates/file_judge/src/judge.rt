@@ -7,15 +7,16 @@ ghost use Rattle.dw_base.specs.Layout.{file_limit, output_limit};
 ghost use Rattle.dw_base.specs.Refusals.{Blames};
 ghost use Rattle.dw_base.specs.declared.fault.Fault.TheVariants as fault;
 ghost use Rattle.dbg_job.specs.EditedFiles.{EditedFails, IsEditOf};
-ghost use Rattle.dbg_job.specs.Outcomes.{OutcomeFails};
+ghost use Rattle.dbg_job.specs.Outcomes.{IsSaid, OutcomeFails};
 ghost use Rattle.dbg_split.specs.SplitFails.{SplitFails};
-ghost use Rattle.root_plan.specs.Verdicts.{Pair as PairOf, Verdict, verdict_of};
-ghost use Rattle.file_judge.specs.FileJudges.{IsPairOf, IsSaid};
+ghost use Rattle.job_types.specs.declared.outcome.Verdict.{Verdict as VerdictOf};
+ghost use Rattle.root_plan.specs.Verdicts.{Pair as PairOf};
+ghost use Rattle.file_judge.specs.FileJudges.{IsPairOf};
 
-use dbg_job::{Rewritten, edited, outcome};
-use dbg_split::{Pair, split};
+use dbg_job::{Rewritten, edited, verdict};
+use dbg_split::{Pair, Pieces, split};
 use dw_base::Fault;
-use job_types::{Options, Outcome};
+use job_types::{Options, Verdict};
 use root_plan::{Judge, Parts};
 use std::alloc::Global;
 
@@ -34,23 +35,30 @@ impl<'a> FileJudge<'a> {
     }
 }
 
-/// What becomes of a file.
-#[tactic(auto, using(crate::proofs::SaidLaws::outcome_rules))]
-fn outcome_of(
+/// What is said of a file.
+fn verdict_of(
     alloc: Global,
     bytes: &[u8],
     options: &Options,
     debug_name: &[u8],
-) -> Result<Outcome, Fault>
+) -> Result<Verdict, Fault>
     requires small { length bytes.now ≤ file_limit }
-    ensures said { IfOk result (λ o. IsSaid options.now bytes.now debug_name.now (verdict_of o)) }
+    ensures said { IfOk result (IsSaid options.now bytes.now debug_name.now) }
     ensures refused { IfErr result (Blames (OutcomeFails options.now bytes.now debug_name.now)) }
-    ensures whole { (x : Verdict) → IsSaid options.now bytes.now debug_name.now x → IsOkUnless result fault.NoMemory }
+    ensures whole { (x : VerdictOf) → IsSaid options.now bytes.now debug_name.now x → IsOkUnless result fault.NoMemory }
 {
-    match outcome(alloc, bytes, options, debug_name) {
-        Ok(outcome) => Ok(outcome),
+    match verdict(alloc, bytes, options, debug_name) {
+        Ok(verdict) => Ok(verdict),
         Err(fault) => Err(fault),
     }
+}
+
+/// The edited file. Its line tables aren't held any longer.
+fn without_tables(out: Rewritten<'_>) -> Pieces<'_>
+    ensures value { result ≡ out.entry.file }
+{
+    let Rewritten { file, tables: _ } = out;
+    file
 }
 
 /// The edited file, in one piece.
@@ -61,8 +69,7 @@ fn edited_file(alloc: Global, bytes: &[u8], options: &Options) -> Result<Vec<u8>
     ensures refused { IfErr result (Blames (EditedFails options.now bytes.now)) }
 {
     let out = edited(alloc, bytes, options)?;
-    let Rewritten { file, tables: _ } = out;
-    let file = file.joined(alloc)?;
+    let file = without_tables(out).joined(alloc)?;
     Ok(file)
 }
 
@@ -95,8 +102,8 @@ impl<'a> Judge for FileJudge<'a> {
 
     ghost split_fails = { λ j bytes name r. SplitFails bytes name r };
 
-    fn outcome(&self, alloc: Global, bytes: &[u8], debug_name: &[u8]) -> Result<Outcome, Fault> {
-        outcome_of(alloc, bytes, self.options, debug_name)
+    fn verdict(&self, alloc: Global, bytes: &[u8], debug_name: &[u8]) -> Result<Verdict, Fault> {
+        verdict_of(alloc, bytes, self.options, debug_name)
     }
 
     fn edited(&self, alloc: Global, bytes: &[u8]) -> Result<Vec<u8>, Fault> {

@@ -1,3 +1,4 @@
 pub mod Settings
 pub mod Kinds
 pub mod Modes
+pub mod Verdicts

@@ -72,3 +72,14 @@ pub enum Outcome {
     /// The file stays as it is.
     Left(LeftWhy),
 }
+
+/// What is said of a file before its outputs are made.
+#[derive(Drop)]
+pub enum Verdict {
+    /// It is edited and split: its build-id, if there is one, and the names of its sources.
+    Split { id: Option<Blob>, sources: Sources },
+    /// It is edited and not split: the names of its sources.
+    Edited { sources: Sources },
+    /// It stays as it is.
+    Left(LeftWhy),
+}

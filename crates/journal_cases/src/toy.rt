@@ -80,17 +80,17 @@ impl Maker for Toy {
         &mut self,
         alloc: Global,
         _job: u32,
-        bytes: &[u8],
+        bytes: Blob,
         mode: u32,
     ) -> Result<Vec<Node>, MakeErr> {
-        let first = first_of(bytes);
+        let first = first_of(bytes.as_slice());
         if first != self.first {
             return Err(MakeErr::Changed {
                 planned: [self.first; 20],
                 found: [first; 20],
             });
         }
-        let nodes = nodes_of(alloc, bytes, mode)?;
+        let nodes = nodes_of(alloc, bytes.as_slice(), mode)?;
         Ok(nodes)
     }
 

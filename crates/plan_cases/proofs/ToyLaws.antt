@@ -6,7 +6,7 @@ use Rattle.dw_base.specs.declared.fault.Fault.TheVariants as fault
 use Rattle.std.proofs.lemmas.List.{length-append}
 use Rattle.dw_base.specs.Layout.{file_limit, output_limit}
 use Rattle.dw_base.specs.Refusals.{Blames}
-use Rattle.root_plan.specs.Verdicts.{Verdict}
+use Rattle.job_types.specs.declared.outcome.Verdict.{Verdict}
 
 pub said_whole : {X : Type 0} (r : Result X Fault) (o : Option Verdict) → IfErr r (Blames (λ q. o ≡ None)) → (x : Verdict) → o ≡ Some x → IsOkUnless r fault.NoMemory
 said_whole {X} (Ok y) o bad x e = tt

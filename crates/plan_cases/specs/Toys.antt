@@ -4,7 +4,9 @@ use Rattle.std.specs.Prelude.{◌==◌, if◌then◌else◌, Option, Some, None,
 use Rattle.hex.specs.Hex.{IsBytes}
 use Rattle.work_texts.specs.Rules.{may_have_id}
 use Rattle.job_types.specs.declared.outcome.LeftWhy.TheVariants.{NoElf}
-use Rattle.root_plan.specs.Verdicts.{Verdict, left, edited, split, JudgeView, IsJudge, Made, AreSources}
+use Rattle.job_types.specs.declared.outcome.Verdict.{Verdict}
+use Rattle.job_types.specs.declared.outcome.Verdict.TheVariants.{Left, Edited, Split}
+use Rattle.root_plan.specs.Verdicts.{JudgeView, IsJudge, Made, AreSources, id_of}
 use Rattle.root_plan.specs.Verdicts.{Made as made}
 
 -- the name of its one source, by its second byte: 0 says that it has none
@@ -12,14 +14,14 @@ abbrev pub toy_names : ℕ → List (List ℕ)
 toy_names c = if c == 0 then [] else (c ∷ []) ∷ []
 
 -- its build-id, by its third byte: 0 says that it has none
-abbrev pub toy_id : ℕ → List ℕ
-toy_id c = if c == 0 then [] else if c == 1 then 171 ∷ 1 ∷ [] else 171 ∷ 2 ∷ []
+abbrev pub toy_id : ℕ → Option (List ℕ)
+toy_id c = if c == 0 then None else if c == 1 then Some (171 ∷ 1 ∷ []) else Some (171 ∷ 2 ∷ [])
 
 -- what becomes of it, by its first byte: `E` is edited, `S` split and `R` refused
 abbrev pub toy_said : ℕ → ℕ → ℕ → Option Verdict
 toy_said kind name id =
-    if kind == 69 then Some (edited (toy_names name)) else if kind == 83 then Some (split (toy_id id) (toy_names name))
-    else if kind == 82 then None else Some (left NoElf)
+    if kind == 69 then Some (Edited (toy_names name)) else if kind == 83 then Some (Split (toy_id id) (toy_names name))
+    else if kind == 82 then None else Some (Left NoElf)
 
 abbrev pub toy_verdict : List ℕ → Option Verdict
 toy_verdict bytes = toy_said (get_or bytes 0 0) (get_or bytes 1 0) (get_or bytes 2 0)
@@ -35,7 +37,7 @@ toy_view = record {
 -- ### It is a judge
 
 abbrev verdict_in : Option Verdict → Verdict
-verdict_in None = left NoElf
+verdict_in None = Left NoElf
 verdict_in (Some v) = v
 
 abbrev IsUnsaid : Option Verdict → Type 0
@@ -54,18 +56,18 @@ two-bytes a b l m (suc (suc i)) = lit< tt
 no-bytes : IsBytes []
 no-bytes i = lit< tt
 
-id-by : (zero_id one_id : Bool) → IsTrue (may_have_id true (if zero_id then [] else if one_id then 171 ∷ 1 ∷ [] else 171 ∷ 2 ∷ []))
+id-by : (zero_id one_id : Bool) → IsTrue (may_have_id true (id_of (if zero_id then None else if one_id then Some (171 ∷ 1 ∷ []) else Some (171 ∷ 2 ∷ []))))
 id-by true one_id = refl
 id-by false true = refl
 id-by false false = refl
 
-bytes-by : (zero_id one_id : Bool) → IsBytes (if zero_id then [] else if one_id then 171 ∷ 1 ∷ [] else 171 ∷ 2 ∷ [])
+bytes-by : (zero_id one_id : Bool) → IsBytes (id_of (if zero_id then None else if one_id then Some (171 ∷ 1 ∷ []) else Some (171 ∷ 2 ∷ [])))
 bytes-by true one_id = no-bytes
 bytes-by false true = two-bytes 171 1 (lit< tt) (lit< tt)
 bytes-by false false = two-bytes 171 2 (lit< tt) (lit< tt)
 
 said-by : (e s r : Bool) (bytes name : List ℕ) (c i : ℕ) (verdict : Verdict)
-    → (if e then Some (edited (toy_names c)) else if s then Some (split (toy_id i) (toy_names c)) else if r then None else Some (left NoElf)) ≡ Some verdict
+    → (if e then Some (Edited (toy_names c)) else if s then Some (Split (toy_id i) (toy_names c)) else if r then None else Some (Left NoElf)) ≡ Some verdict
     → Made toy_view bytes name verdict
 said-by true s r bytes name c i verdict is =
     subst (Made toy_view bytes name) (ap verdict_in is) (made.made_one {names = toy_names c} {file = bytes ++ 101 ∷ []} refl (sources-by c (c == 0) refl))

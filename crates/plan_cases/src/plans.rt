@@ -1,7 +1,7 @@
 //! Walks and plans of small build roots, or why they are refused, and what is made of their jobs.
 use crate::toy::Toy;
 use dw_paths::Maps;
-use file_tree::{Blob, MemTree, Node, Text};
+use file_tree::{Blob, Call, MemTree, Node, Text};
 use job_types::Options;
 use root_plan::{PlanErr, RootMaker, make_plan, run_key, walk, work_folder};
 use std::alloc::{AllocError, Global};
@@ -183,6 +183,7 @@ fn second_made(
     if bytes.len() > 10 {
         return Err(Fail::from("too long"));
     }
+    let bytes = Blob::from_slice(alloc, bytes)?;
     Ok(maker.make(alloc, 1, bytes, 0o755))
 }
 
@@ -307,6 +308,45 @@ fn a_planned_root_is_run_to_its_end(rt: HostRuntime) -> Result<(), Fail> {
     let alloc = rt.alloc();
     let tree = run_root(alloc, TWINS)?;
     assert!(rt; are_nodes(tree.nodes(), RUN));
+    Ok(())
+}
+
+/// The calls that look at the new paths of the two equal files, job by job: behind a list of the root and reads
+/// of its two files.
+const LOOKS: &[(u64, &str)] = &[
+    (3, "r/usr/lib/debug/usr/bin/a.debug"),
+    (4, "r/usr/lib/debug/.build-id/ab/01"),
+    (5, "r/usr/lib/debug/.build-id/ab/01.debug"),
+    (6, "r/usr/lib/debug/usr/bin/b.debug"),
+    (7, "r/usr/lib/debug/.build-id/ab/01.1"),
+    (8, "r/usr/lib/debug/.build-id/ab/01.1.debug"),
+];
+
+/// Whether the last call of the tree was to read this path.
+fn was_read_last(tree: &MemTree, path: &str) -> bool {
+    matches!(tree.calls().last(), Some(Call::Read(last)) if last.as_str() == path)
+}
+
+/// Whether the plan of the two equal files ends as a fault of the tree where the call with this number fails,
+/// which is to read this path, and the tree is as it was.
+fn is_fault_at(alloc: Global, call: u64, path: &str) -> Result<bool, Fail> {
+    let mut tree = MemTree::new(alloc, files(alloc, TWINS)?)?;
+    let Ok(present) = walk(&mut tree, "r") else {
+        return Err(Fail::from("no paths"));
+    };
+    let options = options(alloc, false)?;
+    tree.fail_calls(vec![in alloc; call; 1]?);
+    let answer = make_plan(alloc, &mut tree, "r", &present, &options, &Toy {});
+    let is_fault = matches!(&answer, Err(PlanErr::Tree));
+    Ok(is_fault && was_read_last(&tree, path) && are_nodes(tree.nodes(), TWINS))
+}
+
+#[test]
+fn a_look_at_a_new_path_that_fails_ends_the_plan(rt: HostRuntime) -> Result<(), Fail> {
+    let alloc = rt.alloc();
+    for (call, path) in LOOKS {
+        assert!(rt; is_fault_at(alloc, *call, path)?, "{path}");
+    }
     Ok(())
 }
 

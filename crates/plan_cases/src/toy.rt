@@ -3,12 +3,11 @@
 //! Read first: `specs/Toys.antt`.
 ghost use Rattle.std.specs.Prelude.{◌≡◌, ◌++◌, Some, None, get_or, IfOk, IfErr};
 ghost use Rattle.dw_base.specs.Refusals.{Blames};
-ghost use Rattle.root_plan.specs.Verdicts.{verdict_of, id_of};
 ghost use Rattle.plan_cases.specs.Toys.{toy_names, toy_id, toy_verdict};
 
 use dw_base::{Fault, Kind, Refusal};
 use file_tree::Blob;
-use job_types::{LeftWhy, Outcome, Sources};
+use job_types::{LeftWhy, Sources, Verdict};
 use root_plan::{Judge, Parts};
 use std::alloc::{AllocError, Global};
 
@@ -36,7 +35,7 @@ fn names(alloc: Global, name: u8) -> Result<Sources, AllocError>
 
 /// The build-id.
 fn id(alloc: Global, id: u8) -> Result<Option<Blob>, AllocError>
-    ensures value { IfOk result (λ o. id_of o ≡ toy_id id) }
+    ensures value { IfOk result (λ o. o ≡ toy_id id) }
 {
     if id == 0 {
         return Ok(None);
@@ -49,33 +48,25 @@ fn id(alloc: Global, id: u8) -> Result<Option<Blob>, AllocError>
     Ok(Some(id))
 }
 
-/// What becomes of a file.
-fn said(alloc: Global, bytes: &[u8]) -> Result<Outcome, Fault>
-    ensures said { IfOk result (λ o. toy_verdict bytes.now ≡ Some (verdict_of o)) }
+/// What is said of a file.
+fn said(alloc: Global, bytes: &[u8]) -> Result<Verdict, Fault>
+    ensures said { IfOk result (λ v. toy_verdict bytes.now ≡ Some v) }
     ensures refused { IfErr result (Blames (λ _. toy_verdict bytes.now ≡ None)) }
 {
     let kind = byte_at(bytes, 0);
     if kind == 69 {
         let sources = names(alloc, byte_at(bytes, 1))?;
-        let bytes = Blob::new(Vec::new(alloc));
-        return Ok(Outcome::Edited { bytes, sources });
+        return Ok(Verdict::Edited { sources });
     }
     if kind == 83 {
         let sources = names(alloc, byte_at(bytes, 1))?;
         let id = id(alloc, byte_at(bytes, 2))?;
-        let stripped = Blob::new(Vec::new(alloc));
-        let debug = Blob::new(Vec::new(alloc));
-        return Ok(Outcome::Split {
-            stripped,
-            debug,
-            id,
-            sources,
-        });
+        return Ok(Verdict::Split { id, sources });
     }
     if kind == 82 {
         return Err(Fault::Refused(Refusal::at(Kind::UnknownDebug, 4, 0)));
     }
-    Ok(Outcome::Left(LeftWhy::NoElf))
+    Ok(Verdict::Left(LeftWhy::NoElf))
 }
 
 /// Bytes, and others behind them.
@@ -99,7 +90,7 @@ impl Judge for Toy {
 
     ghost split_fails = { λ j bytes name r. ⊥ };
 
-    fn outcome(&self, alloc: Global, bytes: &[u8], _debug_name: &[u8]) -> Result<Outcome, Fault> {
+    fn verdict(&self, alloc: Global, bytes: &[u8], _debug_name: &[u8]) -> Result<Verdict, Fault> {
         said(alloc, bytes)
     }
 

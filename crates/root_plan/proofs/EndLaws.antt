@@ -1,5 +1,5 @@
 -- Two ends of a root in a tree that tells are one, or one of them is a fault of the tree or a cut.
-use Rattle.std.proofs.Common.{◌≡◌, ℕ, ◌<◌, ◌≤◌, List, [], length, take, get_or, Option, Some, inl, inr, sym, ap, ◌∙◌, subst, arith}
+use Rattle.std.proofs.Common.{◌≡◌, ℕ, ◌<◌, List, [], length, take, get_or, Option, Some, inl, inr, sym, ◌∙◌, subst, arith}
 use Rattle.std.proofs.lemmas.Bool.{cases_lt}
 use Rattle.std.proofs.lemmas.List.{get_or-take, length-take}
 use Rattle.dw_base.specs.declared.fault.Refusal.{Refusal}
@@ -7,18 +7,18 @@ use Rattle.file_tree.specs.declared.node.Found.{Found}
 use Rattle.file_tree.specs.declared.node.Found.TheVariants as found
 use Rattle.file_tree.specs.Trees.{TreeMap}
 use Rattle.file_tree.specs.Seen.{Seen, now_of}
-use Rattle.file_tree.specs.Causes.{Stood, AreInOrder}
+use Rattle.file_tree.specs.Causes.{AreInOrder}
 use Rattle.job_types.specs.Settings.{Settings}
 use Rattle.work_texts.specs.declared.plan.JobLine.{JobLine}
 use Rattle.root_plan.specs.declared.plan_err.PlanErr.{PlanErr}
-use Rattle.root_plan.specs.Roots.{below_root, count_outside, longest_path, most_outside}
+use Rattle.root_plan.specs.Roots.{below_root}
 use Rattle.root_plan.specs.Targets.{new_paths}
 use Rattle.root_plan.specs.Verdicts.{JudgeView, IsJudge}
 use Rattle.root_plan.specs.Tallies.{Tally, Tallies, IsTooLong, FileEnds, CandidateEnds, LargeEnds, FoundEnds, PathEnds}
 use Rattle.root_plan.specs.Tallies.{IsTooLong as too_long, FileEnds as file, CandidateEnds as candidate, LargeEnds as large, PathEnds as path_ends}
 use Rattle.root_plan.specs.Plans.{IsTallied, CanBeMade, NewEnds, PlanEnds}
 use Rattle.root_plan.specs.Plans.{NewEnds as news, PlanEnds as ends}
-use Rattle.root_plan.specs.Errors.{AreSameEnds, IsOneEnd, IsStopped}
+use Rattle.root_plan.specs.Errors.{IsOneEnd, IsStopped}
 use Rattle.root_plan.specs.Errors.{AreSameEnds as are, IsOneEnd as one, IsStopped as stop}
 use Rattle.root_plan.proofs.OneLaws.{tallies-alike, long-stopped, at-stopped, new-stopped}
 
@@ -128,11 +128,13 @@ module _ (s : Settings) (v : JudgeView) (judge : IsJudge v) (fails : List ℕ �
     plan_ends_one e f (ends.many l) (ends.at_path n few k ts y) = absurd (omega (arith, l, few))
     plan_ends_one e f (ends.many l) (ends.at_new tallied y) = absurd (omega (arith, l, tallied.few))
     plan_ends_one e f (ends.many l) (ends.at_text tallied can long) = absurd (omega (arith, l, tallied.few))
+    plan_ends_one e f (ends.many l) (ends.at_look plan is rose) = one.other_stopped stop.failed
     plan_ends_one e f (ends.many l) ends.no_memory = one.other_stopped stop.no_memory
     plan_ends_one e f (ends.at_path n few k ts x) (ends.many m) = absurd (omega (arith, m, few))
     plan_ends_one e f (ends.at_path {t = t} n few k ts x) (ends.at_path {t = u} m few2 l us y) = at-paths m n t u e f ts us k l x y
     plan_ends_one e f (ends.at_path n few k ts x) (ends.at_new {t = u} tallied y) = one.first_stopped (passed root present order tree old new old2 new2 here here2 present u n e tallied.tallies k x)
     plan_ends_one e f (ends.at_path n few k ts x) (ends.at_text {t = u} tallied can long) = one.first_stopped (passed root present order tree old new old2 new2 here here2 present u n e tallied.tallies k x)
+    plan_ends_one e f (ends.at_path n few k ts x) (ends.at_look plan is rose) = one.other_stopped stop.failed
     plan_ends_one e f (ends.at_path n few k ts x) ends.no_memory = one.other_stopped stop.no_memory
     plan_ends_one e f (ends.at_new tallied x) (ends.many m) = absurd (omega (arith, m, tallied.few))
     plan_ends_one e f (ends.at_new {t = t} tallied x) (ends.at_path n few k us y) = one.other_stopped (passed root present order tree old2 new2 old new here2 here present t n f tallied.tallies k y)
@@ -140,10 +142,13 @@ module _ (s : Settings) (v : JudgeView) (judge : IsJudge v) (fails : List ℕ �
         two-news present (new_paths root t.jobs) e f x
         (subst (λ (js : List JobLine). NewEnds present (new_paths root js) f) (same-jobs root present order tree old new old2 new2 here here2 t u tallied tallied2) y)
     plan_ends_one e f (ends.at_new {t = t} tallied x) (ends.at_text {t = u} tallied2 can long) = one.first_stopped (made-new root present order tree old new old2 new2 here here2 t u e tallied tallied2 can x)
+    plan_ends_one e f (ends.at_new tallied x) (ends.at_look plan is rose) = one.other_stopped stop.failed
     plan_ends_one e f (ends.at_new tallied x) ends.no_memory = one.other_stopped stop.no_memory
     plan_ends_one e f (ends.at_text tallied can long) (ends.many m) = absurd (omega (arith, m, tallied.few))
     plan_ends_one e f (ends.at_text {t = t} tallied can long) (ends.at_path n few k us y) = one.other_stopped (passed root present order tree old2 new2 old new here2 here present t n f tallied.tallies k y)
     plan_ends_one e f (ends.at_text {t = t} tallied can long) (ends.at_new {t = u} tallied2 y) = one.other_stopped (made-new root present order tree old2 new2 old new here2 here u t f tallied2 tallied can y)
     plan_ends_one e f (ends.at_text tallied can long) (ends.at_text tallied2 can2 long2) = one.same are.same_text
+    plan_ends_one e f (ends.at_text tallied can long) (ends.at_look plan is rose) = one.other_stopped stop.failed
     plan_ends_one e f (ends.at_text tallied can long) ends.no_memory = one.other_stopped stop.no_memory
+    plan_ends_one e f (ends.at_look plan is rose) y = one.first_stopped stop.failed
     plan_ends_one e f ends.no_memory y = one.first_stopped stop.no_memory

@@ -15,11 +15,13 @@ use Rattle.file_tree.specs.declared.node.Found.TheVariants as found
 use Rattle.file_tree.specs.Trees.{TreeMap, is_below}
 use Rattle.file_tree.specs.Causes.{AreInOrder, Stood}
 use Rattle.job_types.specs.Settings.{Settings}
+use Rattle.job_types.specs.declared.outcome.Verdict.{Verdict}
+use Rattle.job_types.specs.declared.outcome.Verdict.TheVariants.{Left, Edited, Split}
 use Rattle.work_texts.specs.declared.plan.JobLine.{JobLine}
 use Rattle.work_texts.specs.Rules.{comes_after, rise_after, path_of}
 use Rattle.root_plan.specs.Roots.{in_root, below_root, is_outside, may_be_candidate, debug_folder}
 use Rattle.root_plan.specs.Targets.{debug_name}
-use Rattle.root_plan.specs.Verdicts.{JudgeView, Verdict, left, edited, split}
+use Rattle.root_plan.specs.Verdicts.{JudgeView, id_of}
 use Rattle.root_plan.specs.Tallies.{Tally, FileNoted, FoundNoted, Noted, Tallies, split_job, edited_job, with_verdict}
 use Rattle.root_plan.specs.Tallies.{FileNoted as note, Noted as notes, Tallies as tally}
 use Rattle.root_plan.specs.Jobs.{ComesOf, HasFile}
@@ -69,13 +71,13 @@ module _ (old : Option TreeMap) (root : List ℕ) (s : Settings) (v : JudgeView)
 
   verdict-files : (path bytes : List ℕ) (mode : ℕ) (t : Tally) (verdict : Verdict) → may_be_candidate root path ≡ true → Stood old path s.max_file (found.File bytes mode)
       → v.says bytes (debug_name (below_root root path)) verdict → Files t → Files (with_verdict t (below_root root path) bytes verdict)
-  verdict-files path bytes mode t (left why) may stood said files = files
-  verdict-files path bytes mode t (edited names) may stood said files =
+  verdict-files path bytes mode t (Left why) may stood said files = files
+  verdict-files path bytes mode t (Edited names) may stood said files =
       All-push (HasFile old root s v) t.jobs (edited_job (below_root root path) bytes) files
-      (file-of path bytes mode (edited_job (below_root root path) bytes) (edited names) may stood (refl, refl) said (comes.of_edited refl refl))
-  verdict-files path bytes mode t (split id names) may stood said files =
-      All-push (HasFile old root s v) t.jobs (split_job t.jobs (below_root root path) bytes id) files
-      (file-of path bytes mode (split_job t.jobs (below_root root path) bytes id) (split id names) may stood (refl, refl) said (comes.of_split refl refl))
+      (file-of path bytes mode (edited_job (below_root root path) bytes) (Edited names) may stood (refl, refl) said (comes.of_edited refl refl))
+  verdict-files path bytes mode t (Split id names) may stood said files =
+      All-push (HasFile old root s v) t.jobs (split_job t.jobs (below_root root path) bytes (id_of id)) files
+      (file-of path bytes mode (split_job t.jobs (below_root root path) bytes (id_of id)) (Split id names) may stood (refl, refl) said (comes.of_split refl refl))
 
   noted-files : (path bytes : List ℕ) (mode : ℕ) (t u : Tally) → may_be_candidate root path ≡ true → Stood old path s.max_file (found.File bytes mode)
       → FileNoted s v fails (below_root root path) bytes (debug_name (below_root root path)) t u → Files t → Files u
@@ -176,11 +178,11 @@ module _ (root : List ℕ) where
   module _ (old : Option TreeMap) (s : Settings) (v : JudgeView) (fails : List ℕ → List ℕ → Refusal → Type 0) where
     rise-verdict : (front : List (List ℕ)) (path bytes : List ℕ) (t : Tally) (verdict : Verdict) → may_be_candidate root path ≡ true → AreInOrder (front ++ path ∷ []) → JobsRise root front t
         → JobsRise root (front ++ path ∷ []) (with_verdict t (below_root root path) bytes verdict)
-    rise-verdict front path bytes t (left why) may order so = rise-same front path t (with_verdict t (below_root root path) bytes (left why)) refl so
-    rise-verdict front path bytes t (edited names) may order so =
-        rise-job front path t (with_verdict t (below_root root path) bytes (edited names)) (edited_job (below_root root path) bytes) refl (sym (back root path may)) order so
-    rise-verdict front path bytes t (split id names) may order so =
-        rise-job front path t (with_verdict t (below_root root path) bytes (split id names)) (split_job t.jobs (below_root root path) bytes id) refl (sym (back root path may)) order so
+    rise-verdict front path bytes t (Left why) may order so = rise-same front path t (with_verdict t (below_root root path) bytes (Left why)) refl so
+    rise-verdict front path bytes t (Edited names) may order so =
+        rise-job front path t (with_verdict t (below_root root path) bytes (Edited names)) (edited_job (below_root root path) bytes) refl (sym (back root path may)) order so
+    rise-verdict front path bytes t (Split id names) may order so =
+        rise-job front path t (with_verdict t (below_root root path) bytes (Split id names)) (split_job t.jobs (below_root root path) bytes (id_of id)) refl (sym (back root path may)) order so
 
     rise-file : (front : List (List ℕ)) (path bytes : List ℕ) (t u : Tally) → may_be_candidate root path ≡ true
         → FileNoted s v fails (below_root root path) bytes (debug_name (below_root root path)) t u → AreInOrder (front ++ path ∷ []) → JobsRise root front t → JobsRise root (front ++ path ∷ []) u

@@ -8,7 +8,7 @@ use Rattle.file_tree.specs.declared.call.Effect.TheVariants as effect
 use Rattle.file_tree.specs.declared.node.TreeErr.{TreeErr}
 use Rattle.file_tree.specs.declared.node.TreeErr.TheVariants as tree
 use Rattle.file_tree.specs.Seen.{Seen, Past, Happened, adds, now_of}
-use Rattle.file_tree.specs.Causes.{HasCause}
+use Rattle.file_tree.specs.Causes.{HasCause, Rose}
 use Rattle.file_tree.specs.Moments.{LooksOnly, is_look}
 use Rattle.root_plan.specs.Looks.{Looked}
 
@@ -86,3 +86,9 @@ looked_then a b c x y = record {
   tells = y.tells ∙ x.tells;
   looks = λ t. looks_then a.past b.past c.past (x.looks t) (y.looks (x.tells ∙ t));
 }
+
+-- a fault behind looks is one since the first of them
+pub rose_since : (a b c : Seen) → Looked a b → Rose b.faults c.faults → Rose a.faults c.faults
+rose_since a b c looked rose = omega (arith, looked.later, rose)
+
+pub ruleset each_rules = (looked_none, looked_then, rose_since)

@@ -14,9 +14,10 @@ use Rattle.root_plan.specs.Roots.{count_outside, most_outside}
 use Rattle.root_plan.specs.Targets.{new_paths}
 use Rattle.root_plan.specs.Verdicts.{JudgeView}
 use Rattle.root_plan.specs.Tallies.{Tally, Tallies}
-use Rattle.root_plan.specs.Plans.{AreMany, plan_of, plan_length, IsLongPlan, CanBeMade, NewEnds, IsTallied, IsPlanOf, PlanEnds}
-use Rattle.root_plan.specs.Plans.{IsLongPlan as text, NewEnds as new, PlanEnds as ends}
-use Rattle.root_plan.proofs.LookLaws.{looked_none, looked_then}
+use Rattle.root_plan.specs.Looks.{Looked}
+use Rattle.root_plan.specs.Plans.{AreMany, plan_of, plan_length, IsLongPlan, CanBeMade, NewEnds, LookEnds, IsTallied, IsPlanOf, PlanEnds}
+use Rattle.root_plan.specs.Plans.{IsLongPlan as text, NewEnds as new, LookEnds as look, PlanEnds as ends}
+use Rattle.root_plan.proofs.LookLaws.{looked_none, looked_then, rose_since}
 
 pub can_made : (present : List (List ℕ)) (root : List ℕ) (given jobs : List JobLine) (news : List (String Global)) → given ≡ jobs → map string_bytes news ≡ new_paths root given
     → CanBeMade present (map string_bytes news) → CanBeMade present (new_paths root jobs)
@@ -27,6 +28,15 @@ pub ends_made : (present : List (List ℕ)) (root : List ℕ) (given jobs : List
 ends_made present root given jobs news e same is ended = subst (λ (ns : List (List ℕ)). NewEnds present ns e) (is ∙ ap (new_paths root) same) ended
 
 pub ruleset new_rules = (can_made, ends_made, new.no_memory)
+
+-- ### Looks at new paths
+
+-- a look behind others
+pub look_later : (a b c : Seen) (e : PlanErr) → Looked a b → LookEnds b c e → LookEnds a c e
+look_later a b c e looked (look.failed rose) = look.failed (rose_since a b c looked rose)
+look_later a b c e looked look.no_memory = look.no_memory
+
+pub ruleset look_rules = (look.failed, look.no_memory, look_later, looked_none, looked_then)
 
 -- ### The plan
 
@@ -68,4 +78,14 @@ module _ (root : List ℕ) (present : List (List ℕ)) (s : Settings) (v : Judge
       text-by old new tally e (tallied-at (now_of old) same tally at few tallies) (subst (λ (p : PlanData). CanBeMade present (new_paths root p.jobs)) is can)
       (subst (λ (p : PlanData). IsLongPlan p e) is long)
 
-pub ruleset plan_rules = (made_plan, many_ends, path_ends, new_ends, text_ends, ends.no_memory, looked_none, looked_then)
+  look-by : (old new : Seen) (plan : PlanData) (e : PlanErr) → IsPlanOf (now_of old) root present s v fails plan → LookEnds old new e → PlanEnds old new root present s v fails e
+  look-by old new plan e is (look.failed rose) = ends.at_look plan is rose
+  look-by old new plan e is look.no_memory = ends.no_memory
+
+  pub look_ends : (old mid new : Seen) (same : List ℕ) (tally : Tally) (plan : PlanData) (e : PlanErr) → Looked old mid → same ≡ root → count_outside same present ≤ most_outside
+      → Tallies (now_of old) same s v fails present tally → plan ≡ plan_of s tally → CanBeMade present (new_paths root plan.jobs) → plan_length plan ≤ text_limit
+      → LookEnds mid new e → PlanEnds old new root present s v fails e
+  look_ends old mid new same tally plan e looked at few tallies is can within ended =
+      look-by old new plan e (made_plan (now_of old) same tally plan at few tallies is can within) (look_later old mid new e looked ended)
+
+pub ruleset plan_rules = (made_plan, many_ends, path_ends, new_ends, text_ends, look_ends, ends.no_memory, looked_none, looked_then)

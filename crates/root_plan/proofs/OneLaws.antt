@@ -10,6 +10,8 @@ use Rattle.file_tree.specs.Trees.{TreeMap}
 use Rattle.file_tree.specs.Seen.{Seen, now_of}
 use Rattle.file_tree.specs.Causes.{Stood, AreInOrder}
 use Rattle.job_types.specs.Settings.{Settings}
+use Rattle.job_types.specs.declared.outcome.Verdict.{Verdict}
+use Rattle.job_types.specs.declared.outcome.Verdict.TheVariants.{Left, Edited, Split}
 use Rattle.work_texts.specs.declared.plan.JobLine.{JobLine}
 use Rattle.work_texts.specs.declared.plan.PlanData.{PlanData}
 use Rattle.work_texts.specs.Rules.{text_limit}
@@ -18,7 +20,7 @@ use Rattle.root_plan.specs.declared.plan_err.PlanErr.TheVariants as err
 use Rattle.root_plan.specs.declared.refused.Skipped.{Skipped}
 use Rattle.root_plan.specs.Roots.{may_be_candidate, below_root, longest_path, most_paths}
 use Rattle.root_plan.specs.Targets.{new_paths, debug_name}
-use Rattle.root_plan.specs.Verdicts.{JudgeView, IsJudge, Verdict, left, edited, split}
+use Rattle.root_plan.specs.Verdicts.{JudgeView, IsJudge, id_of}
 use Rattle.root_plan.specs.Tallies.{Tally, empty_tally, with_sources, with_verdict, split_job, edited_job, FileNoted, FoundNoted, Noted, Tallies, IsTooLong, FileEnds, CandidateEnds, FoundEnds, PathEnds}
 use Rattle.root_plan.specs.Tallies.{FileNoted as note, Noted as notes, Tallies as tally, IsTooLong as too_long, FileEnds as file, CandidateEnds as candidate, PathEnds as path_ends}
 use Rattle.root_plan.specs.Walks.{AreWalked, WalkEnds, OnlyStopped}
@@ -50,15 +52,15 @@ alike-self : (s : Settings) (t : Tally) → Alike s t t
 alike-self s t = record { jobs = refl; left = refl; sources = refl; skipped = λ e. refl }
 
 alike-verdict : (s : Settings) (path bytes : List ℕ) (a : Verdict) (t u : Tally) → Alike s t u → Alike s (with_verdict t path bytes a) (with_verdict u path bytes a)
-alike-verdict s path bytes (left why) t u h = record { jobs = h.jobs; left = ap (λ (n : ℕ). suc n) h.left; sources = h.sources; skipped = h.skipped }
-alike-verdict s path bytes (edited names) t u h = record {
+alike-verdict s path bytes (Left why) t u h = record { jobs = h.jobs; left = ap (λ (n : ℕ). suc n) h.left; sources = h.sources; skipped = h.skipped }
+alike-verdict s path bytes (Edited names) t u h = record {
   jobs = ap (λ (js : List JobLine). js ++ edited_job path bytes ∷ []) h.jobs;
   left = h.left;
   sources = ap (λ (xs : List (List ℕ)). with_sources xs names) h.sources;
   skipped = h.skipped;
 }
-alike-verdict s path bytes (split id names) t u h = record {
-  jobs = ap (λ (js : List JobLine). js ++ split_job js path bytes id ∷ []) h.jobs;
+alike-verdict s path bytes (Split id names) t u h = record {
+  jobs = ap (λ (js : List JobLine). js ++ split_job js path bytes (id_of id) ∷ []) h.jobs;
   left = h.left;
   sources = ap (λ (xs : List (List ℕ)). with_sources xs names) h.sources;
   skipped = h.skipped;
@@ -190,6 +192,7 @@ module _ (root : List ℕ) (present : List (List ℕ)) (s : Settings) (v : Judge
   ends-cut tree old new plan e here order is (ends.at_text {t = t} tallied can l) =
       text-cut s t is.tally s.skip refl (tallies-alike s v judge fails tree (now_of old) here root present t is.tally tallied.tallies is.tallied.tallies)
       (subst (λ (p : PlanData). plan_length p ≤ text_limit) is.is is.within) l
+  ends-cut tree old new plan e here order is (ends.at_look made is_plan rose) = cuts.stopped stop.failed
   ends-cut tree old new plan e here order is ends.no_memory = cuts.stopped stop.no_memory
 
   pub only_cut : (old new : Seen) (e : PlanErr) → PlanEnds old new root present s v fails e → OnlyCut old root present s v fails e

@@ -11,10 +11,11 @@ use Rattle.file_tree.specs.declared.node.Found.TheVariants as found
 use Rattle.dw_base.specs.Layout.{file_limit}
 use Rattle.file_tree.specs.Causes.{Stood, IsWithin}
 use Rattle.job_types.specs.Settings.{Settings, most_file}
+use Rattle.job_types.specs.declared.outcome.Verdict.{Verdict}
 use Rattle.root_plan.specs.declared.plan_err.PlanErr.{PlanErr}
 use Rattle.root_plan.specs.Roots.{may_be_candidate, below_root, longest_path}
 use Rattle.root_plan.specs.Targets.{debug_name}
-use Rattle.root_plan.specs.Verdicts.{JudgeView, Verdict, IsUnsaid}
+use Rattle.root_plan.specs.Verdicts.{JudgeView, IsUnsaid}
 use Rattle.root_plan.specs.Tallies.{Tally, FileNoted, CandidateNoted, FoundNoted, Noted, FileEnds, CandidateEnds, FoundEnds, PathEnds}
 use Rattle.root_plan.specs.Tallies.{FileNoted as note, Noted as notes, IsTooLong as too_long, FileEnds as file, CandidateEnds as candidate, LargeEnds as large, PathEnds as ends}
 use Rattle.root_plan.proofs.LookLaws.{looked_none, looked_then}

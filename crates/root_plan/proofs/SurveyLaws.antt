@@ -11,17 +11,19 @@ use Rattle.file_tree.specs.declared.node.Found.{Found}
 use Rattle.file_tree.specs.declared.node.Found.TheVariants as found
 use Rattle.file_tree.specs.Trees.{TreeMap, is_below}
 use Rattle.file_tree.specs.Seen.{Seen, now_of}
-use Rattle.file_tree.specs.Causes.{Stood, Rose}
+use Rattle.file_tree.specs.Causes.{Stood}
 use Rattle.job_types.specs.Settings.{Settings}
+use Rattle.job_types.specs.declared.outcome.Verdict.{Verdict}
+use Rattle.job_types.specs.declared.outcome.Verdict.TheVariants.{Left, Edited, Split}
 use Rattle.root_plan.specs.declared.plan_err.PlanErr.{PlanErr}
 use Rattle.root_plan.specs.Roots.{is_outside, count_outside, may_be_candidate, debug_folder, most_outside}
 use Rattle.root_plan.specs.Looks.{Looked}
-use Rattle.root_plan.specs.Verdicts.{JudgeView, Verdict, left, edited, split}
+use Rattle.root_plan.specs.Verdicts.{JudgeView, id_of}
 use Rattle.root_plan.specs.Tallies.{Tally, with_verdict, edited_job, split_job, FileNoted, FoundNoted, Noted, Tallies, PathEnds}
 use Rattle.root_plan.specs.Tallies.{FileNoted as note, Noted as notes, Tallies as tally, PathEnds as ends}
 use Rattle.root_plan.specs.Plans.{PlanEnds}
 use Rattle.root_plan.specs.Plans.{PlanEnds as plan}
-use Rattle.root_plan.proofs.LookLaws.{looked_none, looked_then}
+use Rattle.root_plan.proofs.LookLaws.{looked_none, looked_then, rose_since}
 
 -- ### Few files
 
@@ -38,9 +40,9 @@ abbrev files_of : Tally → ℕ
 files_of t = length t.jobs + t.left
 
 size-verdict : (t : Tally) (path bytes : List ℕ) (v : Verdict) → files_of (with_verdict t path bytes v) ≤ files_of t + 1
-size-verdict t path bytes (left why) = omega arith
-size-verdict t path bytes (edited names) = omega (arith, length_push t.jobs (edited_job path bytes))
-size-verdict t path bytes (split id names) = omega (arith, length_push t.jobs (split_job t.jobs path bytes id))
+size-verdict t path bytes (Left why) = omega arith
+size-verdict t path bytes (Edited names) = omega (arith, length_push t.jobs (edited_job path bytes))
+size-verdict t path bytes (Split id names) = omega (arith, length_push t.jobs (split_job t.jobs path bytes (id_of id)))
 
 size-file : (s : Settings) (v : JudgeView) (fails : List ℕ → List ℕ → Refusal → Type 0) (path bytes name : List ℕ) (t u : Tally) → FileNoted s v fails path bytes name t u → files_of u ≤ files_of t + 1
 size-file s v fails path bytes name t u (note.judged {verdict} said) = size-verdict t path bytes verdict
@@ -90,13 +92,10 @@ one_more old now root s v fails paths path n t u l is same ts noted =
     let here : Noted old root s v fails (get_or paths n []) t u = subst (λ (p : List ℕ). Noted old root s v fails p t u) is (subst (λ (o : Option TreeMap). Noted o root s v fails path t u) same noted) in
     subst (λ (ps : List (List ℕ)). Tallies old root s v fails ps u) (sym (take_more paths n [] l)) (tally.more ts here)
 
-rose_later : (a b c : ℕ) → a ≤ b → Rose b c → Rose a c
-rose_later a b c l rose = omega (arith, l, rose)
-
 ends_before : (a b c : Seen) (root : List ℕ) (s : Settings) (v : JudgeView) (fails : List ℕ → List ℕ → Refusal → Type 0) (path : List ℕ) (e : PlanErr)
     → Looked a b → PathEnds b c root s v fails path e → PathEnds a c root s v fails path e
 ends_before a b c root s v fails path e looked (ends.at_found {what} may stood ended) = ends.at_found may (subst (λ (o : Option TreeMap). Stood o path s.max_file what) looked.now stood) ended
-ends_before a b c root s v fails path e looked (ends.failed rose) = ends.failed (rose_later a.faults b.faults c.faults looked.later rose)
+ends_before a b c root s v fails path e looked (ends.failed rose) = ends.failed (rose_since a b c looked rose)
 ends_before a b c root s v fails path e looked ends.no_memory = ends.no_memory
 
 pub ends_there : (a b c : Seen) (root : List ℕ) (s : Settings) (v : JudgeView) (fails : List ℕ → List ℕ → Refusal → Type 0) (paths : List (List ℕ)) (path : List ℕ) (n : ℕ) (t : Tally) (e : PlanErr)

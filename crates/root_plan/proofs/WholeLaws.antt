@@ -22,6 +22,8 @@ use Rattle.file_tree.specs.declared.node.Found.TheVariants as found
 use Rattle.file_tree.specs.Trees.{TreeMap}
 use Rattle.job_types.specs.Kinds.{kind_text}
 use Rattle.job_types.specs.Settings.{Settings}
+use Rattle.job_types.specs.declared.outcome.Verdict.{Verdict}
+use Rattle.job_types.specs.declared.outcome.Verdict.TheVariants.{Left, Edited, Split}
 use Rattle.work_texts.specs.declared.plan.JobLine.{JobLine}
 use Rattle.work_texts.specs.declared.plan.PlanData.{PlanData}
 use Rattle.work_texts.specs.Fields.{Field, plan_fields, job_fields, key_fields}
@@ -31,7 +33,7 @@ use Rattle.root_plan.specs.declared.refused.Skipped.{Skipped}
 use Rattle.root_plan.specs.Roots.{below_root, may_be_candidate, most_outside}
 use Rattle.root_plan.specs.Targets.{debug_name}
 use Rattle.root_plan.specs.Reports.{report_of, report_text, skipped_line, count_line, job_counts, other_counts, split_count, edited_count, link_count}
-use Rattle.root_plan.specs.Verdicts.{JudgeView, IsJudge, Verdict, Made, AreSources, left, edited, split}
+use Rattle.root_plan.specs.Verdicts.{JudgeView, IsJudge, Made, AreSources, id_of}
 use Rattle.root_plan.specs.Verdicts.{Made as made}
 use Rattle.root_plan.specs.Tallies.{Tally, FileNoted, FoundNoted, Noted, Tallies, placed_by, with_source, with_sources, with_verdict, with_skipped, split_job, edited_job, count_of_id}
 use Rattle.root_plan.specs.Tallies.{FileNoted as note, Noted as notes, Tallies as tally}
@@ -234,7 +236,7 @@ sources-plain (name ∷ names) xs new old = sources-plain names (with_source xs 
 
 -- ### Jobs
 
-made-names : (v : JudgeView) (bytes name : List ℕ) (names : List (List ℕ)) → Made v bytes name (edited names) → AreSources names
+made-names : (v : JudgeView) (bytes name : List ℕ) (names : List (List ℕ)) → Made v bytes name (Edited names) → AreSources names
 made-names v bytes name names (made.made_one is so) = so
 
 -- what is known of a file that is split
@@ -243,7 +245,7 @@ record SplitFacts (build_id : List ℕ) (names : List (List ℕ)) : Type 0 where
   id_bytes : IsBytes build_id
   sources : AreSources names
 
-made-pair : (v : JudgeView) (bytes name id : List ℕ) (names : List (List ℕ)) → Made v bytes name (split id names) → SplitFacts id names
+made-pair : (v : JudgeView) (bytes name : List ℕ) (id : Option (List ℕ)) (names : List (List ℕ)) → Made v bytes name (Split id names) → SplitFacts (id_of id) names
 made-pair v bytes name id names (made.made_two is pair may all so) = record { id = may; id_bytes = all; sources = so }
 
 number-by : (b : Bool) (n : ℕ) → n ≤ 4294967295 → (if b then 0 else n) ≤ (if b then 0 else 4294967295)
@@ -286,20 +288,20 @@ fit-push jobs job old new few =
 
 fit-verdict : (v : JudgeView) (path bytes : List ℕ) (t : Tally) (verdict : Verdict) → IsTrue (is_job_path path) → Made v bytes (debug_name path) verdict → IsFit t
     → IsFit (with_verdict t path bytes verdict)
-fit-verdict v path bytes t (left why) plain m fit = record { rise = fit.rise; plain = fit.plain; bare = fit.bare; jobs = fit.jobs }
-fit-verdict v path bytes t (edited names) plain m fit =
+fit-verdict v path bytes t (Left why) plain m fit = record { rise = fit.rise; plain = fit.plain; bare = fit.bare; jobs = fit.jobs }
+fit-verdict v path bytes t (Edited names) plain m fit =
     let so = made-names v bytes (debug_name path) names m in record {
       rise = sources-rise names t.sources fit.rise;
       plain = sources-plain names t.sources so.plain fit.plain;
       bare = fit.bare;
       jobs = fit-push t.jobs (edited_job path bytes) fit.jobs (λ few. edited-fits path bytes plain);
     }
-fit-verdict v path bytes t (split id names) plain m fit =
+fit-verdict v path bytes t (Split id names) plain m fit =
     let so = made-pair v bytes (debug_name path) id names m in record {
       rise = sources-rise names t.sources fit.rise;
       plain = sources-plain names t.sources so.sources.plain fit.plain;
       bare = fit.bare;
-      jobs = fit-push t.jobs (split_job t.jobs path bytes id) fit.jobs (λ few. split-fits t.jobs path bytes id plain so.id so.id_bytes few);
+      jobs = fit-push t.jobs (split_job t.jobs path bytes (id_of id)) fit.jobs (λ few. split-fits t.jobs path bytes (id_of id) plain so.id so.id_bytes few);
     }
 
 fit-skipped : (path : List ℕ) (t : Tally) (r : Refusal) → IsTrue (is_job_path path) → IsFit t → IsFit (with_skipped t path r)

@@ -8,17 +8,19 @@ use Rattle.dw_base.specs.Paths.{IsPathMap}
 use Rattle.dw_base.specs.Texts.{has_nul}
 use Rattle.file_tree.specs.Causes.{Stood, AreInOrder}
 use Rattle.job_types.specs.Settings.{Settings, IsWithin}
+use Rattle.job_types.specs.declared.outcome.Verdict.{Verdict}
+use Rattle.job_types.specs.declared.outcome.Verdict.TheVariants.{Edited, Split}
 use Rattle.work_texts.specs.declared.plan.JobLine.{JobLine}
 use Rattle.work_texts.specs.declared.plan.PlanData.{PlanData}
 use Rattle.work_texts.specs.Rules.{is_job_path, IsPlan}
 use Rattle.root_plan.specs.Roots.{most_outside, in_root, below_root, may_be_candidate}
 use Rattle.root_plan.specs.Targets.{debug_name}
-use Rattle.root_plan.specs.Verdicts.{Verdict, edited, split, JudgeView, IsJudge}
+use Rattle.root_plan.specs.Verdicts.{JudgeView, IsJudge, id_of}
 
 -- a job comes of a file of which this is said
 pub data ComesOf (job : JobLine) : Verdict → Type 0 where
-  of_edited : {names : List (List ℕ)} → job.split ≡ false → job.id ≡ [] → ComesOf job (edited names)
-  of_split : {id : List ℕ} {names : List (List ℕ)} → job.split ≡ true → job.id ≡ id → ComesOf job (split id names)
+  of_edited : {names : List (List ℕ)} → job.split ≡ false → job.id ≡ [] → ComesOf job (Edited names)
+  of_split : {id : Option (List ℕ)} {names : List (List ℕ)} → job.split ≡ true → job.id ≡ id_of id → ComesOf job (Split id names)
 
 -- a job's file: a candidate that stands at the job's path and has its digest
 pub record HasFile (old : Option TreeMap) (root : List ℕ) (s : Settings) (v : JudgeView) (job : JobLine) : Type 0 where

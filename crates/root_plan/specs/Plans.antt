@@ -4,7 +4,7 @@ use Rattle.dw_base.specs.declared.fault.Refusal.{Refusal}
 use Rattle.dw_base.specs.Texts.{same_text}
 use Rattle.file_tree.specs.Trees.{TreeMap, is_below}
 use Rattle.file_tree.specs.Seen.{Seen, now_of}
-use Rattle.file_tree.specs.Causes.{AreInOrder}
+use Rattle.file_tree.specs.Causes.{AreInOrder, Rose}
 use Rattle.job_types.specs.Settings.{Settings}
 use Rattle.work_texts.specs.declared.key.RunKey.{RunKey}
 use Rattle.work_texts.specs.declared.plan.PlanData.{PlanData}
@@ -65,6 +65,11 @@ pub data NewEnds (present news : List (List ℕ)) : PlanErr → Type 0 where
   taken : {path : List ℕ} → AreShort news → IsTaken present news path → NewEnds present news (err.Taken path)
   no_memory : NewEnds present news err.NoMemory
 
+-- why looks at them end: a call of the tree failed; or a cut
+pub data LookEnds (old new : Seen) : PlanErr → Type 0 where
+  failed : Rose old.faults new.faults → LookEnds old new err.Tree
+  no_memory : LookEnds old new err.NoMemory
+
 -- the text of a plan is within its limit
 abbrev pub plan_length : PlanData → ℕ
 plan_length p = length (text_of (plan_fields p))
@@ -124,6 +129,9 @@ pub data PlanEnds (old new : Seen) (root : List ℕ) (present : List (List ℕ))
   -- the text of the plan is too long
   at_text : {t : Tally} → IsTallied (now_of old) root present s v fails t → CanBeMade present (new_paths root t.jobs)
       → text_limit < plan_length (plan_of s t) → PlanEnds old new root present s v fails err.PlanTooLarge
+  -- a look at a new path of a plan: a call of the tree failed
+  at_look : (plan : PlanData) → IsPlanOf (now_of old) root present s v fails plan → Rose old.faults new.faults
+      → PlanEnds old new root present s v fails err.Tree
   no_memory : PlanEnds old new root present s v fails err.NoMemory
 
 -- what can come in place of a plan that there is: a fault of the tree; a cut; and, of a run that skips files, that the text is

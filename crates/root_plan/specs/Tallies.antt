@@ -13,13 +13,15 @@ use Rattle.file_tree.specs.Trees.{TreeMap}
 use Rattle.file_tree.specs.Seen.{Seen, now_of}
 use Rattle.file_tree.specs.Causes.{Stood, Rose}
 use Rattle.job_types.specs.Settings.{Settings}
+use Rattle.job_types.specs.declared.outcome.Verdict.{Verdict}
+use Rattle.job_types.specs.declared.outcome.Verdict.TheVariants.{Left, Edited, Split}
 use Rattle.work_texts.specs.declared.plan.JobLine.{JobLine}
 use Rattle.root_plan.specs.declared.refused.Skipped.{Skipped}
 use Rattle.root_plan.specs.declared.plan_err.PlanErr.{PlanErr}
 use Rattle.root_plan.specs.declared.plan_err.PlanErr.TheVariants as err
 use Rattle.root_plan.specs.Roots.{below_root, may_be_candidate, longest_path}
 use Rattle.root_plan.specs.Targets.{debug_name}
-use Rattle.root_plan.specs.Verdicts.{Verdict, left, edited, split, JudgeView, IsUnsaid}
+use Rattle.root_plan.specs.Verdicts.{JudgeView, IsUnsaid, id_of}
 
 -- the jobs of some files, how many files are left, those that are skipped, and the names of all sources, in byte order, each once
 pub record Tally : Type 0 where
@@ -77,9 +79,9 @@ with_skipped t path refusal =
 
 -- with a file of which this is said, by its path below the root and its bytes
 abbrev pub with_verdict : Tally → List ℕ → List ℕ → Verdict → Tally
-with_verdict t path bytes (left why) = with_left t
-with_verdict t path bytes (edited names) = with_job t (edited_job path bytes) names
-with_verdict t path bytes (split id names) = with_job t (split_job t.jobs path bytes id) names
+with_verdict t path bytes (Left why) = with_left t
+with_verdict t path bytes (Edited names) = with_job t (edited_job path bytes) names
+with_verdict t path bytes (Split id names) = with_job t (split_job t.jobs path bytes (id_of id)) names
 
 -- ### All files
 

@@ -1,29 +1,17 @@
--- What is said of a file of a build root: it is left, edited, or edited and split.
+-- What is said of a file of a build root, and what can be made of it: it is left, edited, or edited and split.
 use Rattle.std.specs.Prelude.{◌≡◌, ℕ, true, false, List, [], Option, Some, None, IsTrue}
 use Rattle.std.specs.List.{AllByRecursion}
 use Rattle.hex.specs.Hex.{IsBytes}
 use Rattle.dw_base.specs.Texts.{has_nul}
 use Rattle.job_types.specs.declared.outcome.LeftWhy.{LeftWhy}
-use Rattle.job_types.specs.declared.outcome.Outcome.{Outcome}
-use Rattle.job_types.specs.declared.outcome.Outcome.TheVariants as outcome
+use Rattle.job_types.specs.declared.outcome.Verdict.{Verdict}
+use Rattle.job_types.specs.declared.outcome.Verdict.TheVariants.{Left, Edited, Split}
 use Rattle.work_texts.specs.Rules.{may_have_id, rise_after}
 
--- what becomes of a file; an edited one and a split one with the names of its sources, a split one with its build-id,
--- which is empty where it has none
-pub data Verdict : Type 0 where
-  left : LeftWhy → Verdict
-  edited : (sources : List (List ℕ)) → Verdict
-  split : (id : List ℕ) (sources : List (List ℕ)) → Verdict
-
+-- a build-id as a plan has it: empty where a file has none
 abbrev pub id_of : Option (List ℕ) → List ℕ
 id_of None = []
 id_of (Some id) = id
-
--- what a job made of a file says of it
-abbrev pub verdict_of : Outcome → Verdict
-verdict_of (outcome.Split stripped debug id sources) = split (id_of id) sources
-verdict_of (outcome.Edited bytes sources) = edited sources
-verdict_of (outcome.Left why) = left why
 
 -- a stripped file and its debug file
 pub record Pair : Type 0 where
@@ -48,10 +36,10 @@ pub record AreSources (names : List (List ℕ)) : Type 0 where
 
 -- the outputs of a file of which this is said: it can be edited, and split
 pub data Made (v : JudgeView) (bytes name : List ℕ) : Verdict → Type 0 where
-  not_made : {why : LeftWhy} → Made v bytes name (left why)
-  made_one : {names : List (List ℕ)} {file : List ℕ} → v.edits bytes file → AreSources names → Made v bytes name (edited names)
-  made_two : {id file : List ℕ} {names : List (List ℕ)} {pair : Pair} → v.edits bytes file → v.pairs file name pair
-      → IsTrue (may_have_id true id) → IsBytes id → AreSources names → Made v bytes name (split id names)
+  not_made : {why : LeftWhy} → Made v bytes name (Left why)
+  made_one : {names : List (List ℕ)} {file : List ℕ} → v.edits bytes file → AreSources names → Made v bytes name (Edited names)
+  made_two : {id : Option (List ℕ)} {file : List ℕ} {names : List (List ℕ)} {pair : Pair} → v.edits bytes file → v.pairs file name pair
+      → IsTrue (may_have_id true (id_of id)) → IsBytes (id_of id) → AreSources names → Made v bytes name (Split id names)
 
 -- whatever is said of a file can be made, and of each file one thing is said, and one thing is made
 pub record IsJudge (v : JudgeView) : Type 0 where

@@ -8,10 +8,11 @@ ghost use Rattle.dw_base.specs.declared.fault.Refusal.{Refusal};
 ghost use Rattle.dw_base.specs.Layout.{file_limit, output_limit};
 ghost use Rattle.dw_base.specs.declared.fault.Fault.TheVariants.{NoMemory};
 ghost use Rattle.dw_base.specs.Refusals.{Blames};
-ghost use Rattle.root_plan.specs.Verdicts.{JudgeView, IsJudge, Verdict, Pair, verdict_of};
+ghost use Rattle.job_types.specs.declared.outcome.Verdict.{Verdict as VerdictOf};
+ghost use Rattle.root_plan.specs.Verdicts.{JudgeView, IsJudge, Pair};
 
 use dw_base::Fault;
-use job_types::Outcome;
+use job_types::Verdict;
 use std::alloc::Global;
 
 /// A stripped file and its debug file.
@@ -31,12 +32,12 @@ pub trait Judge {
 
     ghost split_fails: { Self → List ℕ → List ℕ → Refusal → Type 0 };
 
-    /// What becomes of a file.
-    fn outcome(&self, alloc: Global, bytes: &[u8], debug_name: &[u8]) -> Result<Outcome, Fault>
+    /// What is said of a file.
+    fn verdict(&self, alloc: Global, bytes: &[u8], debug_name: &[u8]) -> Result<Verdict, Fault>
         requires small { length bytes.now ≤ file_limit }
-        ensures said { IfOk result (λ o. (view self.now).says bytes.now debug_name.now (verdict_of o)) }
+        ensures said { IfOk result ((view self.now).says bytes.now debug_name.now) }
         ensures refused { IfErr result (Blames (fails self.now bytes.now debug_name.now)) }
-        ensures whole { (x : Verdict) → (view self.now).says bytes.now debug_name.now x → IsOkUnless result NoMemory };
+        ensures whole { (x : VerdictOf) → (view self.now).says bytes.now debug_name.now x → IsOkUnless result NoMemory };
 
     /// The edited file.
     fn edited(&self, alloc: Global, bytes: &[u8]) -> Result<Vec<u8>, Fault>

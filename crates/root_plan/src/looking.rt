@@ -30,3 +30,15 @@ pub(crate) fn read<T: Tree>(tree: &mut T, path: &str, limit: u64) -> Result<Foun
 {
     tree.read(path, limit)
 }
+
+/// Looks at each of these paths, whatever is there.
+#[tactic(auto, using(crate::proofs::LookLaws::each_rules))]
+pub(crate) fn look_at_each<T: Tree>(tree: &mut T, paths: &[String]) -> Result<(), TreeErr>
+    ensures failed { IsErrOf result Failed → Rose (T.seen tree.old).faults (T.seen tree.new).faults }
+    ensures looked { Looked (T.seen tree.old) (T.seen tree.new) }
+{
+    for path in paths {
+        read(tree, path.as_str(), 0)?;
+    }
+    Ok(())
+}

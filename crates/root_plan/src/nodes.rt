@@ -131,15 +131,15 @@ fn pair_nodes(
     Ok(nodes)
 }
 
-/// The edited file.
+/// The edited file. The file itself isn't held any longer then.
 #[tactic(auto, using(crate::proofs::MakerLaws::end_rules))]
-fn edit<J: Judge>(alloc: Global, judge: &J, bytes: &[u8]) -> Result<Vec<u8>, MakeErr>
-    requires small { length bytes.now ≤ file_limit }
-    ensures made { IfOk result (λ file. (J.view judge.now).edits bytes.now file.items) }
+fn edit<J: Judge>(alloc: Global, judge: &J, bytes: Blob) -> Result<Vec<u8>, MakeErr>
+    requires small { length bytes ≤ file_limit }
+    ensures made { IfOk result (λ file. (J.view judge.now).edits bytes file.items) }
     ensures small { IfOk result (λ file. length file.items ≤ output_limit) }
-    ensures ends { IfErr result (EditEnds (J.view judge.now) (J.edit_fails judge.now) bytes.now) }
+    ensures ends { IfErr result (EditEnds (J.view judge.now) (J.edit_fails judge.now) bytes) }
 {
-    match judge.edited(alloc, bytes) {
+    match judge.edited(alloc, bytes.as_slice()) {
         Ok(file) => Ok(file),
         Err(Fault::Refused(refusal)) => Err(MakeErr::Refused(refusal)),
         Err(Fault::NoMemory) => Err(MakeErr::NoMemory),
@@ -202,11 +202,18 @@ fn edited_nodes<J: Judge>(
     Ok(nodes)
 }
 
-/// Whether bytes have this digest.
-fn has_digest(bytes: &[u8], digest: &[u8; 20]) -> bool
+/// The digest of a file.
+fn digest_of(bytes: &Blob) -> [u8; 20]
+    ensures value { result ≡ sha1 bytes.now }
+{
+    Sha1::digest(bytes.as_slice())
+}
+
+/// Whether a file has this digest.
+fn has_digest(bytes: &Blob, digest: &[u8; 20]) -> bool
     ensures value { result ≡ same_text (sha1 bytes.now) digest.now }
 {
-    Sha1::digest(bytes).as_slice() == digest.as_slice()
+    digest_of(bytes).as_slice() == digest.as_slice()
 }
 
 /// The nodes that a job makes of a file.
@@ -215,17 +222,17 @@ pub(crate) fn make_nodes<J: Judge>(
     alloc: Global,
     judge: &J,
     job: &JobLine,
-    bytes: &[u8],
+    bytes: Blob,
     mode: u32,
 ) -> Result<Vec<Node>, MakeErr>
-    requires small { length bytes.now ≤ file_limit }
-    ensures made { IfOk result (λ v. NodesOf (J.view judge.now) job.now bytes.now mode v.items) }
-    ensures ends { IfErr result (MakeEnds (J.view judge.now) (J.edit_fails judge.now) (J.split_fails judge.now) job.now bytes.now mode) }
+    requires small { length bytes ≤ file_limit }
+    ensures made { IfOk result (λ v. NodesOf (J.view judge.now) job.now bytes mode v.items) }
+    ensures ends { IfErr result (MakeEnds (J.view judge.now) (J.edit_fails judge.now) (J.split_fails judge.now) job.now bytes mode) }
 {
-    if !has_digest(bytes, &job.digest) {
+    if !has_digest(&bytes, &job.digest) {
         return Err(MakeErr::Changed {
             planned: job.digest,
-            found: Sha1::digest(bytes),
+            found: digest_of(&bytes),
         });
     }
     let file = edit(alloc, judge, bytes)?;

@@ -79,9 +79,9 @@ fn note_file<J: Judge>(
     ensures noted { IfOk result (FileNoted options.now (J.view judge.now) (J.fails judge.now) below.now bytes.now name.now survey) }
     ensures ends { IfErr result (FileEnds options.now (J.view judge.now) (J.fails judge.now) path.now bytes.now name.now) }
 {
-    match judge.outcome(alloc, bytes, name) {
-        Ok(outcome) => {
-            let survey = survey.with_outcome(alloc, below, bytes, outcome)?;
+    match judge.verdict(alloc, bytes, name) {
+        Ok(verdict) => {
+            let survey = survey.with_verdict(alloc, below, bytes, verdict)?;
             Ok(survey)
         }
         Err(Fault::Refused(refusal)) => {

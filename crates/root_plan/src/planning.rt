@@ -7,22 +7,23 @@ ghost use Rattle.file_tree.specs.Seen.{now_of};
 ghost use Rattle.work_texts.specs.Rules.{text_limit};
 ghost use Rattle.root_plan.specs.Looks.{Looked};
 ghost use Rattle.root_plan.specs.Targets.{new_paths};
-ghost use Rattle.root_plan.specs.Plans.{key_of, plan_of, plan_length, IsLongPlan, CanBeMade, NewEnds, IsPlanOf, IsRunPlan, PlanEnds, OnlyCut};
+ghost use Rattle.root_plan.specs.Plans.{key_of, plan_of, plan_length, IsLongPlan, CanBeMade, NewEnds, LookEnds, IsPlanOf, IsRunPlan, PlanEnds, OnlyCut};
 ghost use Rattle.root_plan.specs.Jobs.{Serves};
 
 use crate::judge::Judge;
+use crate::looking::look_at_each;
 use crate::names::Root;
 use crate::plan_err::PlanErr;
 use crate::report::report;
 use crate::survey::Survey;
 use crate::surveying::{check_count, survey_paths};
 use crate::taken::check_made;
-use crate::targets::new_paths;
+use crate::targets::{new_paths, push_paths};
 use file_tree::{Blob, Tree};
 use job_types::Options;
 use std::alloc::{AllocError, Global};
 use std::collections::BTreeSet;
-use work_texts::{Jobs, PlanData, RunKey, Sources, TEXT_LIMIT, write_plan};
+use work_texts::{JobLine, Jobs, PlanData, RunKey, Sources, TEXT_LIMIT, write_plan};
 
 /// The key of a run: the options that its outputs depend on.
 pub fn run_key(alloc: Global, options: &Options) -> Result<RunKey, AllocError>
@@ -112,6 +113,41 @@ fn check_new(alloc: Global, root: &str, present: &[String], plan: &PlanData) -> 
     Ok(())
 }
 
+/// Looks at each new path that a job makes.
+#[tactic(auto, using(crate::proofs::MadeLaws::look_rules))]
+fn look_at_job<T: Tree>(
+    alloc: Global,
+    tree: &mut T,
+    root: &str,
+    job: &JobLine,
+) -> Result<(), PlanErr>
+    ensures ends { IfErr result (LookEnds (T.seen tree.old) (T.seen tree.new)) }
+    ensures looked { Looked (T.seen tree.old) (T.seen tree.new) }
+{
+    let mut paths = Vec::new(alloc);
+    push_paths(alloc, root, job, &mut paths)?;
+    look_at_each(tree, &paths)?;
+    Ok(())
+}
+
+/// Looks at each new path that these jobs make. A tree may tell a path that can't become a file only when it
+/// is asked for it.
+#[tactic(auto, using(crate::proofs::MadeLaws::look_rules))]
+fn look_at_new<T: Tree>(
+    alloc: Global,
+    tree: &mut T,
+    root: &str,
+    jobs: &[JobLine],
+) -> Result<(), PlanErr>
+    ensures ends { IfErr result (LookEnds (T.seen tree.old) (T.seen tree.new)) }
+    ensures looked { Looked (T.seen tree.old) (T.seen tree.new) }
+{
+    for job in jobs {
+        look_at_job(alloc, tree, root, job)?;
+    }
+    Ok(())
+}
+
 /// The plan of a build root, step by step.
 #[tactic(auto, using(crate::proofs::MadeLaws::plan_rules))]
 fn plan_root<T: Tree, J: Judge>(
@@ -132,6 +168,7 @@ fn plan_root<T: Tree, J: Judge>(
     let plan = plan_of(alloc, options, survey)?;
     check_new(alloc, root, present, &plan)?;
     check_text(alloc, &plan)?;
+    look_at_new(alloc, tree, root, plan.jobs.as_slice())?;
     Ok(plan)
 }
 

@@ -12,7 +12,7 @@ use crate::lists::{debug_file_list, link_list, source_list};
 use crate::nodes::{make_nodes, step_count, target};
 use crate::targets::in_root;
 use dw_base::NoMemory;
-use file_tree::Node;
+use file_tree::{Blob, Node};
 use std::alloc::{AllocError, Global};
 use work_journal::{MakeErr, Maker};
 use work_texts::{JobLine, PlanData};
@@ -107,7 +107,7 @@ impl<J: Judge + Drop> Maker for RootMaker<J> {
         &mut self,
         alloc: Global,
         job: u32,
-        bytes: &[u8],
+        bytes: Blob,
         mode: u32,
     ) -> Result<Vec<Node>, MakeErr> {
         let line = job_of(&self.plan, job);

@@ -5,14 +5,14 @@ ghost use Rattle.std.specs.Prelude.{◌≡◌, ◌≢◌, ◌+◌, ◌-◌, ◌<
 ghost use Rattle.sha1.specs.Sha1.{sha1};
 ghost use Rattle.work_texts.specs.Lists.{bytes_of};
 ghost use Rattle.root_plan.specs.Counted.{count_in, AreCounted, CountsOneMore};
-ghost use Rattle.root_plan.specs.Verdicts.{verdict_of, id_of};
+ghost use Rattle.root_plan.specs.Verdicts.{id_of};
 ghost use Rattle.root_plan.specs.Tallies.{Tally, empty_tally, with_source, with_sources, with_job, with_left, with_skipped, with_verdict, split_job, edited_job};
 
 use crate::refused::Skipped;
 use dw_base::Refusal;
 use file_tree::{Blob, Text};
 use indexmap::IndexMap;
-use job_types::Outcome;
+use job_types::Verdict;
 use sha1::Sha1;
 use std::alloc::{AllocError, Global};
 use std::collections::BTreeSet;
@@ -251,29 +251,24 @@ impl Survey {
         })
     }
 
-    /// With a file of which this was made, by its path below the root and its bytes.
-    pub(crate) fn with_outcome(
+    /// With a file of which this is said, by its path below the root and its bytes.
+    pub(crate) fn with_verdict(
         self,
         alloc: Global,
         path: &str,
         bytes: &[u8],
-        outcome: Outcome,
+        verdict: Verdict,
     ) -> Result<Survey, AllocError>
         requires few { length self.jobs < 2 ^ 32 - 1 }
         requires few_left { self.left < 2 ^ 32 }
-        ensures value { IfOk result (λ s. s ≡ with_verdict self path.now bytes.now (verdict_of outcome)) }
+        ensures value { IfOk result (λ s. s ≡ with_verdict self path.now bytes.now verdict) }
     {
-        match outcome {
-            Outcome::Left(_) => Ok(self.with_left()),
-            Outcome::Edited { bytes: _, sources } => {
+        match verdict {
+            Verdict::Left(_) => Ok(self.with_left()),
+            Verdict::Edited { sources } => {
                 self.with_edited(alloc, path, bytes, sources.into_vec())
             }
-            Outcome::Split {
-                stripped: _,
-                debug: _,
-                id,
-                sources,
-            } => {
+            Verdict::Split { id, sources } => {
                 let id = id_or_empty(alloc, id);
                 self.with_split(alloc, path, bytes, id, sources.into_vec())
             }

@@ -93,7 +93,7 @@ fn push_links(
 
 /// Adds the new paths that a job makes.
 #[tactic(auto, using(crate::proofs::TargetLaws::push_rules))]
-fn push_paths(
+pub(crate) fn push_paths(
     alloc: Global,
     root: &str,
     job: &JobLine,

@@ -26,7 +26,7 @@ use Rattle.root_plan.specs.Errors.{IsStopped}
 use Rattle.root_plan.specs.Errors.{IsStopped as stop}
 use Rattle.root_plan.specs.Plans.{IsTallied, IsPlanOf, IsTaken, PlanEnds, IsCut, is_nested, plan_of, plan_length}
 use Rattle.root_plan.specs.Plans.{IsTaken as taken, IsCut as cuts}
-use Rattle.root_plan.specs.Roots.{count_outside, in_root, is_outside, may_be_candidate, most_outside, most_paths, work_folder}
+use Rattle.root_plan.specs.Roots.{count_outside, in_root, is_outside, may_be_candidate, most_outside, work_folder}
 use Rattle.root_plan.specs.Tallies.{Tally, Noted, Tallies}
 use Rattle.root_plan.specs.Tallies.{Noted as notes, Tallies as tally}
 use Rattle.root_plan.specs.Targets.{new_paths_of, new_paths}
@@ -46,6 +46,7 @@ use Rattle.root_run.specs.Wholes.{IsClean, wanted_of}
 use Rattle.root_run.proofs.BeforeLaws.{keys-before, count-filter, candidate-outside, outside-candidate}
 use Rattle.root_run.proofs.DueLaws.{IsClass, IsLongTally, ends-class, empty-is}
 use Rattle.root_run.proofs.DueLaws.{IsClass as class}
+use Rattle.root_run.proofs.FewLaws.{partway-few}
 use Rattle.root_run.proofs.GivenLaws.{wanted-given}
 use Rattle.root_run.proofs.KeysLaws.{keys-order, keys-have, longer-below, root-below, work-below}
 use Rattle.root_run.proofs.MovedLaws.{tallies-move, noted-moves}
@@ -318,10 +319,10 @@ module _ (start : TreeMap) (root : List ℕ) (s : Settings) (v : JudgeView) (fai
       open_.some (keys (none plan) (none (final 3)) ∙ ap (filter (is_outside root)) e)
 
   module _ (edit_fails : List ℕ → Refusal → Type 0) (split_fails : List ℕ → List ℕ → Refusal → Type 0) (old new : Seen) (here : now_of old ≡ Some t) (tells : old.tells ≡ true)
-      (few : length (keys_below t root) ≤ most_paths) (calm : Rose old.faults new.faults → ⊥) where
+      (calm : Rose old.faults new.faults → ⊥) where
     walk-complete : (e : PlanErr) → WalkEnds old new root e → plan_status e ≡ 13
     walk-complete e (walk.absent h) = absurd (some-now (sym (h.are t here)))
-    walk-complete e (walk.many h) = absurd (omega (arith, few, h.many t here))
+    walk-complete e (walk.many h) = absurd (omega (arith, partway-few start root clean open_.is.tallied.few s v fails t partway, h.many t here))
     walk-complete e (walk.failed rose) = absurd (calm rose)
     walk-complete e walk.memory = refl
 

@@ -279,6 +279,7 @@ module _ (root : List ℕ) (s : Settings) (v : JudgeView) (fails : List ℕ → 
       tally = u;
       is = record { tallied = subst (λ (o : Option TreeMap). IsTallied o root (keys_below t root) s v fails u) here tallied; can = can; long = l };
     })
+    ends-class old new e here (ends.at_look made is rose) = has_stopped stop.failed
     ends-class old new e here ends.no_memory = has_stopped stop.no_memory
 
     module _ (judge : IsJudge v) where

@@ -173,6 +173,8 @@ module _ (root : List ℕ) (s : Settings) (v : JudgeView) (fails : List ℕ → 
   ends-since at old new paths e now later (ends.at_new {t} tallied x) = ends.at_new (subst (λ (o : Option TreeMap). IsTallied o root paths s v fails t) now tallied) x
   ends-since at old new paths e now later (ends.at_text {t} tallied can long) =
       ends.at_text (subst (λ (o : Option TreeMap). IsTallied o root paths s v fails t) now tallied) can long
+  ends-since at old new paths e now later (ends.at_look made is rose) =
+      ends.at_look made (subst (λ (o : Option TreeMap). IsPlanOf o root paths s v fails made) now is) (rose-since old at new later rose)
   ends-since at old new paths e now later ends.no_memory = ends.no_memory
 
 -- ### The jobs of a plan that was just made

@@ -71,13 +71,30 @@ any-kept p q passes (k ∷ ks) = by-test (p k) (bytes_eq q k) refl refl (any-kep
     by-test false true e f h = absurd (no-both (p k) (subst (λ (x : List ℕ). p x ≡ true) (same_text-true q k f) passes) e)
     by-test false false e f h = h
 
-any-compared : (q : List ℕ) (ks : List (List ℕ)) → list_any (bytes_eq q) ks ≡ list_any (eq_by_cmp (slice_cmp nat_cmp) q) ks
+pub any-compared : (q : List ℕ) (ks : List (List ℕ)) → list_any (bytes_eq q) ks ≡ list_any (eq_by_cmp (slice_cmp nat_cmp) q) ks
 any-compared q [] = refl
 any-compared q (k ∷ ks) = ap (λ (x : Bool). x || list_any (bytes_eq q) ks) (sym (is_eq-slice_cmp q k)) ∙ ap (λ (x : Bool). eq_by_cmp (slice_cmp nat_cmp) q k || x) (any-compared q ks)
 
 pub keys-have : (t : TreeMap) (root q : List ℕ) → is_below root q ≡ true → has_path (keys_below t root) q ≡ is_some (fin.get t q)
 unfolding keys_below
 keys-have t root q below = any-kept (is_below root) q below (fin.keys t) ∙ any-compared q (fin.keys t) ∙ sym (fin.contains_key-keys t q)
+
+or-by : (P : Type 0) (a b : Bool) → (a || b) ≡ true → (a ≡ true → P) → (b ≡ true → P) → P
+or-by P true b e f g = f refl
+or-by P false b e f g = g e
+
+any-passes : (p : List ℕ → Bool) (q : List ℕ) (ks : List (List ℕ)) → list_any (bytes_eq q) (filter p ks) ≡ true → p q ≡ true
+any-passes p q [] e = cc
+any-passes p q (k ∷ ks) e = by-test (p k) refl (any-passes p q ks) e
+  where
+    by-test : (b : Bool) → p k ≡ b → (list_any (bytes_eq q) (filter p ks) ≡ true → p q ≡ true) → list_any (bytes_eq q) (cond b (k ∷ filter p ks) (filter p ks)) ≡ true → p q ≡ true
+    by-test true passes more h =
+        or-by (p q ≡ true) (bytes_eq q k) (list_any (bytes_eq q) (filter p ks)) h (λ same. subst (λ (x : List ℕ). p x ≡ true) (sym (same_text-true q k same)) passes) more
+    by-test false passes more h = more h
+
+pub key-below : (t : TreeMap) (root q : List ℕ) → has_path (keys_below t root) q ≡ true → is_below root q ≡ true
+unfolding keys_below
+key-below t root q h = any-passes (is_below root) q (fin.keys t) h
 
 -- ### Names of a work folder below the root
 

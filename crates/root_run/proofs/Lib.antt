@@ -11,6 +11,7 @@ pub mod CountLaws
 pub mod TargetLaws
 pub mod PlanLaws
 pub mod GivenLaws
+pub mod FewLaws
 pub mod TextLaws
 pub mod SettleLaws
 pub mod StartLaws

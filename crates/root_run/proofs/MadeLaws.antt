@@ -10,6 +10,8 @@ use Rattle.file_tree.specs.declared.node.Node.TheVariants as node
 use Rattle.file_tree.specs.declared.node.Found.TheVariants as found
 use Rattle.file_tree.specs.Trees.{TreeMap, stands_at, found_of, is_below}
 use Rattle.job_types.specs.Settings.{Settings}
+use Rattle.job_types.specs.declared.outcome.Verdict.{Verdict}
+use Rattle.job_types.specs.declared.outcome.Verdict.TheVariants.{Left, Edited, Split}
 use Rattle.work_texts.specs.declared.plan.JobLine.{JobLine}
 use Rattle.root_plan.specs.Jobs.{ComesOf, HasFile}
 use Rattle.root_plan.specs.Jobs.{ComesOf as comes}
@@ -17,7 +19,7 @@ use Rattle.root_plan.specs.Makers.{NodesOf, job_at, pair_nodes}
 use Rattle.root_plan.specs.Makers.{EditedNodes as nodes}
 use Rattle.root_plan.specs.Roots.{in_root, may_be_candidate}
 use Rattle.root_plan.specs.Targets.{debug_name}
-use Rattle.root_plan.specs.Verdicts.{Verdict, left, edited, split, JudgeView, IsJudge, Made}
+use Rattle.root_plan.specs.Verdicts.{JudgeView, IsJudge, Made}
 use Rattle.root_plan.specs.Verdicts.{Made as made}
 use Rattle.root_run.specs.Wholes.{IsJobMade, AreMade, nodes_at}
 
@@ -73,30 +75,30 @@ pub record NodesMade (v : JudgeView) (job : JobLine) (bytes : List ℕ) (mode : 
   pub made : NodesOf v job bytes mode nodes
 
 abbrev is_left : Verdict → Bool
-is_left (left why) = true
-is_left (edited names) = false
-is_left (split id names) = false
+is_left (Left why) = true
+is_left (Edited names) = false
+is_left (Split id names) = false
 
 comes-not-left : (job : JobLine) (verdict : Verdict) → ComesOf job verdict → is_left verdict ≡ false
-comes-not-left job (left why) c = elim c [ ]
-comes-not-left job (edited names) (comes.of_edited s i) = refl
-comes-not-left job (split id names) (comes.of_split s i) = refl
+comes-not-left job (Left why) c = elim c [ ]
+comes-not-left job (Edited names) (comes.of_edited s i) = refl
+comes-not-left job (Split id names) (comes.of_split s i) = refl
 
 never-left : true ≡ false → ⊥
 never-left e = cc
 
-edited-split : (job : JobLine) (names : List (List ℕ)) → ComesOf job (edited names) → job.split ≡ false
+edited-split : (job : JobLine) (names : List (List ℕ)) → ComesOf job (Edited names) → job.split ≡ false
 edited-split job names (comes.of_edited s i) = s
 
-split-split : (job : JobLine) (id : List ℕ) (names : List (List ℕ)) → ComesOf job (split id names) → job.split ≡ true
+split-split : (job : JobLine) (id : Option (List ℕ)) (names : List (List ℕ)) → ComesOf job (Split id names) → job.split ≡ true
 split-split job id names (comes.of_split s i) = s
 
 verdict-made : (old : Option TreeMap) (root : List ℕ) (s : Settings) (v : JudgeView) (job : JobLine) (h : HasFile old root s v job) (verdict : Verdict)
     → Made v h.bytes (debug_name job.path) verdict → ComesOf job verdict → NodesMade v job h.bytes h.mode
-verdict-made old root s v job h (left why) made.not_made c = absurd (never-left (comes-not-left job (left why) c))
-verdict-made old root s v job h (edited names) (made.made_one {file = f} e sources) c =
+verdict-made old root s v job h (Left why) made.not_made c = absurd (never-left (comes-not-left job (Left why) c))
+verdict-made old root s v job h (Edited names) (made.made_one {file = f} e sources) c =
     record { nodes = node.File f h.mode ∷ []; made = record { planned = sym h.digest; file = f; edits = e; makes = nodes.one_file (edited-split job names c) } }
-verdict-made old root s v job h (split id names) (made.made_two {file = f} {pair = p} e q may whole sources) c =
+verdict-made old root s v job h (Split id names) (made.made_two {file = f} {pair = p} e q may whole sources) c =
     record { nodes = pair_nodes job h.mode p; made = record { planned = sym h.digest; file = f; edits = e; makes = nodes.two_files (split-split job id names c) q } }
 
 pub record JobMade (start : TreeMap) (root : List ℕ) (v : JudgeView) (job : JobLine) : Type 0 where

@@ -9,14 +9,14 @@ use Rattle.file_tree.specs.declared.call.Effect.TheVariants as effect
 use Rattle.file_tree.specs.Causes.{Rose}
 use Rattle.file_tree.specs.Images.{LeavesOnly}
 use Rattle.file_tree.specs.Seen.{Seen, Past, Happened, map_now, settles_of}
-use Rattle.file_tree.specs.Trees.{TreeMap, keys_below}
+use Rattle.file_tree.specs.Trees.{TreeMap}
 use Rattle.file_tree.proofs.ImageLaws.{image_now}
 use Rattle.job_types.specs.Settings.{Settings, IsWithin}
 use Rattle.journal_core.specs.declared.event.Phase.TheVariants.{Closed}
 use Rattle.journal_core.specs.Table.{CoreState}
 use Rattle.work_journal.specs.Rounds.{rounds_of}
 use Rattle.work_journal.proofs.RunLaws.{run_one}
-use Rattle.root_plan.specs.Roots.{most_paths, work_folder}
+use Rattle.root_plan.specs.Roots.{work_folder}
 use Rattle.root_plan.specs.Verdicts.{JudgeView, IsJudge}
 use Rattle.root_run.specs.declared.run_err.RunErr.{RunErr}
 use Rattle.root_run.specs.Begun.{Begun}
@@ -119,11 +119,11 @@ module _ (start : TreeMap) (root : List ℕ) (s : Settings) (v : JudgeView) (fai
       ran-mild seed = mild-by seed way
 
       -- and where nothing is opposed to the run, it ends for want of memory alone
-      pub ran-completes : s.max_file ≤ file_limit → has_nul s.seed ≡ false → IsUnopposed start root s v fails → length (keys_below (map_now old.past) root) ≤ most_paths
-          → (Rose old.faults new.faults → ⊥) → IfErr result (λ e. run_status e ≡ 13)
-      ran-completes limit seed unopposed few calm =
+      pub ran-completes : s.max_file ≤ file_limit → has_nul s.seed ≡ false → IsUnopposed start root s v fails → (Rose old.faults new.faults → ⊥)
+          → IfErr result (λ e. run_status e ≡ 13)
+      ran-completes limit seed unopposed calm =
           err-both result (RunEnds root (work_folder root) s v fails edit_fails split_fails old new) (λ e. IsTrue (is_mild_end e)) (λ e. run_status e ≡ 13)
           (λ e ended mild.
           complete start root s v fails judge u.clean (map_now old.past) (u.partway.each (map_now old.past) (image_now old.past)) unopposed edit_fails split_fails old new
-          (now-tells old u.tells) u.tells few calm e ended (λ d is. subst (λ (x : RunErr). IsTrue (is_mild_end x)) is mild))
+          (now-tells old u.tells) u.tells calm e ended (λ d is. subst (λ (x : RunErr). IsTrue (is_mild_end x)) is mild))
           (start-ends root s v fails edit_fails split_fails in_flight judge limit old new result r) (ran-mild seed)

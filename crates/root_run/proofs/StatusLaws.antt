@@ -90,6 +90,7 @@ module _ (root : List ℕ) (s : Settings) (v : JudgeView) (fails : List ℕ → 
   plan-fault old new present e (ends.at_path n few l ts x) is = path-fault old new _ e x is
   plan-fault old new present e (ends.at_new tallied x) is = absurd (news-fault present _ e x is)
   plan-fault old new present e (ends.at_text tallied can l) is = cc
+  plan-fault old new present e (ends.at_look made planned rose) is = rose
   plan-fault old new present e ends.no_memory is = cc
 
   -- ### A refused file: where files that are refused are passed over, none ends a plan
@@ -131,6 +132,7 @@ module _ (root : List ℕ) (s : Settings) (v : JudgeView) (fails : List ℕ → 
   plan-refused old new present e (ends.at_path n few l ts x) is = path-refused old new _ e x is
   plan-refused old new present e (ends.at_new tallied x) is = absurd (news-refused present _ e x is)
   plan-refused old new present e (ends.at_text tallied can l) is = cc
+  plan-refused old new present e (ends.at_look made planned rose) is = cc
   plan-refused old new present e ends.no_memory is = cc
 
 walk-refused : (root : List ℕ) (old new : Seen) (e : PlanErr) → WalkEnds old new root e → IsTrue (of_jobs (plan_status e)) → ⊥

@@ -32,7 +32,7 @@ target-by job k false e l =
     let last : length (new_paths_of job) ≡ k = omega (arith, l, ltb-false k (length (new_paths_of job)) e, length-append (new_paths_of job) (job.path ∷ [])) in
     is_file (sym last) (get_or_push (new_paths_of job) job.path [] k last)
 
-target-at : (job : JobLine) (k : ℕ) → k < length (targets_of job) → IsTargetAt job k
+pub target-at : (job : JobLine) (k : ℕ) → k < length (targets_of job) → IsTargetAt job k
 target-at job k l = target-by job k (nat_lt k (length (new_paths_of job))) refl l
 
 few-by : (s l : Bool) (d a b p : List ℕ) → length ((if s then d ∷ (if l then a ∷ b ∷ [] else []) else []) ++ p ∷ []) ≤ 4
@@ -129,7 +129,7 @@ module _ (root : List ℕ) (present : List (List ℕ)) (jobs : List JobLine) (fi
   targets-outside j k l lt = outside-by j k l (target-at (job_at jobs j) k lt)
 
   -- a new path stands among all new ones, once
-  new-in : (i k : ℕ) → i < length jobs → k < length (new_paths_of (job_at jobs i)) → Contains (new_paths root jobs) (in_root root (get_or (new_paths_of (job_at jobs i)) k []))
+  pub new-in : (i k : ℕ) → i < length jobs → k < length (new_paths_of (job_at jobs i)) → Contains (new_paths root jobs) (in_root root (get_or (new_paths_of (job_at jobs i)) k []))
   new-in i k l lt =
       subst (λ (ps : List (List ℕ)). Contains ps (in_root root (get_or (new_paths_of (job_at jobs i)) k []))) (sym (new-paths-are root jobs))
       (map-contains (in_root root) (flat_map new_paths_of jobs) (get_or (new_paths_of (job_at jobs i)) k [])

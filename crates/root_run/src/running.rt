@@ -2,16 +2,16 @@
 //!
 //! Read first: `specs/RootRuns.antt`, `specs/Finals.antt`, `specs/Cores.antt`.
 ghost use Rattle.std.specs.FinMap as fin;
-ghost use Rattle.std.specs.Prelude.{◌≡◌, ◌⊎◌, ◌<◌, ◌≤◌, ℕ, List, true, false, length, map, Some, IfOk, IfErr, IsTrue};
+ghost use Rattle.std.specs.Prelude.{◌≡◌, ◌⊎◌, ◌<◌, ◌≤◌, ℕ, List, true, false, map, Some, IfOk, IfErr, IsTrue};
 ghost use Rattle.std.specs.String.{string_bytes};
 ghost use Rattle.dw_base.specs.Paths.{IsPathMap};
 ghost use Rattle.dw_base.specs.Texts.{has_nul};
 ghost use Rattle.file_tree.specs.Causes.{Rose};
 ghost use Rattle.file_tree.specs.Seen.{map_now, now_of};
-ghost use Rattle.file_tree.specs.Trees.{TreeMap, is_below, keys_below};
+ghost use Rattle.file_tree.specs.Trees.{TreeMap, is_below};
 ghost use Rattle.job_types.specs.Settings.{IsWithin};
 ghost use Rattle.journal_core.specs.Table.{CoreState};
-ghost use Rattle.root_plan.specs.Roots.{most_paths, work_folder};
+ghost use Rattle.root_plan.specs.Roots.{work_folder};
 ghost use Rattle.root_run.specs.Cores.{ShowsCore, LeadsTo, SettlesFew};
 ghost use Rattle.root_run.specs.Dues.{RunCut, RunDue, IsResumed, IsUnopposed};
 ghost use Rattle.root_run.specs.Finals.{IsDone};
@@ -119,7 +119,7 @@ pub fn run_root<T: Tree, J: Judge + Drop>(
     ensures kept { IfErr result (λ e. IsTrue (leaves_tree (run_status e)) → IsSame (T.seen tree.old) (T.seen tree.new)) }
     ensures refused { (t : TreeMap) → now_of (T.seen tree.old) ≡ Some t → IfErr result (λ e. run_status e ≡ 3 → options.now.skip ≡ true → IsResumed root.now (work_folder root.now) options.now t) }
     ensures changed { (t : TreeMap) → now_of (T.seen tree.old) ≡ Some t → IfErr result (λ e. run_status e ≡ 10 → IsResumed root.now (work_folder root.now) options.now t) }
-    ensures completes { has_nul options.now.seed ≡ false → (start : TreeMap) → IsUnderway start root.now (work_folder root.now) options.now (J.view judge) (J.fails judge) (T.seen tree.old) → IsUnopposed start root.now options.now (J.view judge) (J.fails judge) → length (keys_below (map_now (T.seen tree.old).past) root.now) ≤ most_paths → (Rose (T.seen tree.old).faults (T.seen tree.new).faults → ⊥) → IfErr result (λ e. run_status e ≡ 13) }
+    ensures completes { has_nul options.now.seed ≡ false → (start : TreeMap) → IsUnderway start root.now (work_folder root.now) options.now (J.view judge) (J.fails judge) (T.seen tree.old) → IsUnopposed start root.now options.now (J.view judge) (J.fails judge) → (Rose (T.seen tree.old).faults (T.seen tree.new).faults → ⊥) → IfErr result (λ e. run_status e ≡ 13) }
     // what stays
     ensures tells { (T.seen tree.new).tells ≡ (T.seen tree.old).tells }
     ensures later { (T.seen tree.old).faults ≤ (T.seen tree.new).faults }

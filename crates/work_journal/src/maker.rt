@@ -11,7 +11,7 @@ ghost use Rattle.dw_base.specs.declared.fault.Refusal.{Refusal};
 ghost use Rattle.work_journal.specs.Views.{MakerView, Makes, IsMaker, IsChange};
 
 use dw_base::Refusal;
-use file_tree::Node;
+use file_tree::{Blob, Node};
 use std::alloc::{AllocError, AllocFailed, Global};
 
 /// Why a job's nodes aren't made.
@@ -78,25 +78,25 @@ pub trait Maker {
         requires there { job < length (view self.now).steps }
         ensures digest { result ≡ (view self.now).planned job };
 
-    /// The nodes of the job's file: `Changed` exactly where its digest isn't the planned one, `Refused`
-    /// only with a refusal that holds of it.
+    /// The nodes of the job's file, which is given over, so that it needn't be held any longer than it is read: `Changed`
+    /// exactly where its digest isn't the planned one, `Refused` only with a refusal that holds of it.
     fn make(
         &mut self,
         alloc: Global,
         job: u32,
-        bytes: &[u8],
+        bytes: Blob,
         mode: u32,
     ) -> Result<Vec<Node>, MakeErr>
         requires there { job < length (view self.old).steps }
-        requires small { length bytes.now ≤ file_limit }
+        requires small { length bytes ≤ file_limit }
         ensures same { view self.new ≡ view self.old }
         ensures kept_nodes { (j : ℕ) (b : List ℕ) (m : ℕ) (ns : List Node) → makes self.old j b m ns → makes self.new j b m ns }
         ensures same_refusals { (j : ℕ) (b : List ℕ) (r : Refusal) → refuses self.new j b r → refuses self.old j b r }
-        ensures made { IfOk result (λ v. makes self.old job bytes.now mode v.items) }
-        ensures changed { (p f : List ℕ) → result ≡ Err (MakeErr.Changed p f) → IsChange (view self.old) job bytes.now p f }
-        ensures refused { (r : Refusal) → result ≡ Err (MakeErr.Refused r) → refuses self.old job bytes.now r }
-        ensures planned { (r : Refusal) → result ≡ Err (MakeErr.Refused r) → (view self.old).digest bytes.now ≡ (view self.old).planned job }
-        ensures whole { (ns : List Node) → makes self.old job bytes.now mode ns → IsOkUnless result MakeErr.NoMemory };
+        ensures made { IfOk result (λ v. makes self.old job bytes mode v.items) }
+        ensures changed { (p f : List ℕ) → result ≡ Err (MakeErr.Changed p f) → IsChange (view self.old) job bytes p f }
+        ensures refused { (r : Refusal) → result ≡ Err (MakeErr.Refused r) → refuses self.old job bytes r }
+        ensures planned { (r : Refusal) → result ≡ Err (MakeErr.Refused r) → (view self.old).digest bytes ≡ (view self.old).planned job }
+        ensures whole { (ns : List Node) → makes self.old job bytes mode ns → IsOkUnless result MakeErr.NoMemory };
 
     // what each maker holds is fit
     ghost fits: { (m : Self) → IsMaker (view m) (makes m) };

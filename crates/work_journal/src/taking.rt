@@ -65,16 +65,16 @@ fn make_nodes<M: Maker>(
     alloc: Global,
     maker: &mut M,
     job: u32,
-    bytes: &[u8],
+    bytes: Blob,
     mode: u32,
 ) -> Result<Vec<Node>, JobErr>
     requires there { job < length (M.view maker.old).steps }
-    requires small { length bytes.now ≤ file_limit }
+    requires small { length bytes ≤ file_limit }
     ensures same_view { M.view maker.new ≡ M.view maker.old }
     ensures kept_nodes { (j : ℕ) (b : List ℕ) (m : ℕ) (ns : List Node) → M.makes maker.old j b m ns → M.makes maker.new j b m ns }
     ensures same_refusals { (j : ℕ) (b : List ℕ) (r : Refusal) → M.refuses maker.new j b r → M.refuses maker.old j b r }
-    ensures made { IfOk result (λ v. M.makes maker.old job bytes.now mode v.items) }
-    ensures blame { IfErr result (MakeBlames (M.view maker.old) (M.makes maker.old) (M.refuses maker.old) job bytes.now mode) }
+    ensures made { IfOk result (λ v. M.makes maker.old job bytes mode v.items) }
+    ensures blame { IfErr result (MakeBlames (M.view maker.old) (M.makes maker.old) (M.refuses maker.old) job bytes mode) }
 {
     match maker.make(alloc, job, bytes, mode) {
         Ok(nodes) => Ok(nodes),
@@ -105,7 +105,7 @@ pub(crate) fn take_job<T: Tree, M: Maker>(
     ensures came { Came tree_fault (InWork work.now) 0 work.now (λ w. IsWanted w (M.view maker.old) (M.makes maker.old)) (core_of desk.old.core) (T.seen desk.old.tree.now) (core_of desk.new.core) (T.seen desk.new.tree.now) result }
 {
     let (bytes, mode) = read_job(alloc, desk, work, maker, job)?;
-    let nodes = make_nodes(alloc, maker, job, bytes.as_slice(), mode)?;
+    let nodes = make_nodes(alloc, maker, job, bytes, mode)?;
     stage_job(alloc, desk, work, job, &nodes)?;
     Ok(())
 }

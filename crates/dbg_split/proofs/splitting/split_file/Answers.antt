@@ -1,7 +1,6 @@
 -- The stripped file has the link to the debug file that was made.
 use Rattle.std.proofs.lemmas.Result.{err_from_is_err_and}
-use Rattle.dbg_split.specs.SplitFails.SplitFails.{shape}
-use Rattle.dbg_split.proofs.Rows.{debug-long, split_free, stripped-is, stripped-long}
+use Rattle.dbg_split.proofs.Rows.{debug-long, shape-row, split_free, stripped-is, stripped-long}
 use Rattle.dbg_split.proofs.splitting.split_file.Goals as goal
 
 pub returns-clause-debug : goal.returns-clause-debug
@@ -15,7 +14,7 @@ returns-clause-stripped c =
 pub returns-clause-none : goal.returns-clause-none
 returns-clause-none c = λ r f.
     split_free c.args.elf.now.bytes.now c.args.debug_name.now _ _ c.args.elf.now.order _ r c.requires.reads c.args.elf.now.is_elf.order_is c.in_ok-debug.ensures.file
-    c.in_ok-sum_of.ensures.value c.in_ok-link.ensures.value c.in_ok-can_be_split.ensures.none c.in_ok-debug.ensures.none c.in_ok-stripped.ensures.none f
+    c.in_ok-sum_of.ensures.value c.in_ok-link.ensures.value c.in_ok-dropped.ensures.none c.in_ok-debug.ensures.none c.in_ok-stripped.ensures.none f
 
 pub returns-in_err-stripped-clause-refused : goal.returns-in_err-stripped-clause-refused
 returns-in_err-stripped-clause-refused c =
@@ -25,15 +24,10 @@ returns-in_err-stripped-clause-refused c =
     c.in_ok-sum_of.ensures.value c.in_ok-link.ensures.value c.in_err-stripped.ensures.refused)
 
 -- The rows of each step.
-pub returns-in_err-file_fits-clause-refused : goal.returns-in_err-file_fits-clause-refused
-returns-in_err-file_fits-clause-refused c =
+pub returns-in_err-dropped-clause-refused : goal.returns-in_err-dropped-clause-refused
+returns-in_err-dropped-clause-refused c =
     let p = err_from_is_err_and c.from_residual.result c.from_residual.ensures.1 in
-    rw (p.1, p.2) (shape c.requires.reads c.in_err-file_fits.ensures.refused)
-
-pub returns-in_err-can_be_split-clause-refused : goal.returns-in_err-can_be_split-clause-refused
-returns-in_err-can_be_split-clause-refused c =
-    let p = err_from_is_err_and c.from_residual-in_err-can_be_split.result c.from_residual-in_err-can_be_split.ensures.1 in
-    rw (p.1, p.2) (shape c.requires.reads c.in_err-can_be_split.ensures.refused)
+    rw (p.1, p.2) (shape-row c.args.elf.now.bytes.now c.args.debug_name.now _ c.requires.reads c.in_err-dropped.ensures.refused)
 
 pub returns-in_err-debug-clause-refused : goal.returns-in_err-debug-clause-refused
 returns-in_err-debug-clause-refused c =

@@ -74,10 +74,10 @@ returns-clause-changed g c = λ t here.
     (start-ends c.args.root.now c.args.options.now _ _ _ _ _ judge (limit-few _ c.use_options.ensures.within) _ _ _ c.start_run.ensures.ran)
 
 pub returns-clause-completes : goal.returns-clause-completes
-returns-clause-completes g c = λ seed start u unopposed few calm.
+returns-clause-completes g c = λ seed start u unopposed calm.
     let judge : IsJudge (g.J.Judge.view c.args.judge) = search rules in
     ran-completes start c.args.root.now c.args.options.now _ _ _ _ judge _ _ _ u c.use_options.ensures.map c.use_options.ensures.within _ c.start_run.ensures.ran
-    (limit-few _ c.use_options.ensures.within) seed unopposed few calm
+    (limit-few _ c.use_options.ensures.within) seed unopposed calm
 
 pub returns-clause-tells : goal.returns-clause-tells
 returns-clause-tells g c = (start-kept c.args.root.now c.args.options.now _ _ _ _ _ _ _ _ c.start_run.ensures.ran).tells

@@ -1,4 +1,4 @@
-use Rattle.std.proofs.Common.{rules, ◌∙◌, ℕ, List, sym, refl, subst, IsTrue}
+use Rattle.std.proofs.Common.{rules, ◌∙◌, sym, subst, IsTrue}
 use Rattle.file_tree.specs.declared.node.TreeErr.TheVariants.{Failed}
 use Rattle.journal_core.specs.Cores.{core_of}
 use Rattle.journal_core.specs.Table.{CoreState, state_of}
@@ -6,9 +6,8 @@ use Rattle.journal_core.specs.Calls.{is_uncommitted}
 use Rattle.work_journal.specs.declared.job_err.JobErr.TheVariants as job
 use Rattle.work_journal.proofs.GoesLaws.{came_then, came_given}
 use Rattle.work_journal.proofs.JobErrLaws.{came_turned, came_fine, ok_by, keeps_then}
-use Rattle.work_journal.proofs.FileLaws.{made_by, made_wanted, made_blames, made_of_job, made_mild, new_uncommitted}
-use Rattle.std.specs.Prelude.{IfErr}
-use Rattle.work_journal.specs.Blames.{IsOfJob, MakeBlames, is_mild}
+use Rattle.work_journal.proofs.FileLaws.{made_wanted, made_blames, made_of_job, made_mild, new_uncommitted}
+use Rattle.work_journal.specs.Blames.{IsOfJob, is_mild}
 use Rattle.work_journal.proofs.BlameLaws.{err_passed, tree_blames, tree_mild, tree_of_job, tree_stood, job_stood}
 use Rattle.work_journal.specs.Views.{IsMaker}
 use Rattle.work_journal.proofs.taking.take_job.Goals as goal
@@ -22,14 +21,14 @@ returns-in_err-bytes-clause-mild g c = λ w given wanted tells k. err_passed _ _
 
 pub returns-in_err-nodes-clause-blame : goal.returns-in_err-nodes-clause-blame
 returns-in_err-nodes-clause-blame g c = err_passed _ _ _ _ (c.in_err-nodes.was) c.from_residual-in_err-nodes.ensures.1
-    (made_blames _ _ _ _ _ _ _ _ c.in_ok-bytes.ensures.found (subst (λ (b : List ℕ). IfErr c.make_nodes.result (MakeBlames (g.M.Maker.view c.args.maker.now) (g.M.Maker.makes c.args.maker.now) (g.M.Maker.refuses c.args.maker.now) c.args.job b c.in_ok-bytes.mode)) c.as_slice.ensures.value c.make_nodes.ensures.blame))
+    (made_blames _ _ _ _ _ _ _ _ c.in_ok-bytes.ensures.found c.make_nodes.ensures.blame)
 
 pub returns-in_err-nodes-clause-mild : goal.returns-in_err-nodes-clause-mild
 returns-in_err-nodes-clause-mild g c = λ w given wanted tells k. err_passed _ _ _ (λ e. IsTrue (is_mild e)) (c.in_err-nodes.was) c.from_residual-in_err-nodes.ensures.1
     (made_mild w _ _ _ _ _ _ _ _ _ wanted c.requires.there (c.read_job.ensures.came.tells ∙ tells)
     (keeps_then job.Tree _ _ _ _ _ _ _ _ w (c.in_ok-bytes.was) given tells tt k c.read_job.ensures.came)
     (subst (λ (x : CoreState). IsTrue (is_uncommitted (state_of x c.args.job))) (sym c.read_job.ensures.core) (new_uncommitted _ _ _ c.requires.may))
-    c.in_ok-bytes.ensures.found (subst (λ (b : List ℕ). IfErr c.make_nodes.result (MakeBlames (g.M.Maker.view c.args.maker.now) (g.M.Maker.makes c.args.maker.now) (g.M.Maker.refuses c.args.maker.now) c.args.job b c.in_ok-bytes.mode)) c.as_slice.ensures.value c.make_nodes.ensures.blame))
+    c.in_ok-bytes.ensures.found c.make_nodes.ensures.blame)
 
 pub returns-in_err-stage_job-clause-blame : goal.returns-in_err-stage_job-clause-blame
 returns-in_err-stage_job-clause-blame g c = tree_blames _ _ _ _ _ c.from_residual-in_err-stage_job.ensures.1
@@ -47,7 +46,7 @@ returns-in_err-stage_job-clause-came g c =
     (λ w given tells wanted k. made_wanted w _ _ _ _ c.args.job _ _ _ fits wanted c.requires.there tells k
     (subst (λ (x : CoreState). IsTrue (is_uncommitted (state_of x c.args.job))) (sym c.read_job.ensures.core) (new_uncommitted _ _ _ c.requires.may))
     c.in_ok-bytes.ensures.found
-    (made_by (g.M.Maker.makes c.args.maker.now) c.args.job _ _ _ _ _ c.as_slice.ensures.value refl c.in_ok-nodes.ensures.made))
+    c.in_ok-nodes.ensures.made)
     c.stage_job.ensures.came))
 
 pub returns-clause-came : goal.returns-clause-came
@@ -60,7 +59,7 @@ returns-clause-came g c =
     (λ w given tells wanted k. made_wanted w _ _ _ _ c.args.job _ _ _ fits wanted c.requires.there tells k
     (subst (λ (x : CoreState). IsTrue (is_uncommitted (state_of x c.args.job))) (sym c.read_job.ensures.core) (new_uncommitted _ _ _ c.requires.may))
     c.in_ok-bytes.ensures.found
-    (made_by (g.M.Maker.makes c.args.maker.now) c.args.job _ _ _ _ _ c.as_slice.ensures.value refl c.in_ok-nodes.ensures.made))
+    c.in_ok-nodes.ensures.made)
     c.stage_job.ensures.came))
 
 pub returns-clause-met : goal.returns-clause-met
@@ -70,7 +69,7 @@ returns-clause-met g c =
       bytes = _;
       mode = c.in_ok-bytes.mode;
       stands = c.in_ok-bytes.ensures.stood;
-      planned = fits.of_planned c.args.job _ c.in_ok-bytes.mode _ (made_by (g.M.Maker.makes c.args.maker.now) c.args.job _ _ _ _ _ c.as_slice.ensures.value refl c.in_ok-nodes.ensures.made);
+      planned = fits.of_planned c.args.job _ c.in_ok-bytes.mode _ c.in_ok-nodes.ensures.made;
     }
 
 pub returns-in_err-bytes-clause-of_job : goal.returns-in_err-bytes-clause-of_job
@@ -82,13 +81,13 @@ returns-in_err-bytes-clause-stands g c = err_passed _ _ _ _ (c.in_err-bytes.was)
 
 pub returns-in_err-nodes-clause-of_job : goal.returns-in_err-nodes-clause-of_job
 returns-in_err-nodes-clause-of_job g c = err_passed _ _ _ (IsOfJob c.args.job) (c.in_err-nodes.was) c.from_residual-in_err-nodes.ensures.1
-    (made_of_job _ _ _ _ _ _ _ (subst (λ (b : List ℕ). IfErr c.make_nodes.result (MakeBlames (g.M.Maker.view c.args.maker.now) (g.M.Maker.makes c.args.maker.now) (g.M.Maker.refuses c.args.maker.now) c.args.job b c.in_ok-bytes.mode)) c.as_slice.ensures.value c.make_nodes.ensures.blame))
+    (made_of_job _ _ _ _ _ _ _ c.make_nodes.ensures.blame)
 
 pub returns-in_err-nodes-clause-stands : goal.returns-in_err-nodes-clause-stands
 returns-in_err-nodes-clause-stands g c = err_passed _ _ _ _ (c.in_err-nodes.was) c.from_residual-in_err-nodes.ensures.1
     (job_stood _ _ (core_of c.args.desk.now.core) _ c.args.job _ (new_uncommitted _ _ _ c.requires.may)
-    (made_of_job _ _ _ _ _ _ _ (subst (λ (b : List ℕ). IfErr c.make_nodes.result (MakeBlames (g.M.Maker.view c.args.maker.now) (g.M.Maker.makes c.args.maker.now) (g.M.Maker.refuses c.args.maker.now) c.args.job b c.in_ok-bytes.mode)) c.as_slice.ensures.value c.make_nodes.ensures.blame))
-    (made_blames _ _ _ _ _ _ _ _ c.in_ok-bytes.ensures.stood (subst (λ (b : List ℕ). IfErr c.make_nodes.result (MakeBlames (g.M.Maker.view c.args.maker.now) (g.M.Maker.makes c.args.maker.now) (g.M.Maker.refuses c.args.maker.now) c.args.job b c.in_ok-bytes.mode)) c.as_slice.ensures.value c.make_nodes.ensures.blame)))
+    (made_of_job _ _ _ _ _ _ _ c.make_nodes.ensures.blame)
+    (made_blames _ _ _ _ _ _ _ _ c.in_ok-bytes.ensures.stood c.make_nodes.ensures.blame))
 
 pub returns-in_err-stage_job-clause-of_job : goal.returns-in_err-stage_job-clause-of_job
 returns-in_err-stage_job-clause-of_job g c = tree_of_job _ _ _ c.from_residual-in_err-stage_job.ensures.1
