@@ -258,8 +258,8 @@ fn after_each_call_that_fails_the_next_start_ends(rt: HostRuntime) -> Result<(),
 #[test]
 fn many_jobs_end(rt: HostRuntime) -> Result<(), Fail> {
     let alloc = rt.alloc();
-    let tree = undisturbed(&rt, alloc, 20_000, 64, 317)?;
-    assert_eq!(rt; tree.nodes().len(), 40_004);
+    let tree = undisturbed(&rt, alloc, 5_000, 64, 83)?;
+    assert_eq!(rt; tree.nodes().len(), 10_004);
     Ok(())
 }
 
