@@ -33,9 +33,12 @@ use dw_abbrev::AbbrevTable;
 use dw_base::dwarf_numbers::{
     DW_AT_GNU_macros, DW_AT_macros, DW_AT_stmt_list, DW_AT_str_offsets_base, DW_FORM_implicit_const,
 };
-use dw_base::{DebugSection, Field, Scanned, Spec, UnitHeader, Value, ValueClass, uleb_at};
+use dw_base::{
+    DebugSection, Field, Scanned, Spec, UnitHeader, Value, ValueClass, is_start_form, own_form,
+    uleb_at,
+};
 use dw_entries::EntryScan;
-use dw_find::{is_start_form, own_form, start_number};
+use dw_find::start_number;
 use dw_forms::value_at;
 use dw_view::View;
 use file_tree::Sink;

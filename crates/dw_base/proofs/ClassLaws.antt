@@ -2,13 +2,15 @@
 use Rattle.std.proofs.Common.{Bool, true, false, ◌≡◌, ℕ, ℤ, List, [], ◌∷◌, Option, Some, None, refl, sym, ap, ◌∙◌, if◌then◌else◌}
 use Rattle.std.specs.Prelude.{◌==◌, ◌&&◌}
 use Rattle.std.proofs.lemmas.Bool.{and_parts}
-use Rattle.dw_base.specs.Forms.{TextSection, in_str, in_line_str, ValueKind, number_of, leb_number, signed_leb, block_of, counted, counted_leb, inline_text, text_offset, present, in_abbreviation, form_in_front, supplementary, unlisted, FormRow, form_rows, kind_by, kind_in}
+use Rattle.dw_base.specs.Forms.{ValueKind, number_of, leb_number, signed_leb, block_of, counted, counted_leb, inline_text, text_offset, present, in_abbreviation, form_in_front, supplementary, unlisted, FormRow, form_rows, kind_by, kind_in}
 use Rattle.dw_base.specs.Lebs.{uleb_at, sleb_at}
 use Rattle.dw_base.specs.Numbers.{number_at}
 use Rattle.dw_base.specs.Texts.{ends_in}
 use Rattle.dw_base.specs.Values.{value_of, number_value, leb_value_at, signed_value_at, counted_value, counted_leb_value, offset_class}
 use Rattle.dw_base.specs.declared.shared.Order.{Order}
 use Rattle.dw_base.specs.declared.shared.Params.{Params}
+use Rattle.dw_base.specs.declared.texts.TextSection.{TextSection}
+use Rattle.dw_base.specs.declared.texts.TextSection.TheVariants.{InStr, InLineStr}
 use Rattle.dw_base.specs.declared.values.Value.{Value}
 use Rattle.dw_base.specs.declared.values.ValueClass.{ValueClass}
 use Rattle.dw_base.specs.declared.values.ValueClass.TheVariants.{InlineText, StrOffset, LineStrOffset, Bytes, Flag, Signed}
@@ -129,8 +131,8 @@ inline-kind (block_of n) p e = absurd cc
 inline-kind (counted n) p e = absurd cc
 inline-kind counted_leb p e = absurd cc
 inline-kind inline_text p e = refl
-inline-kind (text_offset in_str n) p e = absurd cc
-inline-kind (text_offset in_line_str n) p e = absurd cc
+inline-kind (text_offset InStr n) p e = absurd cc
+inline-kind (text_offset InLineStr n) p e = absurd cc
 inline-kind present p e = absurd cc
 inline-kind in_abbreviation p e = absurd cc
 inline-kind form_in_front p e = absurd cc
@@ -144,30 +146,30 @@ class-apart class c t p e =
     cc
 
 textual-offset : (table : TextSection) → is_textual (offset_class table) ≡ true
-textual-offset in_str = refl
-textual-offset in_line_str = refl
+textual-offset InStr = refl
+textual-offset InLineStr = refl
 
 pub offset-kind : (k : ValueKind) (table : TextSection) → is_proper k ≡ true → class_of_kind k ≡ Some (offset_class table) → (n : ℕ) × (k ≡ text_offset table n)
 offset-kind (number_of class n) table p e = absurd (class-apart class (offset_class table) (textual-offset table) p e)
 offset-kind (leb_number class) table p e = absurd (class-apart class (offset_class table) (textual-offset table) p e)
-offset-kind (text_offset in_str n) in_str p e = (n, refl)
-offset-kind (text_offset in_line_str n) in_line_str p e = (n, refl)
-offset-kind (text_offset in_str n) in_line_str p e = absurd cc
-offset-kind (text_offset in_line_str n) in_str p e = absurd cc
-offset-kind signed_leb in_str p e = absurd cc
-offset-kind signed_leb in_line_str p e = absurd cc
-offset-kind (block_of n) in_str p e = absurd cc
-offset-kind (block_of n) in_line_str p e = absurd cc
-offset-kind (counted n) in_str p e = absurd cc
-offset-kind (counted n) in_line_str p e = absurd cc
-offset-kind counted_leb in_str p e = absurd cc
-offset-kind counted_leb in_line_str p e = absurd cc
-offset-kind inline_text in_str p e = absurd cc
-offset-kind inline_text in_line_str p e = absurd cc
-offset-kind present in_str p e = absurd cc
-offset-kind present in_line_str p e = absurd cc
-offset-kind in_abbreviation in_str p e = absurd cc
-offset-kind in_abbreviation in_line_str p e = absurd cc
+offset-kind (text_offset InStr n) InStr p e = (n, refl)
+offset-kind (text_offset InLineStr n) InLineStr p e = (n, refl)
+offset-kind (text_offset InStr n) InLineStr p e = absurd cc
+offset-kind (text_offset InLineStr n) InStr p e = absurd cc
+offset-kind signed_leb InStr p e = absurd cc
+offset-kind signed_leb InLineStr p e = absurd cc
+offset-kind (block_of n) InStr p e = absurd cc
+offset-kind (block_of n) InLineStr p e = absurd cc
+offset-kind (counted n) InStr p e = absurd cc
+offset-kind (counted n) InLineStr p e = absurd cc
+offset-kind counted_leb InStr p e = absurd cc
+offset-kind counted_leb InLineStr p e = absurd cc
+offset-kind inline_text InStr p e = absurd cc
+offset-kind inline_text InLineStr p e = absurd cc
+offset-kind present InStr p e = absurd cc
+offset-kind present InLineStr p e = absurd cc
+offset-kind in_abbreviation InStr p e = absurd cc
+offset-kind in_abbreviation InLineStr p e = absurd cc
 offset-kind form_in_front table p e = absurd cc
 offset-kind supplementary table p e = absurd cc
 offset-kind unlisted table p e = absurd cc

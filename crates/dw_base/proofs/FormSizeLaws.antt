@@ -2,11 +2,12 @@
 use Rattle.std.proofs.Common.{Bool, true, false, ◌≡◌, ℕ, List, [], ◌∷◌, refl, subst, if◌then◌else◌}
 use Rattle.std.specs.Prelude.{◌==◌, ◌&&◌, ◌||◌}
 use Rattle.std.proofs.lemmas.Bool.{and_parts, eqb-true}
-use Rattle.dw_base.specs.Forms.{ValueKind, number_of, text_offset, width_size, FormRow, form_rows, kind_by, kind_in, TextSection}
+use Rattle.dw_base.specs.Forms.{ValueKind, number_of, text_offset, width_size, FormRow, form_rows, kind_by, kind_in}
 use Rattle.dw_base.specs.declared.shared.Order.{Order}
 use Rattle.dw_base.specs.declared.shared.Params.{Params}
 use Rattle.dw_base.specs.declared.shared.Width.{Width}
 use Rattle.dw_base.specs.declared.shared.Width.TheVariants.{W32, W64}
+use Rattle.dw_base.specs.declared.texts.TextSection.{TextSection}
 use Rattle.dw_base.specs.declared.values.ValueClass.TheVariants.{SecOffset}
 
 -- an offset of a text has the size of the unit's offsets

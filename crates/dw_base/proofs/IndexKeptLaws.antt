@@ -5,7 +5,7 @@ use Rattle.dw_base.specs.Cells.{Cell, Located, offset_into, offset_of, field_of}
 use Rattle.dw_base.specs.Forms.{ValueKind, number_of, text_offset, inline_text, kind_in}
 use Rattle.dw_base.specs.Pieces.{Piece}
 use Rattle.std.proofs.lemmas.Bool.{eqb-true}
-use Rattle.dw_base.specs.Roles.{Use, names_path, names_line_table, names_macro_unit, names_other, use_of, line_start, fixed, is_line_start, role_of_kind, role_of_mode, is_path}
+use Rattle.dw_base.specs.Roles.{use_of, line_start, fixed, is_line_start, role_of_kind, role_of_mode, is_path}
 use Rattle.dw_base.specs.UnitStates.{Mode, at_header, at_code, at_values, at_chosen, stuck, UnitState}
 use Rattle.dw_base.specs.declared.shared.Order.{Order}
 use Rattle.dw_base.specs.declared.view_fields.Field.{Field}
@@ -21,32 +21,34 @@ use Rattle.dw_base.specs.SlotTexts.{begun_by, contributions_in}
 use Rattle.dw_base.specs.TextIndexes.{base_value, is_base, SaidBase, said_by, bases_by, bases_in, index_value, IndexUse, use_by, uses_by, uses_in}
 use Rattle.dw_base.specs.declared.string_offsets.Contribution.{Contribution}
 use Rattle.dw_base.proofs.OffsetChangeLaws.{OffsetChange}
+use Rattle.dw_base.specs.declared.values.AttributeUse.{AttributeUse}
+use Rattle.dw_base.specs.declared.values.AttributeUse.TheVariants.{NamesPath, NamesLineTable, NamesMacroUnit, NamesOther}
 
 -- what says where a line table starts says no base
-line-use : (u : Use) (class : ValueClass) (n : ℕ) → is_line_start u class n ≡ true → u ≡ names_line_table
-line-use names_line_table class n e = refl
-line-use names_path class n e = absurd cc
-line-use names_macro_unit class n e = absurd cc
-line-use names_other class n e = absurd cc
+line-use : (u : AttributeUse) (class : ValueClass) (n : ℕ) → is_line_start u class n ≡ true → u ≡ NamesLineTable
+line-use NamesLineTable class n e = refl
+line-use NamesPath class n e = absurd cc
+line-use NamesMacroUnit class n e = absurd cc
+line-use NamesOther class n e = absurd cc
 
-line-name : (number tag name : ℕ) → use_of number tag name ≡ names_line_table → (name == DW_AT_stmt_list) ≡ true
+line-name : (number tag name : ℕ) → use_of number tag name ≡ NamesLineTable → (name == DW_AT_stmt_list) ≡ true
 line-name number tag name e = by_name (is_path number tag name) (name == DW_AT_stmt_list) (name == DW_AT_macros || name == DW_AT_GNU_macros) e
   where
-    is_line : Use → Bool
-    is_line names_line_table = true
+    is_line : AttributeUse → Bool
+    is_line NamesLineTable = true
     is_line u = false
 
-    other : (u : Use) → is_line u ≡ false → u ≡ names_line_table → {b : Bool} → b ≡ true
+    other : (u : AttributeUse) → is_line u ≡ false → u ≡ NamesLineTable → {b : Bool} → b ≡ true
     other u none e = absurd (clash (ap is_line e) none)
       where
         clash : {b : Bool} → b ≡ true → b ≡ false → ⊥
         clash f g = cc
 
-    by_name : (a b c : Bool) → (if a then names_path else (if b then names_line_table else (if c then names_macro_unit else names_other))) ≡ names_line_table → b ≡ true
-    by_name true b c e = other names_path refl e
+    by_name : (a b c : Bool) → (if a then NamesPath else (if b then NamesLineTable else (if c then NamesMacroUnit else NamesOther))) ≡ NamesLineTable → b ≡ true
+    by_name true b c e = other NamesPath refl e
     by_name false true c e = refl
-    by_name false false true e = other names_macro_unit refl e
-    by_name false false false e = other names_other refl e
+    by_name false false true e = other NamesMacroUnit refl e
+    by_name false false false e = other NamesOther refl e
 
 no-base : (number name : ℕ) → (name == DW_AT_stmt_list) ≡ true → is_base number name ≡ false
 no-base number name e = ap (λ (k : ℕ). number == 0 && k == DW_AT_str_offsets_base) (eqb-true name DW_AT_stmt_list e) ∙ neither (number == 0)
@@ -128,13 +130,13 @@ bases-same order z w (x ∷ xs) number size =
     ∙ ap (λ (bs : List SaidBase). bases_by x.state.mode order w x.state x.cells ++ bs) (bases-same order z w xs number size)
 
 -- what says where a line table starts names no text by index
-pub start-no-index : (u : Use) (class : ValueClass) (n : ℕ) (order : Order) (p : List Cell) → is_line_start u class n ≡ true → index_value order (number_of class n) p ≡ None
-start-no-index names_line_table SecOffset n order p e = refl
-start-no-index names_line_table Number n order p e = refl
+pub start-no-index : (u : AttributeUse) (class : ValueClass) (n : ℕ) (order : Order) (p : List Cell) → is_line_start u class n ≡ true → index_value order (number_of class n) p ≡ None
+start-no-index NamesLineTable SecOffset n order p e = refl
+start-no-index NamesLineTable Number n order p e = refl
 start-no-index u class n order p e = absurd cc
 
 -- what a value names by index stays
-index-kept : (k : ValueKind) (u : Use) (c : Shift) (order : Order) (p q : List Cell) → Becomes (role_of_kind k u) c p q → index_value order k q ≡ index_value order k p
+index-kept : (k : ValueKind) (u : AttributeUse) (c : Shift) (order : Order) (p q : List Cell) → Becomes (role_of_kind k u) c p q → index_value order k q ≡ index_value order k p
 index-kept (text_offset table n) u c order p q h = refl
 index-kept inline_text u c order p q h = refl
 index-kept (number_of class n) u c order p q h = by_start (is_line_start u class n) refl h

@@ -80,7 +80,7 @@ table-stops order bytes section start t r is (no_room l e there short) =
     omega (arith, end, strings, parts, short)
 
 texts-stop : (v : View) (section : ℕ) (t : NameTable) (r : Refusal) → ((i : ℕ) → i < t.names → names_text v section t i ≡ true) → TextFails v section t r → ⊥
-texts-stop v section t r all (no_text i lt before none) =
+texts-stop v section t r all (no_text i lt before placed none) =
     let some : names_text v section t i ≡ true = all i lt in
     cc
 

@@ -4,13 +4,13 @@ use Rattle.std.specs.Prelude.{nat_le, ⊤}
 use Rattle.std.proofs.lemmas.Bool.{leb-true, le-leb}
 use Rattle.dw_base.specs.Cells.{Cell, bytes_of}
 use Rattle.dw_base.specs.DebugData.{Around, line_table, table_of}
-use Rattle.dw_base.specs.Forms.{TextSection, ValueKind, number_of, inline_text, text_offset, form_in_front, kind_in}
+use Rattle.dw_base.specs.Forms.{ValueKind, number_of, inline_text, text_offset, form_in_front, kind_in}
 use Rattle.dw_base.specs.InlinePaths.{mapped_inline}
 use Rattle.dw_base.specs.Numbers.{spelled, number_at}
 use Rattle.dw_base.specs.Paths.{PathMap}
 use Rattle.dw_base.specs.Pieces.{Piece}
 use Rattle.dw_base.specs.LineMeanings.{is_there}
-use Rattle.dw_base.specs.Roles.{Role, fixed, offset, inline_path, line_start, is_line_start, role_of_kind, role_of_mode, Use, is_path_use, use_of}
+use Rattle.dw_base.specs.Roles.{Role, fixed, offset, inline_path, line_start, is_line_start, role_of_kind, role_of_mode, is_path_use, use_of}
 use Rattle.dw_base.specs.StringTables.{new_text}
 use Rattle.dw_base.specs.TextChanges.{mention_at, offset_in}
 use Rattle.dw_base.specs.TextIndexes.{index_value, slot_of}
@@ -26,6 +26,8 @@ use Rattle.dw_base.specs.declared.values.ValueClass.{ValueClass}
 use Rattle.dw_base.specs.declared.values.ValueClass.TheVariants.{InlineText}
 use Rattle.dw_base.proofs.PieceFrameLaws.{AllChanged, Preserves}
 use Rattle.dw_base.specs.declared.debug_sections.DebugSection.TheVariants.{StrOffsets}
+use Rattle.dw_base.specs.declared.texts.TextSection.{TextSection}
+use Rattle.dw_base.specs.declared.values.AttributeUse.{AttributeUse}
 
 -- what stands around units before and after a change, and the map that was applied. What units are read by stays, and so do
 -- the places of entries.
@@ -169,14 +171,14 @@ inline-value true c s x p q h f = record {
 inline-value false c s x p q h f = same-value s x inline_text p q h f
 
 -- a value after the change
-value-becomes : (k : ValueKind) (u : Use) (c : Shift) (s : UnitState) (x : Spec) (p q : List Cell) → Becomes (role_of_kind k u) c p q
+value-becomes : (k : ValueKind) (u : AttributeUse) (c : Shift) (s : UnitState) (x : Spec) (p q : List Cell) → Becomes (role_of_kind k u) c p q
     → IsValue s x k p → IsValue s x k q
 value-becomes (text_offset table n) u c s x p q h f = offset-value s x table n p q h.size f
 value-becomes inline_text u c s x p q h f = inline-value (is_path_use u) c s x p q h f
 value-becomes (number_of class n) u c s x p q h f = number-becomes (is_line_start u class n) c s x class n p q h f
 value-becomes k u c s x p q h f = same-value s x k p q h f
 
-kind-becomes : (k : ValueKind) (u : Use) (c : Shift) (s : UnitState) (x : Spec) (p q : List Cell) → Becomes (role_of_kind k u) c p q
+kind-becomes : (k : ValueKind) (u : AttributeUse) (c : Shift) (s : UnitState) (x : Spec) (p q : List Cell) → Becomes (role_of_kind k u) c p q
     → FitsKind k s x p → FitsKind k s x q
 kind-becomes form_in_front u c s x p q h f = subst (λ (z : List Cell). FitsKind form_in_front s x z) (sym h) f
 kind-becomes (text_offset table n) u c s x p q h f = offset-value s x table n p q h.size f
@@ -194,7 +196,7 @@ fits-becomes (at_chosen n tag start x xs) base c s p q h f = value-becomes (kind
 fits-becomes stuck base c s p q h f = absurd f
 
 -- what comes after a value
-after-becomes : (k : ValueKind) (u : Use) (c : Shift) (s : UnitState) (n tag : ℕ) (x : Spec) (xs : List Spec) (p q : List Cell)
+after-becomes : (k : ValueKind) (u : AttributeUse) (c : Shift) (s : UnitState) (n tag : ℕ) (x : Spec) (xs : List Spec) (p q : List Cell)
     → Becomes (role_of_kind k u) c p q
     → after_value k s (s.place + length q) (code_value q) n tag x xs ≡ after_value k s (s.place + length p) (code_value p) n tag x xs
 after-becomes form_in_front u c s n tag x xs p q h =

@@ -101,7 +101,8 @@ pub record CellSection : Type 0 where
 abbrev pub located_cells : CellSection → Located
 located_cells z = record { number = z.number; bytes = bytes_of z.contents }
 
--- the offset that a field holds into a section; one into another section counts as past it
+-- the offset that a field holds into a section; one into another section counts as past it. A symbol without a place is no offset: where one
+-- stands, the row of its field is that of relocations alone, and what it counts as says nothing.
 abbrev pub offset_into : Located → Field → ℕ
 offset_into z (Num n) = n
 offset_into z (Into s n) = if s == z.number then n else length z.bytes
@@ -113,11 +114,11 @@ said_offset (Num n) = n
 said_offset (Into s n) = n
 said_offset (Sym s k a) = 0
 
--- a field holds no offset into a section: a relocation makes one into another of it, or one that has no place
+-- a field holds an offset into another section than this: a relocation makes one of it
 abbrev pub is_elsewhere : Located → Field → Bool
 is_elsewhere z (Num n) = false
 is_elsewhere z (Into s n) = not (s == z.number)
-is_elsewhere z (Sym s k a) = true
+is_elsewhere z (Sym s k a) = false
 
 unfoldable pub offset_of : Order → Located → List Cell → ℕ
 offset_of order z p = offset_into z (field_of order p)

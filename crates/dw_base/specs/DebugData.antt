@@ -2,7 +2,6 @@
 -- pieces that were read of them.
 use Rattle.std.specs.Prelude.{true, false, ◌≡◌, ◌+◌, ◌==◌, ◌&&◌, ℕ, Option, Some, None, if◌then◌else◌, List, [], ◌∷◌, ◌++◌, ⊤}
 use Rattle.dw_base.specs.Cells.{Cell, Located, CellSection, located_cells, field_of, offset_of}
-use Rattle.dw_base.specs.Forms.{TextSection, in_str, in_line_str}
 use Rattle.dw_base.specs.LineReadings.{LineReading, table_starts}
 use Rattle.dw_base.specs.LineSources.{LineSource}
 use Rattle.dw_base.specs.MacroReadings.{MacroReading, MacroStart, MacroPlaces, macro_starts, first_macros}
@@ -17,6 +16,8 @@ use Rattle.dw_base.specs.UnitPieces.{ReadsUnits}
 use Rattle.dw_base.specs.UnitStates.{Mode, at_header, at_code, UnitState, code_value}
 use Rattle.dw_base.specs.declared.debug_sections.DebugSection.{DebugSection}
 use Rattle.dw_base.specs.declared.debug_sections.DebugSection.TheVariants.{Info, Types, Abbrev, Str, LineStr, StrOffsets, Line, Macro, Names}
+use Rattle.dw_base.specs.declared.texts.TextSection.{TextSection}
+use Rattle.dw_base.specs.declared.texts.TextSection.TheVariants.{InStr, InLineStr}
 use Rattle.dw_base.specs.declared.view_fields.Field.{Field}
 use Rattle.dw_base.specs.declared.view_fields.Field.TheVariants.{Num, Into, Sym}
 
@@ -177,8 +178,8 @@ macro_unit g p = unit_named (g.kept Macro) (field_of g.base.order p)
 
 -- the section that a table of texts is
 abbrev pub text_section : TextSection → DebugSection
-text_section in_str = Str
-text_section in_line_str = LineStr
+text_section InStr = Str
+text_section InLineStr = LineStr
 
 abbrev pub table_of : Around → TextSection → Located
 table_of around table = target_of around (text_section table)

@@ -3,14 +3,11 @@ use Rattle.std.specs.Prelude.{ℕ, ◌==◌, if◌then◌else◌, List, [], ◌�
 use Rattle.dw_base.specs.declared.shared.Params.{Params}
 use Rattle.dw_base.specs.declared.shared.Width.{Width}
 use Rattle.dw_base.specs.declared.shared.Width.TheVariants.{W32, W64}
+use Rattle.dw_base.specs.declared.texts.TextSection.{TextSection}
+use Rattle.dw_base.specs.declared.texts.TextSection.TheVariants.{InStr, InLineStr}
 use Rattle.dw_base.specs.declared.values.ValueClass.{ValueClass}
 use Rattle.dw_base.specs.declared.values.ValueClass.TheVariants.{Address, Number, Flag, StrIndex, AddrIndex, ListIndex, LocalRef, GlobalRef, Signature, SecOffset}
 use Rattle.dw_base.specs.declared.dwarf_numbers.TheConstants.{DW_FORM_addr, DW_FORM_block2, DW_FORM_block4, DW_FORM_data2, DW_FORM_data4, DW_FORM_data8, DW_FORM_string, DW_FORM_block, DW_FORM_block1, DW_FORM_data1, DW_FORM_flag, DW_FORM_sdata, DW_FORM_strp, DW_FORM_udata, DW_FORM_ref_addr, DW_FORM_ref1, DW_FORM_ref2, DW_FORM_ref4, DW_FORM_ref8, DW_FORM_ref_udata, DW_FORM_indirect, DW_FORM_sec_offset, DW_FORM_exprloc, DW_FORM_flag_present, DW_FORM_strx, DW_FORM_addrx, DW_FORM_ref_sup4, DW_FORM_strp_sup, DW_FORM_data16, DW_FORM_line_strp, DW_FORM_ref_sig8, DW_FORM_implicit_const, DW_FORM_loclistx, DW_FORM_rnglistx, DW_FORM_ref_sup8, DW_FORM_strx1, DW_FORM_strx2, DW_FORM_strx3, DW_FORM_strx4, DW_FORM_addrx1, DW_FORM_addrx2, DW_FORM_addrx3, DW_FORM_addrx4, DW_FORM_GNU_ref_alt, DW_FORM_GNU_strp_alt}
-
--- the tables that hold texts (DWARF 5, 7.5.5, class string)
-pub data TextSection : Type 0 where
-  in_str : TextSection
-  in_line_str : TextSection
 
 -- what a value of a form is: a number of a class in so many bytes, or in LEB128; a signed number; so many bytes, or a block
 -- behind a count of so many bytes, or of LEB128; a text, or an offset of so many bytes of one in a table; a flag without
@@ -63,7 +60,7 @@ form_rows params =
     ∷ row DW_FORM_data1 (number_of Number 1)
     ∷ row DW_FORM_flag (number_of Flag 1)
     ∷ row DW_FORM_sdata signed_leb
-    ∷ row DW_FORM_strp (text_offset in_str (width_size params.width))
+    ∷ row DW_FORM_strp (text_offset InStr (width_size params.width))
     ∷ row DW_FORM_udata (leb_number Number)
     ∷ row DW_FORM_ref_addr (number_of GlobalRef (reference_size params))
     ∷ row DW_FORM_ref1 (number_of LocalRef 1)
@@ -80,7 +77,7 @@ form_rows params =
     ∷ row DW_FORM_ref_sup4 supplementary
     ∷ row DW_FORM_strp_sup supplementary
     ∷ row DW_FORM_data16 (block_of 16)
-    ∷ row DW_FORM_line_strp (text_offset in_line_str (width_size params.width))
+    ∷ row DW_FORM_line_strp (text_offset InLineStr (width_size params.width))
     ∷ row DW_FORM_ref_sig8 (number_of Signature 8)
     ∷ row DW_FORM_implicit_const in_abbreviation
     ∷ row DW_FORM_loclistx (leb_number ListIndex)

@@ -1,6 +1,5 @@
 -- The texts that line tables name by offsets, and what becomes of the tables when the tables of texts change (DWARF 5, 6.2.4).
 use Rattle.std.specs.Prelude.{true, ℕ, ◌==◌, if◌then◌else◌, List, [], ◌∷◌, ◌++◌, Option, Some, None}
-use Rattle.dw_base.specs.Forms.{TextSection, in_str, in_line_str}
 use Rattle.dw_base.specs.LineReadings.{LineReading, table_read}
 use Rattle.dw_base.specs.LineSources.{LineSource}
 use Rattle.dw_base.specs.Paths.{PathMap}
@@ -9,6 +8,8 @@ use Rattle.dw_base.specs.TextChanges.{TableChange}
 use Rattle.dw_base.specs.Texts.{text_in}
 use Rattle.dw_base.specs.WrittenLines.{paths_of, written_table}
 use Rattle.dw_base.specs.declared.line_tables.TextPlace.{TextPlace}
+use Rattle.dw_base.specs.declared.texts.TextSection.{TextSection}
+use Rattle.dw_base.specs.declared.texts.TextSection.TheVariants.{InStr, InLineStr}
 
 -- the path that an offset names in a table of texts
 abbrev pub path_in : List ℕ → TextPlace → Mention
@@ -16,8 +17,8 @@ path_in bytes x = record { path = true; text = text_in bytes x.at }
 
 -- the mention that a path makes in a table of texts: none where it stands in its line table, or in the other
 abbrev pub mention_in : LineSource → TextSection → TextPlace → List Mention
-mention_in g in_str x = if x.section == g.number then [] else (if x.section == g.str.number then path_in g.str.bytes x ∷ [] else [])
-mention_in g in_line_str x =
+mention_in g InStr x = if x.section == g.number then [] else (if x.section == g.str.number then path_in g.str.bytes x ∷ [] else [])
+mention_in g InLineStr x =
     if x.section == g.number then [] else (if x.section == g.str.number then [] else path_in g.line_str.bytes x ∷ [])
 
 abbrev pub paths_mentions : LineSource → TextSection → List TextPlace → List Mention

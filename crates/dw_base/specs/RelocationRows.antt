@@ -16,7 +16,7 @@ use Rattle.dw_base.specs.Pieces.{Piece}
 use Rattle.dw_base.specs.Refusals.{at}
 use Rattle.dw_base.specs.RelocationFields.{LiesPartly, reach_of, relocation_at}
 use Rattle.dw_base.specs.RelocationSectionFails.{moves}
-use Rattle.dw_base.specs.Roles.{Use, names_line_table, names_macro_unit, use_of}
+use Rattle.dw_base.specs.Roles.{use_of}
 use Rattle.dw_base.specs.TextIndexes.{holds_number, is_base}
 use Rattle.dw_base.specs.UnitFails.{bytes_from}
 use Rattle.dw_base.specs.UnitHeaders.{HeaderPlaces, IsUnit, UnitBase, UnitSection, UnitsUpTo, header_places}
@@ -26,6 +26,8 @@ use Rattle.dw_base.specs.declared.fault.Refusal.{Refusal}
 use Rattle.dw_base.specs.declared.shared.Order.{Order}
 use Rattle.dw_base.specs.declared.shared.Width.{Width}
 use Rattle.dw_base.specs.declared.units.UnitHeader.{UnitHeader}
+use Rattle.dw_base.specs.declared.values.AttributeUse.{AttributeUse}
+use Rattle.dw_base.specs.declared.values.AttributeUse.TheVariants.{NamesLineTable, NamesMacroUnit}
 use Rattle.dw_base.specs.declared.values.ValueClass.{ValueClass}
 use Rattle.dw_base.specs.declared.values.ValueClass.TheVariants.{Address, GlobalRef, Number, SecOffset}
 
@@ -51,9 +53,9 @@ can_be_offset Number n = n == 4 || n == 8
 can_be_offset class n = false
 
 -- an attribute that says where a line table or a macro unit starts
-abbrev pub names_start : Use → Bool
-names_start names_line_table = true
-names_start names_macro_unit = true
+abbrev pub names_start : AttributeUse → Bool
+names_start NamesLineTable = true
+names_start NamesMacroUnit = true
 names_start u = false
 
 -- what a number of a class is, of an attribute that says where a table of its own starts or begins, or of another
@@ -73,8 +75,8 @@ kind_field (number_of class n) place start = listed_field place n (use_of_number
 kind_field k place start = []
 
 -- an attribute of an entry says where something of another section starts: a line table, a macro unit, the unit's slots
-abbrev pub is_start : ℕ → ℕ → ℕ → Bool
-is_start number tag name = names_start (use_of number tag name) || is_base number name
+abbrev pub is_section_offset : ℕ → ℕ → ℕ → Bool
+is_section_offset number tag name = names_start (use_of number tag name) || is_base number name
 
 -- the offset of abbreviations in a header, by its length: width, length, and the size of the length's field
 abbrev pub header_field : Order → ℕ → List Cell → Option (Width × ℕ × ℕ) → List FieldPlace
@@ -86,8 +88,8 @@ header_field order place p (Some l) =
 -- the fields of a piece of a unit
 abbrev pub unit_field : Mode → Order → UnitState → List Cell → List FieldPlace
 unit_field at_header order s p = header_field order s.place p (initial_length_at order (bytes_of p) 0)
-unit_field (at_values number tag (x ∷ xs)) order s p = kind_field (kind_in s.header.params x.form) s.place (is_start number tag x.name)
-unit_field (at_chosen number tag start x xs) order s p = kind_field (kind_in s.header.params x.form) s.place (is_start number tag x.name)
+unit_field (at_values number tag (x ∷ xs)) order s p = kind_field (kind_in s.header.params x.form) s.place (is_section_offset number tag x.name)
+unit_field (at_chosen number tag start x xs) order s p = kind_field (kind_in s.header.params x.form) s.place (is_section_offset number tag x.name)
 unit_field m order s p = []
 
 abbrev pub unit_fields : Order → List (Piece UnitState) → List FieldPlace

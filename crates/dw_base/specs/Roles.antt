@@ -1,20 +1,15 @@
 -- What an attribute is to an edit, and what an edit may do to a piece of a unit.
 use Rattle.std.specs.Prelude.{Bool, true, false, ℕ, ◌==◌, ◌&&◌, ◌||◌, if◌then◌else◌, ◌∷◌}
-use Rattle.dw_base.specs.Forms.{TextSection, ValueKind, number_of, inline_text, text_offset, kind_in}
+use Rattle.dw_base.specs.Forms.{ValueKind, number_of, inline_text, text_offset, kind_in}
 use Rattle.dw_base.specs.Pieces.{Piece}
 use Rattle.dw_base.specs.UnitStates.{Mode, at_values, at_chosen, UnitState}
 use Rattle.dw_base.specs.declared.shared.Params.{Params}
+use Rattle.dw_base.specs.declared.values.AttributeUse.{AttributeUse}
+use Rattle.dw_base.specs.declared.values.AttributeUse.TheVariants.{NamesPath, NamesLineTable, NamesMacroUnit, NamesOther}
 use Rattle.dw_base.specs.declared.values.ValueClass.{ValueClass}
 use Rattle.dw_base.specs.declared.values.ValueClass.TheVariants.{Number, SecOffset}
 use Rattle.dw_base.specs.declared.dwarf_numbers.TheConstants.{DW_TAG_compile_unit, DW_TAG_partial_unit, DW_TAG_type_unit, DW_AT_name, DW_AT_comp_dir, DW_AT_stmt_list, DW_AT_macros, DW_AT_GNU_macros}
-
--- what an attribute says, as far as an edit goes by it: a source path, the place of a line table, that of a macro unit, or
--- something else
-pub data Use : Type 0 where
-  names_path : Use
-  names_line_table : Use
-  names_macro_unit : Use
-  names_other : Use
+use Rattle.dw_base.specs.declared.texts.TextSection.{TextSection}
 
 -- a unit's own tag (DWARF 5, 3.1.1 and 3.1.4)
 abbrev pub is_unit_tag : ℕ → Bool
@@ -25,28 +20,36 @@ is_unit_tag tag = tag == DW_TAG_compile_unit || tag == DW_TAG_partial_unit || ta
 abbrev pub is_path : ℕ → ℕ → ℕ → Bool
 is_path number tag name = number == 0 && is_unit_tag tag && (name == DW_AT_name || name == DW_AT_comp_dir)
 
--- what an attribute of entry `number` of a unit, of a tag, says
-abbrev pub use_of : ℕ → ℕ → ℕ → Use
-use_of number tag name =
-    if is_path number tag name then names_path else
-    (if name == DW_AT_stmt_list then names_line_table else
-    (if name == DW_AT_macros || name == DW_AT_GNU_macros then names_macro_unit else names_other))
+-- an attribute of a name that says where a macro unit starts, and one that says where that or a line table does (DWARF 5, 3.1.1)
+abbrev pub is_macros : ℕ → Bool
+is_macros name = name == DW_AT_macros || name == DW_AT_GNU_macros
 
-abbrev pub is_path_use : Use → Bool
-is_path_use names_path = true
+abbrev pub is_start_name : ℕ → Bool
+is_start_name name = name == DW_AT_stmt_list || is_macros name
+
+-- what an attribute of entry `number` of a unit, of a tag, says, as far as an edit goes by it: a source path, the place of a line table, that
+-- of a macro unit, or something else
+abbrev pub use_of : ℕ → ℕ → ℕ → AttributeUse
+use_of number tag name =
+    if is_path number tag name then NamesPath else
+    (if name == DW_AT_stmt_list then NamesLineTable else
+    (if is_macros name then NamesMacroUnit else NamesOther))
+
+abbrev pub is_path_use : AttributeUse → Bool
+is_path_use NamesPath = true
 is_path_use u = false
 
 -- a number of a class, in so many bytes, that says where a line table starts (DWARF 5, 3.1.1; before version 4 it is a number of 4 or 8
 -- bytes)
-abbrev pub is_line_start : Use → ValueClass → ℕ → Bool
-is_line_start names_line_table SecOffset n = true
-is_line_start names_line_table Number n = n == 4 || n == 8
+abbrev pub is_line_start : AttributeUse → ValueClass → ℕ → Bool
+is_line_start NamesLineTable SecOffset n = true
+is_line_start NamesLineTable Number n = n == 4 || n == 8
 is_line_start u class n = false
 
 -- a number of a class, in so many bytes, that says where a macro unit starts (DWARF 5, 3.1.1)
-abbrev pub is_macro_start : Use → ValueClass → ℕ → Bool
-is_macro_start names_macro_unit SecOffset n = true
-is_macro_start names_macro_unit Number n = n == 4 || n == 8
+abbrev pub is_macro_start : AttributeUse → ValueClass → ℕ → Bool
+is_macro_start NamesMacroUnit SecOffset n = true
+is_macro_start NamesMacroUnit Number n = n == 4 || n == 8
 is_macro_start u class n = false
 
 -- what an edit may do to a piece: nothing; give its offset into a table of texts, of a path or not, another value; where a path
@@ -57,7 +60,7 @@ pub data Role : Type 0 where
   inline_path : Role
   line_start : Role
 
-abbrev pub role_of_kind : ValueKind → Use → Role
+abbrev pub role_of_kind : ValueKind → AttributeUse → Role
 role_of_kind (text_offset table n) u = offset table (is_path_use u)
 role_of_kind (number_of class n) u = if is_line_start u class n then line_start else fixed
 role_of_kind inline_text u = if is_path_use u then inline_path else fixed

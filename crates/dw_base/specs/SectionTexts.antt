@@ -2,7 +2,6 @@
 -- name tables, which texts are named and in which order, and what becomes of these pieces.
 use Rattle.std.specs.Prelude.{false, ℕ, List, [], ◌∷◌, ◌++◌}
 use Rattle.dw_base.specs.DebugData.{Around, DataReadings, path_slots, source_around}
-use Rattle.dw_base.specs.Forms.{TextSection, in_str}
 use Rattle.dw_base.specs.LineChanges.{line_mentions}
 use Rattle.dw_base.specs.MacroPieces.{of_text, MacroMode, at_line, at_offset, MacroState}
 use Rattle.dw_base.specs.MacroReadings.{MacroReading}
@@ -13,10 +12,12 @@ use Rattle.dw_base.specs.Roles.{Role, fixed, offset, line_start}
 use Rattle.dw_base.specs.StringTables.{Mention}
 use Rattle.dw_base.specs.TextChanges.{TableChanges, all_mentions, edited_by, mentions_by, NamesTextBy}
 use Rattle.dw_base.specs.TextIndexes.{holds_number}
+use Rattle.dw_base.specs.declared.texts.TextSection.{TextSection}
+use Rattle.dw_base.specs.declared.texts.TextSection.TheVariants.{InStr}
 
 -- what an edit may do to a piece of string offsets: a slot is a path's where a path names it
 abbrev pub offset_role : List ℕ → OffsetMode → ℕ → Role
-offset_role paths (at_slot width end) n = offset in_str (holds_number paths n)
+offset_role paths (at_slot width end) n = offset InStr (holds_number paths n)
 offset_role paths m n = fixed
 
 abbrev pub slot_role : List ℕ → OffsetState → Role
@@ -24,7 +25,7 @@ slot_role paths s = offset_role paths s.mode s.slot
 
 -- and to one of name tables: no string offset is a path's
 abbrev pub name_role_by : NameMode → Role
-name_role_by (at_string width left end) = offset in_str false
+name_role_by (at_string width left end) = offset InStr false
 name_role_by m = fixed
 
 abbrev pub name_role : NameState → Role
@@ -34,7 +35,7 @@ name_role s = name_role_by s.mode
 -- where they are
 abbrev pub macro_role_by : MacroMode → Role
 macro_role_by (at_line width) = line_start
-macro_role_by (at_offset width (of_text defines line)) = offset in_str false
+macro_role_by (at_offset width (of_text defines line)) = offset InStr false
 macro_role_by m = fixed
 
 abbrev pub macro_role : MacroState → Role

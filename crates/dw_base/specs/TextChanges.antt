@@ -4,7 +4,6 @@ use Rattle.std.specs.Prelude.{Bool, ℕ, List, [], ◌∷◌, ◌++◌, get_or, 
 use Rattle.dw_base.specs.Cells.{Cell, bytes_of, with_bytes, offset_of}
 use Rattle.dw_base.specs.DebugData.{Around, line_table, table_of}
 use Rattle.dw_base.specs.Readings.{Readings}
-use Rattle.dw_base.specs.Forms.{TextSection, in_str, in_line_str}
 use Rattle.dw_base.specs.InlinePaths.{inline_fits, mapped_inline}
 use Rattle.dw_base.specs.NewOffsets.{with_offset}
 use Rattle.dw_base.specs.Paths.{PathMap}
@@ -18,6 +17,8 @@ use Rattle.dw_base.specs.UnitStates.{UnitState}
 use Rattle.dw_base.specs.declared.debug_sections.DebugSection.{DebugSection}
 use Rattle.dw_base.specs.declared.debug_sections.DebugSection.TheVariants.{Str, LineStr, Line}
 use Rattle.dw_base.specs.declared.shared.Order.{Order}
+use Rattle.dw_base.specs.declared.texts.TextSection.{TextSection}
+use Rattle.dw_base.specs.declared.texts.TextSection.TheVariants.{InStr, InLineStr}
 
 -- the offset that a field holds into a table
 abbrev pub offset_in : Around → TextSection → List Cell → ℕ
@@ -29,8 +30,8 @@ mention_at around table path p = record { path = path; text = text_in (table_of 
 
 -- the mentions of texts of a table in pieces, in order
 abbrev pub mentions_by : Role → TextSection → Around → List Cell → List Mention
-mentions_by (offset in_str path) in_str around p = mention_at around in_str path p ∷ []
-mentions_by (offset in_line_str path) in_line_str around p = mention_at around in_line_str path p ∷ []
+mentions_by (offset InStr path) InStr around p = mention_at around InStr path p ∷ []
+mentions_by (offset InLineStr path) InLineStr around p = mention_at around InLineStr path p ∷ []
 mentions_by r table around p = []
 
 abbrev pub mentions_of : TextSection → Around → List (Piece UnitState) → List Mention
@@ -59,8 +60,8 @@ pub record TableChanges : Type 0 where
   pub new : (s : DebugSection) → Changed s
 
 abbrev pub change_of : TableChanges → TextSection → TableChange
-change_of changes in_str = changes.new Str
-change_of changes in_line_str = changes.new LineStr
+change_of changes InStr = changes.new Str
+change_of changes InLineStr = changes.new LineStr
 
 -- a field whose mention asks for a new place has it
 abbrev pub moved_field : TableChange → PathMap → Order → Mention → List Cell → List Cell

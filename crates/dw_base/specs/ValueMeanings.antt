@@ -6,12 +6,13 @@ use Rattle.dw_base.specs.DebugData.{Lasting, Around, EntryPlace, line_table, mac
 use Rattle.dw_base.specs.Forms.{ValueKind, number_of, leb_number, signed_leb, block_of, counted, counted_leb, inline_text, text_offset, present, in_abbreviation, form_in_front, supplementary, unlisted}
 use Rattle.dw_base.specs.Lebs.{uleb_at, sleb_at}
 use Rattle.dw_base.specs.Numbers.{spelled}
-use Rattle.dw_base.specs.Roles.{Use, is_line_start, is_macro_start, is_path_use}
+use Rattle.dw_base.specs.Roles.{is_line_start, is_macro_start, is_path_use}
 use Rattle.dw_base.specs.TextIndexes.{holds_number, slot_of}
 use Rattle.dw_base.specs.Texts.{text, text_in}
 use Rattle.dw_base.specs.UnitStates.{UnitState, code_value}
 use Rattle.dw_base.specs.declared.debug_sections.DebugSection.TheVariants.{Info, StrOffsets, Line}
 use Rattle.dw_base.specs.declared.shared.Order.{Order}
+use Rattle.dw_base.specs.declared.values.AttributeUse.{AttributeUse}
 use Rattle.dw_base.specs.declared.values.Spec.{Spec}
 use Rattle.dw_base.specs.declared.values.ValueClass.{ValueClass}
 use Rattle.dw_base.specs.declared.view_fields.Field.{Field}
@@ -90,14 +91,14 @@ indexed texts path None p = raw p
 indexed texts path (Some n) p = string path (by_slot n) (get_or texts n [])
 
 -- a value that says an index
-abbrev pub by_index : Around → UnitState → Use → ℕ → List Cell → ValueMeaning
+abbrev pub by_index : Around → UnitState → AttributeUse → ℕ → List Cell → ValueMeaning
 by_index around s u index p = indexed (around.stands StrOffsets) (is_path_use u) (slot_of (around.lasting.kept StrOffsets) s.unit index) p
 
-abbrev pub number_meaning : Around → UnitState → Use → ValueClass → List Cell → ValueMeaning
+abbrev pub number_meaning : Around → UnitState → AttributeUse → ValueClass → List Cell → ValueMeaning
 number_meaning around s u StrIndex p = by_index around s u (spelled around.lasting.base.order (bytes_of p) 0 (length p)) p
 number_meaning around s u class p = meaning_of_number around.lasting s class p
 
-abbrev pub leb_meaning : Around → UnitState → Use → ValueClass → List Cell → ValueMeaning
+abbrev pub leb_meaning : Around → UnitState → AttributeUse → ValueClass → List Cell → ValueMeaning
 leb_meaning around s u StrIndex p = by_index around s u (code_value p) p
 leb_meaning around s u class p = meaning_of_leb around.lasting s class (code_value p)
 
@@ -118,12 +119,12 @@ abbrev pub macro_meaning : Lasting → List Cell → ValueMeaning
 macro_meaning g p = unit_meant (macro_unit g p) (field_of g.base.order p)
 
 -- a number that isn't the start of a line table
-abbrev pub plain_meaning : Around → UnitState → Use → ValueClass → ℕ → List Cell → ValueMeaning
+abbrev pub plain_meaning : Around → UnitState → AttributeUse → ValueClass → ℕ → List Cell → ValueMeaning
 plain_meaning around s u class n p =
     if is_macro_start u class n then macro_meaning around.lasting p else number_meaning around s u class p
 
 -- what the cells of a value of a kind mean, of an attribute of a unit; cells of a form that isn't listed are never read
-abbrev pub meaning_of_value : Around → UnitState → Use → Spec → ValueKind → List Cell → ValueMeaning
+abbrev pub meaning_of_value : Around → UnitState → AttributeUse → Spec → ValueKind → List Cell → ValueMeaning
 meaning_of_value around s u x (number_of class n) p =
     if is_line_start u class n then line_meaning around p else plain_meaning around s u class n p
 meaning_of_value around s u x (leb_number class) p = leb_meaning around s u class p

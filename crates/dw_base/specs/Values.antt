@@ -1,12 +1,14 @@
 -- The value that stands at a place, by its form (DWARF 5, 7.5.5 and 7.5.6). A value lies in the bytes that are given,
 -- which are those of its section up to the end of its unit.
 use Rattle.std.specs.Prelude.{ℕ, ℤ, pos, negsuc, ◌+◌, ◌-◌, ◌^◌, if◌then◌else◌, List, length, Option, Some, None, nat_le}
-use Rattle.dw_base.specs.Forms.{TextSection, in_str, in_line_str, ValueKind, number_of, leb_number, signed_leb, block_of, counted, counted_leb, inline_text, text_offset, present, in_abbreviation, form_in_front, supplementary, unlisted, kind_in}
+use Rattle.dw_base.specs.Forms.{ValueKind, number_of, leb_number, signed_leb, block_of, counted, counted_leb, inline_text, text_offset, present, in_abbreviation, form_in_front, supplementary, unlisted, kind_in}
 use Rattle.dw_base.specs.Lebs.{uleb_at, sleb_at}
 use Rattle.dw_base.specs.Numbers.{number_at}
 use Rattle.dw_base.specs.Texts.{text_in, ends_in}
 use Rattle.dw_base.specs.declared.shared.Order.{Order}
 use Rattle.dw_base.specs.declared.shared.Params.{Params}
+use Rattle.dw_base.specs.declared.texts.TextSection.{TextSection}
+use Rattle.dw_base.specs.declared.texts.TextSection.TheVariants.{InStr, InLineStr}
 use Rattle.dw_base.specs.declared.values.Spec.{Spec}
 use Rattle.dw_base.specs.declared.values.Value.{Value}
 use Rattle.dw_base.specs.declared.values.ValueClass.{ValueClass}
@@ -60,8 +62,8 @@ bare_value bytes at class n =
 
 -- an offset of a text in a table
 abbrev pub offset_class : TextSection → ValueClass
-offset_class in_str = StrOffset
-offset_class in_line_str = LineStrOffset
+offset_class InStr = StrOffset
+offset_class InLineStr = LineStrOffset
 
 -- the value of a kind that stands at a place of these bytes; none where no such value ends in them. The number that stands
 -- in the abbreviation is the last argument.

@@ -54,7 +54,10 @@ pub use records::{FileKind, Section, Segment};
 pub use relocations::{AbsoluteTypes, Reloc, Symbol};
 pub use shared::{Class, Order, Params, Width};
 pub use string_offsets::Contribution;
-pub use texts::{nul_end, nul_in};
+pub use texts::{TextField, TextSection, nul_end, nul_in};
 pub use units::{Scanned, UnitHeader};
-pub use values::{Spec, Value, ValueClass, is_base, is_path};
+pub use values::{
+    AttributeUse, Spec, Value, ValueClass, attribute_use, can_be_offset, is_base, is_macros,
+    is_path, is_section_offset, is_start_form, is_start_name, is_unit_tag, own_form,
+};
 pub use view_fields::Field;

@@ -17,7 +17,7 @@ pub struct UnitHeader {
     pub kind: u8,
     /// Where its abbreviations start in `.debug_abbrev`: the offset that its field says.
     pub abbrevs: u64,
-    /// That offset is one into another section, where no abbreviations stand.
+    /// That offset is one into another section, where no abbreviations stand: a relocation makes it so.
     pub elsewhere: bool,
     /// The signature of a type unit, else 0.
     pub signature: u64,

@@ -2,13 +2,17 @@
 //! form reads it (DWARF 5, 7.5.3 to 7.5.6).
 
 ghost use Rattle.std.specs.Prelude.{◌≡◌};
-ghost use Rattle.dw_base.specs.Roles.{is_path};
+ghost use Rattle.dw_base.specs.RelocationRows.{can_be_offset, is_section_offset, names_start};
+ghost use Rattle.dw_base.specs.Roles.{is_macros, is_path, is_start_name, is_unit_tag, use_of};
+ghost use Rattle.dw_base.specs.TableStarts.{is_start_form, own_form};
 ghost use Rattle.dw_base.specs.TextIndexes.{is_base};
 
 use crate::dwarf_numbers::{
-    DW_AT_comp_dir, DW_AT_name, DW_AT_str_offsets_base, DW_TAG_compile_unit, DW_TAG_partial_unit,
-    DW_TAG_type_unit,
+    DW_AT_GNU_macros, DW_AT_comp_dir, DW_AT_macros, DW_AT_name, DW_AT_stmt_list,
+    DW_AT_str_offsets_base, DW_FORM_data4, DW_FORM_data8, DW_FORM_indirect, DW_FORM_sec_offset,
+    DW_TAG_compile_unit, DW_TAG_partial_unit, DW_TAG_type_unit,
 };
+use crate::lebs::uleb_at;
 
 /// An attribute of an abbreviation (DWARF 5, 7.5.3).
 #[derive(Clone, Copy, Debug, PartialEq, Eq)]
@@ -72,15 +76,111 @@ pub struct Value {
     pub size: u64,
 }
 
+/// What an attribute says, as far as an edit goes by it (DWARF 5, 3.1.1).
+#[derive(Clone, Copy, Debug, PartialEq, Eq)]
+pub enum AttributeUse {
+    /// A source path, where its value is a text.
+    NamesPath,
+    /// Where a line table starts.
+    NamesLineTable,
+    /// Where a macro unit starts.
+    NamesMacroUnit,
+    /// Something else.
+    NamesOther,
+}
+
+/// A unit's own tag (DWARF 5, 3.1.1 and 3.1.4).
+pub fn is_unit_tag(tag: u64) -> bool
+    ensures { result ≡ is_unit_tag tag }
+{
+    tag == DW_TAG_compile_unit || tag == DW_TAG_partial_unit || tag == DW_TAG_type_unit
+}
+
 /// An attribute that holds a path: name or comp_dir of the first entry of a unit whose tag is a unit's
 /// (DWARF 5, 3.1.1).
 pub fn is_path(number: u64, tag: u64, name: u64) -> bool
     ensures { result ≡ is_path number tag name }
 {
-    let is_unit = tag == DW_TAG_compile_unit
-        || tag == DW_TAG_partial_unit
-        || tag == DW_TAG_type_unit;
-    number == 0 && is_unit && (name == DW_AT_name || name == DW_AT_comp_dir)
+    number == 0 && is_unit_tag(tag) && (name == DW_AT_name || name == DW_AT_comp_dir)
+}
+
+/// An attribute of a name that says where a macro unit starts (DWARF 5, 3.1.1).
+pub fn is_macros(name: u64) -> bool
+    ensures { result ≡ is_macros name }
+{
+    name == DW_AT_macros || name == DW_AT_GNU_macros
+}
+
+/// One that says where a line table or a macro unit starts.
+pub fn is_start_name(name: u64) -> bool
+    ensures { result ≡ is_start_name name }
+{
+    name == DW_AT_stmt_list || is_macros(name)
+}
+
+/// What an attribute of entry `number` of a unit, of a tag, says.
+pub fn attribute_use(number: u64, tag: u64, name: u64) -> AttributeUse
+    ensures { result ≡ use_of number tag name }
+{
+    if is_path(number, tag, name) {
+        AttributeUse::NamesPath
+    } else if name == DW_AT_stmt_list {
+        AttributeUse::NamesLineTable
+    } else if is_macros(name) {
+        AttributeUse::NamesMacroUnit
+    } else {
+        AttributeUse::NamesOther
+    }
+}
+
+/// It says where a line table or a macro unit starts.
+fn names_start(what: AttributeUse) -> bool
+    ensures { result ≡ names_start what }
+{
+    match what {
+        AttributeUse::NamesLineTable | AttributeUse::NamesMacroUnit => true,
+        _ => false,
+    }
+}
+
+/// An attribute of entry `number`, of a tag, says where something of another section starts: a line table, a macro unit, the unit's
+/// slots.
+pub fn is_section_offset(number: u64, tag: u64, name: u64) -> bool
+    ensures { result ≡ is_section_offset number tag name }
+{
+    names_start(attribute_use(number, tag, name)) || is_base(number, name)
+}
+
+/// A number of a class, in so many bytes, can be an offset into another section (DWARF 5, 7.5.5); before version 4 it is a number of 4
+/// or 8 bytes.
+pub fn can_be_offset(class: ValueClass, size: u64) -> bool
+    ensures { result ≡ can_be_offset class size }
+{
+    match class {
+        ValueClass::SecOffset => true,
+        ValueClass::Number => size == 4 || size == 8,
+        _ => false,
+    }
+}
+
+/// A form that can say where a line table or a macro unit starts (DWARF 5, 3.1.1); before version 4 it is a number of 4 or 8 bytes.
+pub fn is_start_form(form: u64) -> bool
+    ensures { result ≡ is_start_form form }
+{
+    form == DW_FORM_sec_offset || form == DW_FORM_data4 || form == DW_FORM_data8
+}
+
+/// The form of a value at a place: its attribute's, or the one in front of it (DWARF 5, 7.5.3).
+pub fn own_form(spec: &Spec, bytes: &[u8], place: u64) -> u64
+    ensures { result ≡ own_form spec.now bytes.now place }
+{
+    if spec.form != DW_FORM_indirect {
+        return spec.form;
+    }
+    match uleb_at(bytes, place) {
+        Some((form, _)) => form,
+        None => 0,
+    }
 }
 
 /// An attribute that says the base of its unit's texts by index (DWARF 5, 3.1.1).

@@ -11,7 +11,7 @@ use dw_base::uleb_at;
 
 /// What stands behind codes of 0.
 #[derive(Clone, Copy)]
-pub(crate) struct Found {
+pub(crate) struct BehindNulls {
     /// Where it stands.
     pub place: u64,
     /// How many lists of children are open there.
@@ -22,7 +22,7 @@ pub(crate) struct Found {
 
 /// What stands behind the codes of 0 from a place on.
 #[tactic(auto, using(crate::proofs::PassLaws::null_rules))]
-pub(crate) fn behind_nulls(bytes: &[u8], from: u64, depth: u32) -> Found
+pub(crate) fn behind_nulls(bytes: &[u8], from: u64, depth: u32) -> BehindNulls
     requires inside { from ≤ length bytes.now }
     ensures nulls { Nulls bytes.now from depth result.place result.depth }
     ensures code { IfSome result.code (IsCode bytes.now result.place) }
@@ -49,10 +49,10 @@ pub(crate) fn behind_nulls(bytes: &[u8], from: u64, depth: u32) -> Found
 }
 
 /// What was found.
-fn found_at(place: u64, depth: u32, code: Option<(u64, u64)>) -> Found
+fn found_at(place: u64, depth: u32, code: Option<(u64, u64)>) -> BehindNulls
     ensures { result ≡ record { place = place; depth = depth; code = code } }
 {
-    Found { place, depth, code }
+    BehindNulls { place, depth, code }
 }
 
 /// How many lists are open once one is closed.

@@ -2,11 +2,11 @@
 
 ghost use Rattle.std.specs.Prelude.{◌≡◌, ◌<◌, ◌≤◌, IfSome, IsTrue, true};
 ghost use Rattle.dw_base.specs.Forms.{kind_in, width_size};
-ghost use Rattle.dw_base.specs.RelocationRows.{can_be_offset, use_of_number};
+ghost use Rattle.dw_base.specs.RelocationRows.{use_of_number};
 ghost use Rattle.dw_base.specs.UnitHeaders.{is_address_size};
 ghost use Rattle.dw_fields.specs.FieldForms.{form_by_use, form_of, is_front};
 
-use dw_base::{Params, ValueClass, Width};
+use dw_base::{Params, ValueClass, Width, can_be_offset};
 use dw_forms::{FormKind, form_kind};
 
 /// The field of a value.
@@ -32,17 +32,6 @@ fn text_form(width: Width) -> FieldForm
     FieldForm { size, offset: true }
 }
 
-/// A number of a class, in so many bytes, can be an offset into another section.
-fn can_be_offset(class: ValueClass, size: u8) -> bool
-    ensures { result ≡ can_be_offset class size }
-{
-    match class {
-        ValueClass::SecOffset => true,
-        ValueClass::Number => size == 4 || size == 8,
-        _ => false,
-    }
-}
-
 /// The field of a number of a class, in so many bytes.
 #[tactic(auto, using(crate::proofs::FormFieldLaws::number_rules))]
 fn number_form(class: ValueClass, size: u8, start: bool) -> Option<FieldForm>
@@ -54,7 +43,7 @@ fn number_form(class: ValueClass, size: u8, start: bool) -> Option<FieldForm>
         ValueClass::GlobalRef => Some(FieldForm { size, offset: true }),
         _ => Some(FieldForm {
             size,
-            offset: start && can_be_offset(class, size),
+            offset: start && can_be_offset(class, u64::from(size)),
         }),
     }
 }

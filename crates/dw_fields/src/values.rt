@@ -5,37 +5,18 @@
 ghost use Rattle.std.specs.Prelude.{◌≡◌, ◌+◌, ◌<◌, ◌≤◌, ◌^◌, Some, true, is_some, length, IfSome, IsTrue};
 ghost use Rattle.dw_base.specs.FileViews.{kind_at, section_bytes, view_cells};
 ghost use Rattle.dw_base.specs.Forms.{kind_in};
-ghost use Rattle.dw_base.specs.RelocationRows.{is_start};
 ghost use Rattle.dw_base.specs.UnitHeaders.{is_address_size};
 ghost use Rattle.dw_base.specs.Values.{value_at, value_size};
 ghost use Rattle.dw_fields.specs.FieldForms.{fields_by, form_end, is_front as is_front_kind};
 ghost use Rattle.dw_fields.specs.FieldWalks.{Goes, StandsAt, ground_of};
-ghost use Rattle.dw_fields.specs.UnitFields.{fields_of_kind, values_end, values_fields};
+ghost use Rattle.dw_fields.specs.UnitFields.{fields_of_kind, values_fields};
+ghost use Rattle.dw_meaning.specs.PieceRuns.{values_end};
 
 use crate::forms::{FieldForm, field_form, is_front};
 use crate::marks::{Marks, pass_number, pass_offset};
-use dw_base::dwarf_numbers::{DW_AT_GNU_macros, DW_AT_macros, DW_AT_stmt_list};
-use dw_base::{Params, Refusal, Spec, is_base, is_path, uleb_at};
+use dw_base::{Params, Refusal, Spec, is_section_offset, uleb_at};
 use dw_forms::size_at;
 use dw_view::View;
-
-/// An attribute of entry `number`, of a tag, says where something of another section starts: a line table, a macro unit, the unit's
-/// slots.
-#[tactic(auto, using(crate::proofs::ValueFieldLaws::start_rules))]
-fn is_start(number: u64, tag: u64, name: u64) -> bool
-    ensures { result ≡ is_start number tag name }
-{
-    if is_base(number, name) {
-        return true;
-    }
-    if is_path(number, tag, name) {
-        return false;
-    }
-    if name == DW_AT_stmt_list {
-        return true;
-    }
-    name == DW_AT_macros || name == DW_AT_GNU_macros
-}
 
 /// A pass over the field at a place, where there is one.
 #[tactic(auto, using(crate::proofs::ValueFieldLaws::form_rules))]
@@ -156,7 +137,7 @@ pub(crate) fn pass_values(
         let Ok(size) = size_at(spec, params, section, bytes, place, end) else {
             unreachable!()
         };
-        let start = is_start(number, tag, spec.name);
+        let start = is_section_offset(number, tag, spec.name);
         now = pass_value(view, section, now, params, bytes, start, spec, place, size);
         place += size;
     }

@@ -14,19 +14,19 @@ use Rattle.dw_base.specs.declared.fault.Refusal.{Refusal}
 use Rattle.dw_base.specs.declared.shared.Order.{Order}
 use Rattle.dw_base.specs.declared.units.UnitHeader.{UnitHeader}
 use Rattle.dw_base.proofs.ViewCellLaws.{bytes_of-view_cells, offsets-located}
+use Rattle.dw_base.specs.declared.texts.TextField.{TextField}
 use Rattle.dw_entries.specs.Fronts.{IsOfView}
 use Rattle.dw_entries.specs.ViewUnits.{unit_section_at}
-use Rattle.dw_find.specs.EntryTexts.{Tables, Found, with_base, with_places}
+use Rattle.dw_find.specs.EntryTexts.{Tables, FoundTexts, with_base, with_places}
 use Rattle.dw_find.specs.FieldOffsets.{BaseLies, BaseRefuses}
 use Rattle.dw_find.specs.Fields.{IsStartField}
 use Rattle.dw_find.specs.NamedSlots.{Slots, TakesIndexes}
 use Rattle.dw_find.specs.TextPlaces.{base_in, base_source, entries_places, number_said}
 use Rattle.dw_find.specs.UnitTexts.{ScanTaken, UnitsRefuse, relocation_fails}
-use Rattle.dw_find.specs.declared.fields.PathField.{PathField}
 use Rattle.dw_find.specs.declared.fields.TextBase.{TextBase}
 use Rattle.dw_find.specs.declared.fields.TextBase.TheVariants.{Field as BaseField, Number as BaseNumber}
 use Rattle.dw_find.specs.declared.fields.TextIndex.{TextIndex}
-use Rattle.dw_find.proofs.HeaderLaws.{header-of}
+use Rattle.dw_base.proofs.HeaderOfLaws.{header-of}
 use Rattle.dw_find.proofs.PlaceValueLaws.{StartFacts, base_place, unit-base}
 use Rattle.dw_find.proofs.SectionFactLaws.{own-section}
 
@@ -37,17 +37,17 @@ number-none v cells b is = ap (number_said (base_source (debug_data v)) cells) (
 pub number-some : (v : View) (cells : List Cell) (b : Option TextBase) (n : ℕ) → b ≡ Some (BaseNumber n) → Some n ≡ number_said (base_source (debug_data v)) cells b
 number-some v cells b n is = ap (number_said (base_source (debug_data v)) cells) (sym is)
 
-pub number-field : (v : View) (cells : List Cell) (b : Option TextBase) (f : PathField) (n : ℕ) → b ≡ Some (BaseField f)
+pub number-field : (v : View) (cells : List Cell) (b : Option TextBase) (f : TextField) (n : ℕ) → b ≡ Some (BaseField f)
     → n ≡ offset_of v.order (located v StrOffsets) (cells_at cells f.at f.size) → Some n ≡ number_said (base_source (debug_data v)) cells b
 unfolding debug_data
 number-field v cells b f n is read =
     ap Some (read ∙ ap (λ (z : Located). offset_of v.order z (cells_at cells f.at f.size)) (sym (offsets-located v)))
     ∙ ap (number_said (base_source (debug_data v)) cells) (sym is)
 
-pub field-lies : (info : List ℕ) (b : Option TextBase) (f : PathField) → b ≡ Some (BaseField f) → BaseLies info b → IsStartField info f
+pub field-lies : (info : List ℕ) (b : Option TextBase) (f : TextField) → b ≡ Some (BaseField f) → BaseLies info b → IsStartField info f
 field-lies info b f is lies = subst (BaseLies info) is lies
 
-pub field-refuses : (order : Order) (section : ℕ) (cells : List Cell) (b : Option TextBase) (f : PathField) (r : Refusal) → b ≡ Some (BaseField f)
+pub field-refuses : (order : Order) (section : ℕ) (cells : List Cell) (b : Option TextBase) (f : TextField) (r : Refusal) → b ≡ Some (BaseField f)
     → OffsetFails order section cells (field_place f.at f.size offset_field) r → BaseRefuses order section cells b r
 field-refuses order section cells b f r is fails = subst (λ (x : Option TextBase). BaseRefuses order section cells x r) (sym is) fails
 
@@ -70,17 +70,17 @@ unit-bytes : (v : View) (h : UnitHeader) → HasUnit (debug_data v) (unit_sectio
 unit-bytes v h u = ap bytes_of (unit-cells v h u) ∙ bytes_of-view_cells v h.section
 
 -- the base that a unit says, by its places
-unit-says : (t : Tables) (h : UnitHeader) (table : List Abbreviation) (bytes : List ℕ) (old found : Found) → old.base ≡ None → (s : ScanTaken t h table bytes old found)
+unit-says : (t : Tables) (h : UnitHeader) (table : List Abbreviation) (bytes : List ℕ) (old found : FoundTexts) → old.base ≡ None → (s : ScanTaken t h table bytes old found)
     → found.base ≡ base_in (entries_places h.params table bytes 0 s.items)
 unfolding with_places
 unit-says t h table bytes old found none s =
-    ap (λ (f : Found). f.base) s.found ∙ by_none old.base none
+    ap (λ (f : FoundTexts). f.base) s.found ∙ by_none old.base none
   where
     by_none : (b : Option TextBase) → b ≡ None → with_base b (entries_places h.params table bytes 0 s.items) ≡ base_in (entries_places h.params table bytes 0 s.items)
     by_none None e = refl
     by_none (Some x) e = absurd cc
 
-unit-facts : (d : DebugData) (z : UnitSection) (h : UnitHeader) (t : Tables) (table : List Abbreviation) (old found : Found) (f : PathField) → HasUnit d z h → IsUnitTable d.base h table
+unit-facts : (d : DebugData) (z : UnitSection) (h : UnitHeader) (t : Tables) (table : List Abbreviation) (old found : FoundTexts) (f : TextField) → HasUnit d z h → IsUnitTable d.base h table
     → old.base ≡ None → ScanTaken t h table (bytes_up_to z h) old found → found.base ≡ Some (BaseField f)
     → StartFacts d z (base_place f)
 unit-facts d z h t table old found f u declares none s is =
@@ -88,7 +88,7 @@ unit-facts d z h t table old found f u declares none s is =
     (sym (unit-says t h table (bytes_up_to z h) old found none s) ∙ is)
 
 -- it lies in its section
-pub unit-lies : (v : View) (h : UnitHeader) (t : Tables) (table : List Abbreviation) (old found : Found) → HasUnit (debug_data v) (unit_section_at v h.section) h
+pub unit-lies : (v : View) (h : UnitHeader) (t : Tables) (table : List Abbreviation) (old found : FoundTexts) → HasUnit (debug_data v) (unit_section_at v h.section) h
     → IsUnitTable (debug_data v).base h table → old.base ≡ None → ScanTaken t h table (bytes_up_to (unit_section_at v h.section) h) old found
     → BaseLies (section_bytes v h.section) found.base
 unit-lies v h t table old found u declares none s = by_base found.base refl
@@ -103,7 +103,7 @@ unit-lies v h t table old found u declares none s = by_base found.base refl
         record { sized = facts.sized; inside = subst (λ (bs : List ℕ). f.at + f.size ≤ length bs) (unit-bytes v h u) facts.inside }
 
 -- a relocation that refuses it is a row
-pub base-row : (v : View) (h : UnitHeader) (t : Tables) (table : List Abbreviation) (old found : Found) (r : Refusal) → HasUnit (debug_data v) (unit_section_at v h.section) h
+pub base-row : (v : View) (h : UnitHeader) (t : Tables) (table : List Abbreviation) (old found : FoundTexts) (r : Refusal) → HasUnit (debug_data v) (unit_section_at v h.section) h
     → IsUnitTable (debug_data v).base h table → old.base ≡ None → ScanTaken t h table (bytes_up_to (unit_section_at v h.section) h) old found
     → BaseRefuses v.order h.section (view_cells v h.section) found.base r → UnitsRefuse (debug_data v) r
 unfolding debug_data

@@ -7,12 +7,12 @@ use Rattle.dw_base.specs.Cells.{Cell, bytes_of, cells_at, field_of, located_cell
 use Rattle.dw_base.specs.DebugData.{DebugData, DataReadings, Lasting, around_of, start_number, unit_named, units_in, ReadsAll}
 use Rattle.dw_base.specs.DebugSections.{read_sections}
 use Rattle.dw_base.specs.Readings.{Reading, Readings, EachReading}
-use Rattle.dw_base.specs.Forms.{TextSection, in_str, in_line_str, ValueKind, number_of, leb_number, inline_text as inline_kind, text_offset, kind_in}
+use Rattle.dw_base.specs.Forms.{ValueKind, number_of, leb_number, inline_text as inline_kind, text_offset, kind_in}
 use Rattle.dw_base.specs.InlinePaths.{inline_fits}
 use Rattle.dw_base.specs.Numbers.{spelled}
 use Rattle.dw_base.specs.Paths.{PathMap}
 use Rattle.dw_base.specs.Pieces.{Piece, joined, Chain, EachPiece}
-use Rattle.dw_base.specs.Roles.{Role, fixed, offset, inline_path, line_start, role_of, role_of_kind, role_of_mode, Use, use_of, is_line_start, is_path, is_path_use}
+use Rattle.dw_base.specs.Roles.{Role, fixed, offset, inline_path, line_start, role_of, role_of_kind, role_of_mode, use_of, is_line_start, is_path, is_path_use}
 use Rattle.dw_base.specs.TableStarts.{has_start_form, HasStartForm, NamesMacro, NamesUnitIf, begin_in, is_macro_value, macro_value_by, macro_value_in, start_form_by, start_form_in, value_begin}
 use Rattle.dw_base.specs.LineMeanings.{is_there}
 use Rattle.dw_base.specs.MacroReadings.{MacroPlaces}
@@ -31,17 +31,20 @@ use Rattle.dw_base.specs.declared.values.ValueClass.TheVariants.{Number, StrInde
 use Rattle.dw_meaning.proofs.TextEditLaws.{chosen-fits}
 use Rattle.dw_base.proofs.UnitHeaderLaws.{bytes_of-append}
 use Rattle.dw_base.specs.declared.debug_sections.DebugSection.TheVariants.{Line, Macro}
+use Rattle.dw_base.specs.declared.texts.TextField.{TextField}
+use Rattle.dw_base.specs.declared.texts.TextSection.{TextSection}
+use Rattle.dw_base.specs.declared.texts.TextSection.TheVariants.{InStr, InLineStr}
+use Rattle.dw_base.specs.declared.values.AttributeUse.{AttributeUse}
 use Rattle.dw_meaning.proofs.ScanPieceLaws.{bytes_of-drop}
 use Rattle.dw_find.specs.TextPlaces.{TextPlace, Indexed, base_offset, said_base, unit_base, text_index, place_of, indexed_at, indexed_kind, indexed_in, places_in, PlaceNames, PlacesName, fields_in, inline_at, inline_in, paths_by, SectionSays, AllPlaced, InlinesFit, AllFitRooms, macros_in, no_start, places_into, said_start, stray_in, starts_in, unit_start}
 use Rattle.dw_find.specs.NamedStarts.{AllStarts, StartsNamed, UnitsNamed}
 use Rattle.dw_find.specs.UnitPlaces.{PlacesStart, UnitPlaces, has_unit, names_place}
-use Rattle.dw_find.specs.UnitPaths.{UnitPaths, field_by, fields_into, lists_by, path_fields, pieces_into, inline_by, inline_paths, paths_in, paths_of, inline_text, macro_by, macro_fields, start_by, start_fields, stray_among}
+use Rattle.dw_find.specs.SectionFields.{SectionFields, field_by, fields_into, lists_by, path_fields, pieces_into, inline_by, inline_paths, paths_in, paths_of, inline_text, macro_by, macro_fields, start_by, start_fields, stray_among}
 use Rattle.dw_find.specs.declared.fields.InlinePath.{InlinePath}
-use Rattle.dw_find.specs.declared.fields.PathField.{PathField}
 use Rattle.dw_base.specs.declared.view_fields.Field.{Field}
 use Rattle.dw_base.specs.declared.view_fields.Field.TheVariants.{Num, Into, Sym}
 use Rattle.dw_find.proofs.FieldListLaws.{each-section, lists-same, paths-same}
-use Rattle.dw_find.proofs.StartFormLaws.{macro-form}
+use Rattle.dw_base.proofs.StartFormLaws.{macro-form}
 use Rattle.dw_find.proofs.PlacedLaws.{PlacedCells, placed-cells}
 use Rattle.dw_find.proofs.SectionRunLaws.{PlacedPieces, section-placed}
 use Rattle.dw_find.proofs.InlineTextLaws.{text-length, text-front}
@@ -51,7 +54,7 @@ use Rattle.dw_find.proofs.ValuePlaceLaws.{text-fields}
 pub fields-append : (table : TextSection) (ts us : List TextPlace) → fields_in table (ts ++ us) ≡ fields_in table ts ++ fields_in table us
 fields-append table [] us = refl
 fields-append table (t ∷ ts) us =
-    ap (λ (fs : List PathField). field_by table t.role t.at t.len ++ fs) (fields-append table ts us)
+    ap (λ (fs : List TextField). field_by table t.role t.at t.len ++ fs) (fields-append table ts us)
     ∙ sym (append_assoc (field_by table t.role t.at t.len) (fields_in table ts) (fields_in table us))
 
 pub inline-append : (ts us : List TextPlace) → inline_in (ts ++ us) ≡ inline_in ts ++ inline_in us
@@ -62,8 +65,8 @@ inline-append (t ∷ ts) us =
 
 -- the field of one place
 field-one : (table : TextSection) (r : Role) (at len : ℕ) → fields_in table (place_of r at len) ≡ field_by table r at len
-field-one in_str fixed at len = refl
-field-one in_line_str fixed at len = refl
+field-one InStr fixed at len = refl
+field-one InLineStr fixed at len = refl
 field-one table (offset t path) at len = append-nil (field_by table (offset t path) at len)
 field-one table inline_path at len = append-nil (field_by table inline_path at len)
 field-one table line_start at len = append-nil (field_by table line_start at len)
@@ -132,8 +135,8 @@ piece-indexed stuck s p = none_indexed
 
 fields-skip : (table : TextSection) (ts us : List TextPlace) → IsIndexed ts → fields_in table (ts ++ us) ≡ fields_in table us
 fields-skip table ts us none_indexed = refl
-fields-skip in_str ts us (more_indexed at len i rest k) = fields-skip in_str rest us k
-fields-skip in_line_str ts us (more_indexed at len i rest k) = fields-skip in_line_str rest us k
+fields-skip InStr ts us (more_indexed at len i rest k) = fields-skip InStr rest us k
+fields-skip InLineStr ts us (more_indexed at len i rest k) = fields-skip InLineStr rest us k
 
 inline-skip : (ts us : List TextPlace) → IsIndexed ts → inline_in (ts ++ us) ≡ inline_in us
 inline-skip ts us none_indexed = refl
@@ -158,7 +161,7 @@ pub starts-are : (xs : List (Piece UnitState)) → starts_in (places_in xs) ≡ 
 starts-are [] = refl
 starts-are (x ∷ xs) =
     start-piece (role_of x) x.state.place (length x.cells) (indexed_in x.state.mode x.state x.cells ++ places_in xs)
-    ∙ ap (λ (fs : List PathField). start_by (role_of x) x.state.place (length x.cells) ++ fs)
+    ∙ ap (λ (fs : List TextField). start_by (role_of x) x.state.place (length x.cells) ++ fs)
     (starts-skip (indexed_in x.state.mode x.state x.cells) (places_in xs) (piece-indexed x.state.mode x.state x.cells) ∙ starts-are xs)
 
 -- and so is the first value that can't say one
@@ -261,7 +264,7 @@ macro-said false true begin at len us form =
     let is : false ≡ true = form refl in
     absurd cc
 
-macro-both : (k : ValueKind) (path base : Bool) (order : Order) (start : ℕ) (p : List Cell) (u : Use) (at len : ℕ) (us : List TextPlace)
+macro-both : (k : ValueKind) (path base : Bool) (order : Order) (start : ℕ) (p : List Cell) (u : AttributeUse) (at len : ℕ) (us : List TextPlace)
     → macros_in ((indexed_kind k path base order start at len p ++ said_start (start_form_by k u) (macro_value_by k u) start at len) ++ us)
     ≡ macro_by (macro_value_by k u) at len ++ macros_in us
 macro-both k path base order start p u at len us =
@@ -285,7 +288,7 @@ macros-are [] = refl
 macros-are (x ∷ xs) =
     macro-role (role_of x) x.state.place (length x.cells) (indexed_in x.state.mode x.state x.cells ++ places_in xs)
     ∙ macro-piece x.state.mode x.state x.cells (places_in xs)
-    ∙ ap (λ (fs : List PathField). macro_by (is_macro_value x) x.state.place (length x.cells) ++ fs) (macros-are xs)
+    ∙ ap (λ (fs : List TextField). macro_by (is_macro_value x) x.state.place (length x.cells) ++ fs) (macros-are xs)
 
 -- the fields of pieces are those of their places
 pub fields-are : (table : TextSection) (xs : List (Piece UnitState)) → fields_in table (places_in xs) ≡ path_fields table xs
@@ -293,8 +296,8 @@ fields-are table [] = refl
 fields-are table (x ∷ xs) =
     let rest : List TextPlace = indexed_in x.state.mode x.state x.cells ++ places_in xs in
     fields-append table (place_of (role_of x) x.state.place (length x.cells)) rest
-    ∙ ap (λ (fs : List PathField). fs ++ fields_in table rest) (field-one table (role_of x) x.state.place (length x.cells))
-    ∙ ap (λ (fs : List PathField). field_by table (role_of x) x.state.place (length x.cells) ++ fs)
+    ∙ ap (λ (fs : List TextField). fs ++ fields_in table rest) (field-one table (role_of x) x.state.place (length x.cells))
+    ∙ ap (λ (fs : List TextField). field_by table (role_of x) x.state.place (length x.cells) ++ fs)
     (fields-skip table (indexed_in x.state.mode x.state x.cells) (places_in xs) (piece-indexed x.state.mode x.state x.cells) ∙ fields-are table xs)
 
 -- a path that stands in a piece fills it, but for its NUL
@@ -309,7 +312,7 @@ sized-text true s x p f =
     let v = text-fields (bytes_of p) 0 f.value f.is in
     sym v.size_is ∙ f.size
 
-sized-kind : (k : ValueKind) (u : Use) (s : UnitState) (x : Spec) (p : List Cell) → FitsKind k s x p → InlineSized (role_of_kind k u) p
+sized-kind : (k : ValueKind) (u : AttributeUse) (s : UnitState) (x : Spec) (p : List Cell) → FitsKind k s x p → InlineSized (role_of_kind k u) p
 sized-kind inline_kind u s x p f = sized-text (is_path_use u) s x p f
 sized-kind (text_offset table n) u s x p f = tt
 sized-kind (number_of class n) u s x p f = by_start (is_line_start u class n)
@@ -352,7 +355,7 @@ pub paths-are : (base : UnitBase) (z : UnitSection) (first : ℕ) (xs : List (Pi
 paths-are base z first xs r =
     paths-same z.number (lists_by (places_into (places_in xs))) (lists_by (pieces_into xs)) (inline_in (places_in xs)) (inline_paths xs) (stray_in (places_in xs)) (stray_among xs)
     (lists-same (places_into (places_in xs)) (pieces_into xs) read_sections
-    (each-section (places_into (places_in xs)) (pieces_into xs) refl refl refl (fields-are in_str xs) (fields-are in_line_str xs) refl (starts-are xs) (macros-are xs) refl))
+    (each-section (places_into (places_in xs)) (pieces_into xs) refl refl refl (fields-are InStr xs) (fields-are InLineStr xs) refl (starts-are xs) (macros-are xs) refl))
     (inline-are base (before_unit z.number z.kind (length z.contents) 0 first) xs r.chain) (stray-are xs)
 
 -- the cells of a piece
@@ -369,8 +372,8 @@ names-by : (r : Role) (d : DebugData) (rs : DataReadings) (starts : List ℕ) (p
     → NamesTextBy r (around_of d rs) p
 names-by fixed d rs starts p e h k = tt
 names-by inline_path d rs starts p e h k = tt
-names-by (offset in_str path) d rs starts p e h k = h
-names-by (offset in_line_str path) d rs starts p e h k = h
+names-by (offset InStr path) d rs starts p e h k = h
+names-by (offset InLineStr path) d rs starts p e h k = h
 names-by line_start d rs starts p e h k =
     subst (λ (ss : List ℕ). IsTrue (is_there (start_number 0 ss (offset_of d.base.order (located_cells (d.found Line)) p)))) e k
 
@@ -379,10 +382,10 @@ names-first : (r : Role) (d : DebugData) (cells : List Cell) (at len : ℕ) (ts 
 names-first fixed d cells at len ts h = (tt, h)
 names-first inline_path d cells at len ts h = (tt, h.1)
 names-first line_start d cells at len ts h = (tt, h.1)
-names-first (offset in_str path) d cells at len ts h = (h.0, h.1)
-names-first (offset in_line_str path) d cells at len ts h = (h.0, h.1)
+names-first (offset InStr path) d cells at len ts h = (h.0, h.1)
+names-first (offset InLineStr path) d cells at len ts h = (h.0, h.1)
 
-starts-first : (r : Role) (d : DebugData) (starts : List ℕ) (cells : List Cell) (at len : ℕ) (fs : List PathField) → StartsNamed d starts cells (start_by r at len ++ fs)
+starts-first : (r : Role) (d : DebugData) (starts : List ℕ) (cells : List Cell) (at len : ℕ) (fs : List TextField) → StartsNamed d starts cells (start_by r at len ++ fs)
     → StartNamed r d starts (cells_at cells at len) × StartsNamed d starts cells fs
 starts-first fixed d starts cells at len fs h = (tt, h)
 starts-first inline_path d starts cells at len fs h = (tt, h)
@@ -404,7 +407,7 @@ names-are d rs starts cells place (x ∷ xs) e l h k =
     )
 
 -- a value that names a macro unit by its place names it
-units-first : (b : Bool) (d : DebugData) (places : UnitPlaces) (cells : List Cell) (at len : ℕ) (fs : List PathField) → UnitsNamed d places cells (macro_by b at len ++ fs)
+units-first : (b : Bool) (d : DebugData) (places : UnitPlaces) (cells : List Cell) (at len : ℕ) (fs : List TextField) → UnitsNamed d places cells (macro_by b at len ++ fs)
     → (b ≡ true → names_place places (field_of d.base.order (cells_at cells at len)) ≡ true) × UnitsNamed d places cells fs
 units-first true d places cells at len fs h = (λ e. h.0, h.1)
 units-first false d places cells at len fs h = (λ e. absurd cc, h)
@@ -464,7 +467,7 @@ fits-are m cells place (x ∷ xs) l h =
     (both.0, fits-are m cells (place + length x.cells) xs l.2 both.1)
 
 -- the readings of unit sections, with what they say of paths
-pub record FoundReadings (d : DebugData) (first : ℕ) (zs : List UnitSection) (us : List UnitPaths) : Type 0 where
+pub record FoundReadings (d : DebugData) (first : ℕ) (zs : List UnitSection) (us : List SectionFields) : Type 0 where
   pub readings : Readings
   pub reads : ReadsAll d.base first zs readings
   pub says : paths_of readings ≡ us
@@ -473,7 +476,7 @@ pub record FoundReadings (d : DebugData) (first : ℕ) (zs : List UnitSection) (
   pub units : (g : Lasting) (starts : List ℕ) (places : UnitPlaces) → g.base.order ≡ d.base.order → PlacesStart places (g.kept Macro) → AllStarts d starts places zs us
       → EachReading (NamesMacro g) readings
 
-pub found-readings : (d : DebugData) (first : ℕ) (zs : List UnitSection) (us : List UnitPaths) → AllPlaced d zs us → FoundReadings d first zs us
+pub found-readings : (d : DebugData) (first : ℕ) (zs : List UnitSection) (us : List SectionFields) → AllPlaced d zs us → FoundReadings d first zs us
 found-readings d first [] [] all = record { readings = []; reads = tt; says = refl; names = λ rs starts places e h. tt; forms = λ starts places h. tt; units = λ g starts places o s h. tt }
 found-readings d first [] (u ∷ us) all = absurd all
 found-readings d first (z ∷ zs) [] all = absurd all
@@ -489,15 +492,15 @@ found-readings d first (z ∷ zs) (u ∷ us) all =
     record {
       readings = r ∷ rest.readings;
       reads = (refl, p.reads, rest.reads);
-      says = ap (λ (v : UnitPaths). v ∷ paths_of rest.readings) own ∙ ap (λ (vs : List UnitPaths). u ∷ vs) rest.says;
+      says = ap (λ (v : SectionFields). v ∷ paths_of rest.readings) own ∙ ap (λ (vs : List SectionFields). u ∷ vs) rest.says;
       names = λ (rs : DataReadings) (starts : List ℕ) (places : UnitPlaces) e h. (
         names-are d rs starts z.contents 0 p.pieces e cells (subst (PlacesName d z.contents) (sym p.places_are) s.names)
-            (subst (λ (v : UnitPaths). StartsNamed d starts z.contents (fields_into v Line)) (sym own) h.0.named),
+            (subst (λ (v : SectionFields). StartsNamed d starts z.contents (fields_into v Line)) (sym own) h.0.named),
         rest.names rs starts places e h.1,
       );
-      forms = λ (starts : List ℕ) (places : UnitPlaces) h. (forms-are p.pieces (ap (λ (v : UnitPaths). v.stray) own ∙ h.0.all_say), rest.forms starts places h.1);
+      forms = λ (starts : List ℕ) (places : UnitPlaces) h. (forms-are p.pieces (ap (λ (v : SectionFields). v.stray) own ∙ h.0.all_say), rest.forms starts places h.1);
       units = λ (g : Lasting) (starts : List ℕ) (places : UnitPlaces) o st h. (
-        units-are d g places z.contents 0 p.pieces o st cells (subst (λ (v : UnitPaths). UnitsNamed d places z.contents (fields_into v Macro)) (sym own) h.0.units),
+        units-are d g places z.contents 0 p.pieces o st cells (subst (λ (v : SectionFields). UnitsNamed d places z.contents (fields_into v Macro)) (sym own) h.0.units),
         rest.units g starts places o st h.1,
       );
     }

@@ -5,7 +5,7 @@ use Rattle.dw_base.specs.Cells.{Cell, bytes_of, cells_at, offset_of}
 use Rattle.dw_base.specs.DebugData.{Around, DataReadings, ReadsAll, around_of, indexing_of, line_source, macro_places, path_slots}
 use Rattle.dw_base.specs.DebugSections.{name_of}
 use Rattle.dw_base.specs.FileViews.{View, section_bytes, section_named, view_cells}
-use Rattle.dw_base.specs.Forms.{in_str, width_size}
+use Rattle.dw_base.specs.Forms.{width_size}
 use Rattle.dw_base.specs.IndexFails.{IndexFails, SlotFits}
 use Rattle.dw_base.specs.LineReadings.{LineReading, table_starts}
 use Rattle.dw_base.specs.LineTables.{LineTable}
@@ -48,7 +48,6 @@ use Rattle.dw_meaning.specs.RelocationFails.LeftRelocationsFail.{slots as left_s
 use Rattle.dw_base.specs.NameOffsets.{AreRead, NamesRefuse, tables as named_tables, offsets as named_offsets}
 use Rattle.dw_offsets.specs.PathSlots.{SlotsRefuse, SlotsTaken, slot_field, slot_fields, slots_in}
 use Rattle.dw_offsets.specs.SlotMarks.{AreMarks}
-use Rattle.dw_offsets.specs.declared.slot_fields.PathSlot.{PathSlot}
 use Rattle.dw_offsets.proofs.NamePieceLaws.{NamesRead, names-read}
 use Rattle.dw_offsets.proofs.OffsetPieceLaws.{contributions-read}
 use Rattle.dw_offsets.proofs.SlotPieceLaws.{SlotsAround, SlotsSay, SlotsFail, slot_fails, shared_fails, offset_fails, slots-fail, slots-say}
@@ -63,11 +62,10 @@ use Rattle.dw_find.specs.IndexedTexts.TextsRefuse.{units as texts_units, starts 
 use Rattle.dw_find.specs.NamedSlots.{LieWithin}
 use Rattle.dw_find.proofs.SlotRunLaws.{contributions-lie}
 use Rattle.dw_find.specs.ViewFields.{AllHaveOffsets, AllRoomsFit, AllHavePlaces, HasPlaces}
-use Rattle.dw_find.specs.SlotPaths.{as_fields, offset_fields, read_fields, slots_by, slots_of_view, slots_read}
+use Rattle.dw_find.specs.SlotPaths.{offset_fields, read_fields, slots_by, slots_of_view, slots_read}
 use Rattle.dw_find.specs.TextPlaces.{AllFitRooms, AllPlaced, InlinesFit}
-use Rattle.dw_find.specs.UnitPaths.{UnitPaths, field_by, paths_of}
+use Rattle.dw_find.specs.SectionFields.{SectionFields, field_by, paths_of}
 use Rattle.dw_find.specs.ViewLines.{lines_of_view, starts_of}
-use Rattle.dw_find.specs.declared.fields.PathField.{PathField}
 use Rattle.dw_find.proofs.ApartLaws.{slots-apart}
 use Rattle.dw_find.proofs.FoundLaws.{FoundReadings, found-readings, found-fits}
 use Rattle.dw_find.proofs.MacroAskedLaws.{asked-of}
@@ -86,6 +84,8 @@ use Rattle.dw_find.proofs.SectionFactLaws.{SectionFacts, all-facts, has-offsets,
 use Rattle.dw_find.proofs.SlotPlaceLaws.{SlotsIn}
 use Rattle.dw_find.specs.UnitPlaces.{PlacesStart, UnitPlaces}
 use Rattle.dw_base.specs.NameTables.{AreNameTables}
+use Rattle.dw_base.specs.declared.texts.TextField.{TextField}
+use Rattle.dw_base.specs.declared.texts.TextSection.TheVariants.{InStr}
 use Rattle.dw_meaning.specs.DataOutput.{DataReads}
 use Rattle.dw_meaning.specs.RelocationFails.{LeftRelocationsRead}
 use Rattle.dw_fields.specs.FieldRefusals.{FieldsRefuse}
@@ -97,13 +97,13 @@ use Rattle.dw_find.proofs.MacroListLaws.{units-exclude}
 use Rattle.dw_meaning.proofs.LeftRowLaws.{values-left}
 
 -- the fields that a pass over the slots gave are those of the pieces
-field-is : (paths : List ℕ) (m : OffsetMode) (n place size : ℕ) (more : List PathSlot) (fs : List PathField) → as_fields more ≡ fs
-    → as_fields (slot_field paths m n place size ++ more) ≡ field_by in_str (offset_role paths m n) place size ++ fs
+field-is : (paths : List ℕ) (m : OffsetMode) (n place size : ℕ) (more : List TextField) (fs : List TextField) → more ≡ fs
+    → slot_field paths m n place size ++ more ≡ field_by InStr (offset_role paths m n) place size ++ fs
 field-is paths at_contribution n place size more fs e = e
 field-is paths (at_slot w end) n place size more fs e = by_path (holds_number paths n)
   where
-    by_path : (b : Bool) → as_fields ((if b then record { at = place; size = size } ∷ [] else []) ++ more) ≡ field_by in_str (offset in_str b) place size ++ fs
-    by_path true = ap (λ (l : List PathField). record { at = place; size = size } ∷ l) e
+    by_path : (b : Bool) → (if b then record { at = place; size = size } ∷ [] else []) ++ more ≡ field_by InStr (offset InStr b) place size ++ fs
+    by_path true = ap (λ (l : List TextField). record { at = place; size = size } ∷ l) e
     by_path false = e
 field-is paths no_offsets n place size more fs e = e
 
@@ -113,10 +113,10 @@ field-head x y xs ys e = cc
 field-tail : (x y : FieldPlace) (xs ys : List FieldPlace) → x ∷ xs ≡ y ∷ ys → xs ≡ ys
 field-tail x y xs ys e = cc
 
-fields-are : (paths : List ℕ) (xs : List (Piece OffsetState)) → as_fields (slot_fields paths xs) ≡ offset_fields in_str paths xs
+fields-are : (paths : List ℕ) (xs : List (Piece OffsetState)) → slot_fields paths xs ≡ offset_fields InStr paths xs
 fields-are paths [] = refl
 fields-are paths (x ∷ xs) =
-    field-is paths x.state.mode x.state.slot x.state.place (length x.cells) (slot_fields paths xs) (offset_fields in_str paths xs) (fields-are paths xs)
+    field-is paths x.state.mode x.state.slot x.state.place (length x.cells) (slot_fields paths xs) (offset_fields InStr paths xs) (fields-are paths xs)
 
 -- the cells of string offsets and of name tables
 abbrev string_cells : View → List Cell
@@ -208,7 +208,7 @@ some-size W64 n e = omega (arith, e)
 
 piece-field : (mode : OffsetMode) (paths : List ℕ) (order : Order) (around : Around) (cells : List Cell) (x : Piece OffsetState) (rest : List Cell) (place : ℕ)
     → FitsOffsets mode order x.state x.cells → x.state.place ≡ place → x.cells ++ rest ≡ drop place cells → NamesTextBy (offset_role paths mode x.state.slot) around x.cells
-    → EachOf (IsOffsetField around.lasting.base.order (around.stands Str) cells) (field_by in_str (offset_role paths mode x.state.slot) x.state.place (length x.cells))
+    → EachOf (IsOffsetField around.lasting.base.order (around.stands Str) cells) (field_by InStr (offset_role paths mode x.state.slot) x.state.place (length x.cells))
 piece-field at_contribution paths order around cells x rest place fits at e names = tt
 piece-field (at_slot w end) paths order around cells x rest place fits at e names = by_path (holds_number paths x.state.slot)
   where
@@ -225,7 +225,7 @@ piece-field (at_slot w end) paths order around cells x rest place fits at e name
         ap (λ (i : ℕ). cells_at cells i (length x.cells)) at ∙ piece-cells cells x.cells rest place (sym e) in
         ap (λ (p : List Cell). ends_in (around.stands Str).bytes (offset_of around.lasting.base.order (around.stands Str) p)) own ∙ names
 
-    by_path : (b : Bool) → EachOf (IsOffsetField around.lasting.base.order (around.stands Str) cells) (field_by in_str (offset in_str b) x.state.place (length x.cells))
+    by_path : (b : Bool) → EachOf (IsOffsetField around.lasting.base.order (around.stands Str) cells) (field_by InStr (offset InStr b) x.state.place (length x.cells))
     by_path true = (record { sized = slot-sized w (length x.cells) fits.size; inside = inside; ends = ends }, tt)
     by_path false = tt
 piece-field no_offsets paths order around cells x rest place fits at e names = tt
@@ -235,10 +235,10 @@ each-append P [] ys h k = k
 each-append P (x ∷ xs) ys h k = (h.0, each-append P xs ys h.1 k)
 
 pieces-fields : (paths : List ℕ) (order : Order) (around : Around) (cells : List Cell) (s : OffsetState) (xs : List (Piece OffsetState)) (place : ℕ) → Chain (offset_grammar order) s xs
-    → SlotsIn cells place xs → NameTexts (slot_role paths) around xs → EachOf (IsOffsetField around.lasting.base.order (around.stands Str) cells) (offset_fields in_str paths xs)
+    → SlotsIn cells place xs → NameTexts (slot_role paths) around xs → EachOf (IsOffsetField around.lasting.base.order (around.stands Str) cells) (offset_fields InStr paths xs)
 pieces-fields paths order around cells s [] place chain placed names = tt
 pieces-fields paths order around cells s (x ∷ xs) place chain placed names =
-    each-append (IsOffsetField around.lasting.base.order (around.stands Str) cells) (field_by in_str (slot_role paths x.state) x.state.place (length x.cells)) (offset_fields in_str paths xs)
+    each-append (IsOffsetField around.lasting.base.order (around.stands Str) cells) (field_by InStr (slot_role paths x.state) x.state.place (length x.cells)) (offset_fields InStr paths xs)
     (piece-field x.state.mode paths order around cells x (joined xs) place chain.1 placed.0 placed.1 names.0)
     (pieces-fields paths order around cells (past_offsets x.state.mode order x.state x.cells) xs (place + length x.cells) chain.2 placed.2 names.1)
 
@@ -285,19 +285,19 @@ slots-places : (v : View) (rs : DataReadings) → ReadsOffsets (debug_data v).ba
 slots-places v rs r = slots-places-by v rs (section_named v (name_of StrOffsets)) (strings-there v) (offsets-of v rs.offsets r)
 
 -- sections have places, and their paths fit their rooms
-places-append : (v : View) (xs ys : List UnitPaths) → EachOf (HasPlaces v) xs → AllHavePlaces v ys → AllHavePlaces v (xs ++ ys)
+places-append : (v : View) (xs ys : List SectionFields) → EachOf (HasPlaces v) xs → AllHavePlaces v ys → AllHavePlaces v (xs ++ ys)
 places-append v [] ys h k = k
 places-append v (x ∷ xs) ys h k = (h.0, places-append v xs ys h.1 k)
 
-places-each : (v : View) (us : List UnitPaths) → EachOf (SectionFacts v) us → EachOf (HasPlaces v) us
+places-each : (v : View) (us : List SectionFields) → EachOf (SectionFacts v) us → EachOf (HasPlaces v) us
 places-each v [] h = tt
 places-each v (u ∷ us) h = (has-places v u h.0, places-each v us h.1)
 
-offsets-append : (v : View) (xs ys : List UnitPaths) → AllHaveOffsets v xs → AllHaveOffsets v ys → AllHaveOffsets v (xs ++ ys)
+offsets-append : (v : View) (xs ys : List SectionFields) → AllHaveOffsets v xs → AllHaveOffsets v ys → AllHaveOffsets v (xs ++ ys)
 offsets-append v [] ys h k = k
 offsets-append v (x ∷ xs) ys h k = (h.0, offsets-append v xs ys h.1 k)
 
-offsets-each : (v : View) (us : List UnitPaths) → EachOf (SectionFacts v) us → AllHaveOffsets v us
+offsets-each : (v : View) (us : List SectionFields) → EachOf (SectionFacts v) us → AllHaveOffsets v us
 offsets-each v [] h = tt
 offsets-each v (u ∷ us) h = (has-offsets v u h.0, offsets-each v us h.1)
 
@@ -308,7 +308,7 @@ offsets-macros v (r ∷ rs) h = (
   offsets-macros v rs h.1,
 )
 
-rooms-each : (m : PathMap) (v : View) (before zs : List UnitSection) (us ws : List UnitPaths) → (debug_data v).found Info ≡ before ++ zs → AllPlaced (debug_data v) zs us
+rooms-each : (m : PathMap) (v : View) (before zs : List UnitSection) (us ws : List SectionFields) → (debug_data v).found Info ≡ before ++ zs → AllPlaced (debug_data v) zs us
     → AllFitRooms m zs us → AllRoomsFit m v ws → AllRoomsFit m v (us ++ ws)
 rooms-each m v before [] [] ws split all fits rest = rest
 rooms-each m v before [] (u ∷ us) ws split all fits rest = absurd all
@@ -318,18 +318,18 @@ rooms-each m v before (z ∷ zs) (u ∷ us) ws split all fits rest = (
   rooms-each m v (before ++ z ∷ []) zs us ws (split ∙ sym (append_assoc before (z ∷ []) zs)) all.1 fits.1 rest,
 )
 
-slots-rooms : (m : PathMap) (v : View) (o : Option ℕ) (fields : List PathField) → AllRoomsFit m v (slots_by o fields)
+slots-rooms : (m : PathMap) (v : View) (o : Option ℕ) (fields : List TextField) → AllRoomsFit m v (slots_by o fields)
 slots-rooms m v None fields = tt
 slots-rooms m v (Some i) fields = (tt, tt)
 
 -- what was found
-record Parts (m : PathMap) (v : View) (list : List Contribution) (marks first : List ℕ) (us : List UnitPaths) (tables : List NameTable) : Type 0 where
+record Parts (m : PathMap) (v : View) (list : List Contribution) (marks first : List ℕ) (us : List SectionFields) (tables : List NameTable) : Type 0 where
   offsets : OffsetsRead v list
   found : FoundReadings (debug_data v) 0 ((debug_data v).found Info) us
   names : NamesRead v (names_cells v)
   marked : SlotsMarked (indexing_with (debug_data v) list found.readings) marks
 
-parts-of : (m : PathMap) (v : View) (list : List Contribution) (marks first : List ℕ) (places : UnitPlaces) (us : List UnitPaths) (tables : List NameTable) → AreContributions v.order (string_offsets v) list
+parts-of : (m : PathMap) (v : View) (list : List Contribution) (marks first : List ℕ) (places : UnitPlaces) (us : List SectionFields) (tables : List NameTable) → AreContributions v.order (string_offsets v) list
     → AreRead v tables → UnitsFound m (debug_data v) first places us → TextsIndexed (debug_data v) list marks → Parts m v list marks first us tables
 parts-of m v list marks first places us tables are names found indexed =
     let f : FoundReadings (debug_data v) 0 ((debug_data v).found Info) us = found-readings (debug_data v) 0 ((debug_data v).found Info) us found.placed in
@@ -347,7 +347,7 @@ pub slice-start : (v : View) (ts : List LineTable) (first slice : List ℕ) → 
 slice-start v ts first slice found is same = tables-start v ts slice found (same ∙ is)
 
 -- all of it but its relocations
-record PathsRead (m : PathMap) (v : View) (us : List UnitPaths) (ts : List LineTable) : Type 0 where
+record PathsRead (m : PathMap) (v : View) (us : List SectionFields) (ts : List LineTable) : Type 0 where
   readings : DataReadings
   reads : DataReads (debug_data v) readings
   inline : EachReading (InlineFits m) readings.units
@@ -359,7 +359,7 @@ record PathsRead (m : PathMap) (v : View) (us : List UnitPaths) (ts : List LineT
   tables : ts ≡ tables_read (line_source (debug_data v)) readings.lines
 
 paths-read : (m : PathMap) (v : View) (list : List Contribution) (marks first slice again : List ℕ) (places : UnitPlaces) (tables : List NameTable) (ts : List LineTable) (ss : List SectionUnits)
-    (us with_slots with_macros all : List UnitPaths) → AreContributions v.order (string_offsets v) list → AreRead v tables → TablesFound v ts → first ≡ starts_of ts → slice ≡ first
+    (us with_slots with_macros all : List SectionFields) → AreContributions v.order (string_offsets v) list → AreRead v tables → TablesFound v ts → first ≡ starts_of ts → slice ≡ first
     → again ≡ first → UnitsFoundIn v ss → UnitsStart (debug_data v) places → UnitsFound m (debug_data v) slice places us → TextsIndexed (debug_data v) list marks
     → MacrosName v again places ss → SlotsFound m v list marks us with_slots → with_macros ≡ with_slots ++ macros_of ss → all ≡ with_macros ++ lines_of_view v ts → PathsRead m v all ts
 unfolding slice-start tables-start
@@ -378,13 +378,13 @@ paths-read m v list marks first slice again places tables ts ss us with_slots wi
     let say : SlotsSay m (around_of (debug_data v) (readings_with p.found.readings p.offsets.pieces lines.readings macros.readings p.names.pieces)) p.offsets.pieces slots_found.fields =
     slots-say m (around_of (debug_data v) (readings_with p.found.readings p.offsets.pieces lines.readings macros.readings p.names.pieces)) (slots_in v) (string_cells v) p.offsets.pieces marks
     slots_found.fields around (subst (λ (cs_ : List Contribution). SlotsTaken m (slots_in v) marks (slots_of cs_) [] slots_found.fields) (sym same_list) slots_found.taken) in
-    let fields : as_fields slots_found.fields ≡ read_fields (debug_data v) (readings_with p.found.readings p.offsets.pieces lines.readings macros.readings p.names.pieces) =
-    ap as_fields say.fields_are ∙ fields-are (path_slots (around_of (debug_data v) (readings_with p.found.readings p.offsets.pieces lines.readings macros.readings p.names.pieces))) p.offsets.pieces in
+    let fields : slots_found.fields ≡ read_fields (debug_data v) (readings_with p.found.readings p.offsets.pieces lines.readings macros.readings p.names.pieces) =
+    say.fields_are ∙ fields-are (path_slots (around_of (debug_data v) (readings_with p.found.readings p.offsets.pieces lines.readings macros.readings p.names.pieces))) p.offsets.pieces in
     let slots_is : with_slots ≡ us ++ slots_read v (readings_with p.found.readings p.offsets.pieces lines.readings macros.readings p.names.pieces) =
-    slots_found.is ∙ ap (λ (fs : List PathField). us ++ slots_of_view v fs) fields in
+    slots_found.is ∙ ap (λ (fs : List TextField). us ++ slots_of_view v fs) fields in
     let is : with_macros ≡ (us ++ slots_read v (readings_with p.found.readings p.offsets.pieces lines.readings macros.readings p.names.pieces)) ++ macros_read macros.readings =
-    macros_is ∙ ap (λ (ws : List UnitPaths). ws ++ macros_of ss) slots_is
-    ∙ ap (λ (ws : List UnitPaths). (us ++ slots_read v (readings_with p.found.readings p.offsets.pieces lines.readings macros.readings p.names.pieces)) ++ ws) (sym macros.says) in
+    macros_is ∙ ap (λ (ws : List SectionFields). ws ++ macros_of ss) slots_is
+    ∙ ap (λ (ws : List SectionFields). (us ++ slots_read v (readings_with p.found.readings p.offsets.pieces lines.readings macros.readings p.names.pieces)) ++ ws) (sym macros.says) in
     let without : without_lines v all ≡ with_macros = without-is v all with_macros ts all_is in
     let have : AllHavePlaces v with_macros =
     subst (AllHavePlaces v) (sym is)
@@ -426,13 +426,13 @@ paths-read m v list marks first slice again places tables ts ss us with_slots wi
           (lines-offsets v lines.readings ts lines.reads lines.is));
       places = subst (AllHavePlaces v) (sym without) have;
       rooms = subst (AllRoomsFit m v) (sym without) rooms;
-      is = all_is ∙ ap (λ (ws : List UnitPaths). ws ++ lines_of_view v ts)
-          (is ∙ ap (λ (ws : List UnitPaths). (ws ++ slots_read v (readings_with p.found.readings p.offsets.pieces lines.readings macros.readings p.names.pieces)) ++ macros_read macros.readings) (sym p.found.says));
+      is = all_is ∙ ap (λ (ws : List SectionFields). ws ++ lines_of_view v ts)
+          (is ∙ ap (λ (ws : List SectionFields). (ws ++ slots_read v (readings_with p.found.readings p.offsets.pieces lines.readings macros.readings p.names.pieces)) ++ macros_read macros.readings) (sym p.found.says));
       tables = lines.is;
     }
 
 pub paths-found : (m : PathMap) (v : View) (list : List Contribution) (marks first slice again : List ℕ) (places : UnitPlaces) (tables : List NameTable) (ts : List LineTable) (ss : List SectionUnits)
-    (us with_slots with_macros all : List UnitPaths) → AreContributions v.order (string_offsets v) list → AreRead v tables → TablesFound v ts → first ≡ starts_of ts → slice ≡ first
+    (us with_slots with_macros all : List SectionFields) → AreContributions v.order (string_offsets v) list → AreRead v tables → TablesFound v ts → first ≡ starts_of ts → slice ≡ first
     → again ≡ first → UnitsFoundIn v ss → UnitsStart (debug_data v) places → UnitsFound m (debug_data v) slice places us → TextsIndexed (debug_data v) list marks
     → MacrosName v again places ss → SlotsFound m v list marks us with_slots → with_macros ≡ with_slots ++ macros_of ss → all ≡ with_macros ++ lines_of_view v ts → LeftRelocationsRead (debug_data v) (moving_sections v) → PathsFound m v all ts
 paths-found m v list marks first slice again places tables ts ss us with_slots with_macros all are named lines starts_are same once units_are units_start_at found indexed names slots_found macros_is all_is rest =
@@ -498,7 +498,7 @@ slots-row m v rs r i (slot_fails h) = slots (slot_row rs i h)
 slots-row m v rs r i (shared_fails h) = shared rs i h
 slots-row m v rs r i (offset_fails f is h) = relocations (left_slots rs.offsets i.offsets (offset_row f is (slots-use rs.offsets is.before is.behind f is.is) h))
 
-pub slots-fault : (m : PathMap) (v : View) (list : List Contribution) (marks first : List ℕ) (places : UnitPlaces) (tables : List NameTable) (us : List UnitPaths) (f : Fault)
+pub slots-fault : (m : PathMap) (v : View) (list : List Contribution) (marks first : List ℕ) (places : UnitPlaces) (tables : List NameTable) (us : List SectionFields) (f : Fault)
     → AreContributions v.order (string_offsets v) list → AreRead v tables → UnitsFound m (debug_data v) first places us → TextsIndexed (debug_data v) list marks
     → Blames (SlotsRefuse m (slots_in v) marks (slots_of list)) f → Blames (PathsRefuse m v) f
 slots-fault m v list marks first places tables us NoMemory are named found indexed h = tt
@@ -511,7 +511,7 @@ slots-fault m v list marks first places tables us (Refused r) are named found in
     (slots-around v list marks p.found.readings p.offsets [] [] p.names.pieces p.marked)
     (subst (λ (cs_ : List Contribution). SlotsRefuse m (slots_in v) marks (slots_of cs_) r) (sym same) h))
 
-pub macros-row : (m : PathMap) (v : View) (first slice again : List ℕ) (places : UnitPlaces) (ts : List LineTable) (ss : List SectionUnits) (us : List UnitPaths) (r : Refusal)
+pub macros-row : (m : PathMap) (v : View) (first slice again : List ℕ) (places : UnitPlaces) (ts : List LineTable) (ss : List SectionUnits) (us : List SectionFields) (r : Refusal)
     → TablesFound v ts → first ≡ starts_of ts → again ≡ first → UnitsFoundIn v ss → UnitsStart (debug_data v) places → UnitsFound m (debug_data v) slice places us
     → MacrosStray v again places ss r → PathsRefuse m v r
 macros-row m v first slice again places ts ss us r lines starts_are once units_are start found stray =

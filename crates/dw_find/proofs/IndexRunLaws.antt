@@ -18,8 +18,8 @@ use Rattle.dw_base.specs.declared.units.UnitHeader.{UnitHeader}
 use Rattle.dw_base.specs.declared.values.Spec.{Spec}
 use Rattle.dw_base.specs.declared.values.ValueClass.{ValueClass}
 use Rattle.dw_base.specs.declared.values.ValueClass.TheVariants.{Number, StrIndex, SecOffset}
+use Rattle.dw_find.proofs.PlacedRunLaws.{OrderIs, IsNumbered}
 use Rattle.dw_find.specs.TextPlaces.{TextPlace, BaseSource, said_base, place_of, indexed_kind, indexed_in, places_in, said_start, use_at, uses_among, base_at, bases_among, UnitSays, numbered_uses, numbered_bases}
-use Rattle.dw_find.proofs.ValueRunLaws.{OrderIs, IsNumbered}
 
 -- lists, one behind another
 pub uses-append : (order : Order) (xs ys : List (Piece UnitState)) → uses_in order (xs ++ ys) ≡ uses_in order xs ++ uses_in order ys

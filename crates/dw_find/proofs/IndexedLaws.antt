@@ -26,7 +26,7 @@ use Rattle.dw_find.specs.IndexedTexts.{indexing_with, SlotsMarked, TextsIndexed,
 use Rattle.dw_find.specs.LineStarts.{StartsRefuse, reads_none, says_none}
 use Rattle.dw_find.specs.NamedSlots.{Slots, no_slots, name_slot, first_refusal, missing_at, missing_in, units_name, units_missing}
 use Rattle.dw_find.specs.TextPlaces.{TextPlace, BaseSource, Indexed, base_offset, base_source, number_said, unit_number, no_index, no_start, unit_start, unit_base, text_index, UnitSays, SectionSays, base_or, base_in, base_at, bases_among, index_at, indexes_in, use_at, uses_among, numbered_uses, numbered_bases}
-use Rattle.dw_find.specs.UnitPaths.{UnitPaths}
+use Rattle.dw_find.specs.SectionFields.{SectionFields}
 use Rattle.dw_find.specs.UnitTexts.{AllTaken, AllIndexed, UnitsRefuse, relocation_fails, units_taken}
 use Rattle.dw_find.proofs.SectionRunLaws.{PlacedPieces, section-placed, sourced}
 
@@ -52,7 +52,7 @@ record SaidReadings (d : DebugData) (first : ℕ) (zs : List UnitSection) (said 
   uses : index_uses d.base.order readings ≡ numbered_uses first said
   bases : (y : Located) → all_bases d.base.order y readings ≡ numbered_bases (sourced d.base y) first said
 
-said-readings : (d : DebugData) (first : ℕ) (zs : List UnitSection) (us : List UnitPaths) → (all : AllTaken d zs us)
+said-readings : (d : DebugData) (first : ℕ) (zs : List UnitSection) (us : List SectionFields) → (all : AllTaken d zs us)
     → SaidReadings d first zs (units_taken d zs us all)
 said-readings d first [] [] all = record { readings = []; reads = tt; uses = refl; bases = λ y. refl }
 said-readings d first [] (u ∷ us) all = absurd all
@@ -285,7 +285,7 @@ record Said (d : DebugData) (list : List Contribution) (said : List UnitSays) (r
   uses : (indexing_with d list r).uses ≡ numbered_uses 0 said
   bases : BasesAre (base_source d) (indexing_with d list r).bases 0 said
 
-said-by : (d : DebugData) (list : List Contribution) (us : List UnitPaths) (r : Readings) → (all : AllTaken d (d.found Info) us) → ReadsAll d.base 0 (d.found Info) r
+said-by : (d : DebugData) (list : List Contribution) (us : List SectionFields) (r : Readings) → (all : AllTaken d (d.found Info) us) → ReadsAll d.base 0 (d.found Info) r
     → Said d list (units_taken d (d.found Info) us all) r
 said-by d list us r all reads =
     let f : SaidReadings d 0 (d.found Info) (units_taken d (d.found Info) us all) = said-readings d 0 (d.found Info) us all in
@@ -299,7 +299,7 @@ start-marks : (n : ℕ) (kind : Bool) (place : ℕ) (g : Indexing) → marked ki
 start-marks n kind place g = (marks-none n g).each kind place
 
 -- all slots are marked, where none was missing
-marked-all : (d : DebugData) (list : List Contribution) (n : ℕ) (us : List UnitPaths) (now : Slots)
+marked-all : (d : DebugData) (list : List Contribution) (n : ℕ) (us : List SectionFields) (now : Slots)
     → AllIndexed d (d.found Info) us (no_slots list n) now → now.missing ≡ None → TextsIndexed d list now.marks
 marked-all d list n us now all none = record {
   each = λ (r : Readings) (reads : ReadsAll d.base 0 (d.found Info) r). one r reads (said-by d list us r all.taken reads);
@@ -322,7 +322,7 @@ marked-all d list n us now all none = record {
         }
 
 -- and where one was, that is the row
-missing-row : (d : DebugData) (list : List Contribution) (n : ℕ) (us : List UnitPaths) (now : Slots) (r : Refusal)
+missing-row : (d : DebugData) (list : List Contribution) (n : ℕ) (us : List SectionFields) (now : Slots) (r : Refusal)
     → AllIndexed d (d.found Info) us (no_slots list n) now → now.missing ≡ Some r → TextsRefuse d list r
 missing-row d list n us now r all some =
     let said : List UnitSays = units_taken d (d.found Info) us all.taken in
@@ -333,16 +333,16 @@ missing-row d list n us now r all some =
     subst (TextsRefuse d list) (sym m.is) (index f.readings f.reads (no_slot m.before m.behind m.one (s.uses ∙ m.split) m.none))
 
 -- the same of the debug data of a view
-pub whole-taken : (d : DebugData) (us : List UnitPaths) (old now : Slots) → AllIndexed d (d.found Info) us old now → AllTaken d (d.found Info) us
+pub whole-taken : (d : DebugData) (us : List SectionFields) (old now : Slots) → AllIndexed d (d.found Info) us old now → AllTaken d (d.found Info) us
 whole-taken d us old now all = all.taken
 
-pub whole-marked : (v : View) (us : List UnitPaths) (old now : Slots) → AllIndexed (debug_data v) ((debug_data v).found Info) us old now
+pub whole-marked : (v : View) (us : List SectionFields) (old now : Slots) → AllIndexed (debug_data v) ((debug_data v).found Info) us old now
     → old ≡ no_slots old.list (length old.marks) → now.missing ≡ None → TextsIndexed (debug_data v) old.list now.marks
 whole-marked v us old now all start none =
     marked-all (debug_data v) old.list (length old.marks) us now
     (subst (λ (s : Slots). AllIndexed (debug_data v) ((debug_data v).found Info) us s now) start all) none
 
-pub whole-row : (v : View) (us : List UnitPaths) (old now : Slots) (r : Refusal) → AllIndexed (debug_data v) ((debug_data v).found Info) us old now
+pub whole-row : (v : View) (us : List SectionFields) (old now : Slots) (r : Refusal) → AllIndexed (debug_data v) ((debug_data v).found Info) us old now
     → old ≡ no_slots old.list (length old.marks) → now.missing ≡ Some r → TextsRefuse (debug_data v) old.list r
 whole-row v us old now r all start some =
     missing-row (debug_data v) old.list (length old.marks) us now r

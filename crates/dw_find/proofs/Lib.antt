@@ -2,12 +2,9 @@ pub mod FieldOffsetLaws
 pub mod PlacedLaws
 pub mod PieceFieldLaws
 pub mod InlineTextLaws
-pub mod StartFormLaws
 pub mod ValuePlaceLaws
-pub mod ValueRunLaws
+pub mod PlacedRunLaws
 pub mod BaseLaws
-pub mod EntryRunLaws
-pub mod HeaderLaws
 pub mod IndexRunLaws
 pub mod SectionRunLaws
 pub mod FieldListLaws

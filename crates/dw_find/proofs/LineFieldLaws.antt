@@ -5,7 +5,7 @@ use Rattle.std.proofs.lemmas.List.{drop_all}
 use Rattle.dw_base.specs.DebugData.{line_source}
 use Rattle.dw_base.specs.DebugSections.{name_of, read_sections}
 use Rattle.dw_base.specs.FileViews.{View, section_named}
-use Rattle.dw_base.specs.Forms.{TextSection, in_str, in_line_str, width_size}
+use Rattle.dw_base.specs.Forms.{width_size}
 use Rattle.dw_base.specs.LineSources.{LineSource}
 use Rattle.dw_base.specs.LineTables.{LineTable, texts_of}
 use Rattle.dw_base.specs.ViewData.{debug_data}
@@ -17,21 +17,23 @@ use Rattle.dw_base.specs.declared.shared.Width.{Width}
 use Rattle.dw_lines.specs.ViewSources.{view_source}
 use Rattle.dw_lines.proofs.ReadingLaws.{source-is}
 use Rattle.dw_find.specs.ViewFields.{table_number}
-use Rattle.dw_find.specs.UnitPaths.{UnitPaths, with_fields, lists_by}
+use Rattle.dw_find.specs.SectionFields.{SectionFields, with_fields, lists_by}
 use Rattle.dw_find.specs.ViewLines.{is_text_of, lines_by, lines_of_view, lines_with, table_fields, text_field, text_fields, tables_into}
-use Rattle.dw_find.specs.declared.fields.PathField.{PathField}
 use Rattle.dw_find.specs.EntryTexts.{no_paths}
 use Rattle.dw_find.proofs.FieldListLaws.{lists-same, each-section, paths-same}
 use Rattle.dw_base.specs.declared.debug_sections.DebugSection.{DebugSection}
+use Rattle.dw_base.specs.declared.texts.TextField.{TextField}
+use Rattle.dw_base.specs.declared.texts.TextSection.{TextSection}
+use Rattle.dw_base.specs.declared.texts.TextSection.TheVariants.{InStr, InLineStr}
 
 -- one field
-pub field-some : (section str : ℕ) (table : TextSection) (w : Width) (x : TextPlace) (size : ℕ) (old new : List PathField) → true ≡ is_text_of section str table x → size ≡ width_size w
+pub field-some : (section str : ℕ) (table : TextSection) (w : Width) (x : TextPlace) (size : ℕ) (old new : List TextField) → true ≡ is_text_of section str table x → size ≡ width_size w
     → new ≡ old ++ record { at = x.field; size = size } ∷ [] → new ≡ old ++ text_field section str table w x
 field-some section str table w x size old new here is more =
     more ∙ ap (λ (n : ℕ). old ++ record { at = x.field; size = n } ∷ []) is
     ∙ ap (λ (b : Bool). old ++ (if b then record { at = x.field; size = width_size w } ∷ [] else [])) here
 
-pub field-none : (section str : ℕ) (table : TextSection) (w : Width) (x : TextPlace) (old new : List PathField) → false ≡ is_text_of section str table x → new ≡ old
+pub field-none : (section str : ℕ) (table : TextSection) (w : Width) (x : TextPlace) (old new : List TextField) → false ≡ is_text_of section str table x → new ≡ old
     → new ≡ old ++ text_field section str table w x
 field-none section str table w x old new here same =
     same ∙ sym (append-nil old) ∙ ap (λ (b : Bool). old ++ (if b then record { at = x.field; size = width_size w } ∷ [] else [])) here
@@ -39,36 +41,36 @@ field-none section str table w x old new here same =
 pub ruleset field_rules = (field-some, field-none)
 
 -- one text after another: what the fields so far and those of the rest are
-pub dirs-more : (section str : ℕ) (table : TextSection) (w : Width) (xs : List TextPlace) (i : ℕ) (x : TextPlace) (first old new : List PathField) → i < length xs → x ≡ get_or xs i x
+pub dirs-more : (section str : ℕ) (table : TextSection) (w : Width) (xs : List TextPlace) (i : ℕ) (x : TextPlace) (first old new : List TextField) → i < length xs → x ≡ get_or xs i x
     → old ++ text_fields section str table w (drop i xs) ≡ first ++ text_fields section str table w xs → new ≡ old ++ text_field section str table w x
     → new ++ text_fields section str table w (drop (i + 1) xs) ≡ first ++ text_fields section str table w xs
 dirs-more section str table w xs i x first old new lt is before more =
     let next : suc i ≡ i + 1 = omega arith in
-    ap (λ (fs : List PathField). fs ++ text_fields section str table w (drop (i + 1) xs)) more
+    ap (λ (fs : List TextField). fs ++ text_fields section str table w (drop (i + 1) xs)) more
     ∙ append_assoc old (text_field section str table w x) (text_fields section str table w (drop (i + 1) xs))
     ∙ ap (λ (n : ℕ). old ++ (text_field section str table w x ++ text_fields section str table w (drop n xs))) (sym next)
     ∙ ap (λ (y : TextPlace). old ++ (text_field section str table w y ++ text_fields section str table w (drop (suc i) xs))) is
     ∙ ap (λ (ys : List TextPlace). old ++ text_fields section str table w ys) (sym (drop-cons xs i x lt)) ∙ before
 
-pub dirs-all : (section str : ℕ) (table : TextSection) (w : Width) (xs : List TextPlace) (i : ℕ) (first new : List PathField) → length xs ≤ i
+pub dirs-all : (section str : ℕ) (table : TextSection) (w : Width) (xs : List TextPlace) (i : ℕ) (first new : List TextField) → length xs ≤ i
     → new ++ text_fields section str table w (drop i xs) ≡ first ++ text_fields section str table w xs → new ≡ first ++ text_fields section str table w xs
 dirs-all section str table w xs i first new end is =
     sym (append-nil new) ∙ ap (λ (ys : List TextPlace). new ++ text_fields section str table w ys) (sym (drop_all i xs end)) ∙ is
 
 pub ruleset dirs_rules = (dirs-all)
 
-pub files-more : (section str : ℕ) (table : TextSection) (w : Width) (xs : List FilePlace) (i : ℕ) (x : FilePlace) (first old new : List PathField) → i < length xs → x ≡ get_or xs i x
+pub files-more : (section str : ℕ) (table : TextSection) (w : Width) (xs : List FilePlace) (i : ℕ) (x : FilePlace) (first old new : List TextField) → i < length xs → x ≡ get_or xs i x
     → old ++ text_fields section str table w (texts_of (drop i xs)) ≡ first ++ text_fields section str table w (texts_of xs) → new ≡ old ++ text_field section str table w x.text
     → new ++ text_fields section str table w (texts_of (drop (i + 1) xs)) ≡ first ++ text_fields section str table w (texts_of xs)
 files-more section str table w xs i x first old new lt is before more =
     let next : suc i ≡ i + 1 = omega arith in
-    ap (λ (fs : List PathField). fs ++ text_fields section str table w (texts_of (drop (i + 1) xs))) more
+    ap (λ (fs : List TextField). fs ++ text_fields section str table w (texts_of (drop (i + 1) xs))) more
     ∙ append_assoc old (text_field section str table w x.text) (text_fields section str table w (texts_of (drop (i + 1) xs)))
     ∙ ap (λ (n : ℕ). old ++ (text_field section str table w x.text ++ text_fields section str table w (texts_of (drop n xs)))) (sym next)
     ∙ ap (λ (y : FilePlace). old ++ (text_field section str table w y.text ++ text_fields section str table w (texts_of (drop (suc i) xs)))) is
     ∙ ap (λ (ys : List FilePlace). old ++ text_fields section str table w (texts_of ys)) (sym (drop-cons xs i x lt)) ∙ before
 
-pub files-all : (section str : ℕ) (table : TextSection) (w : Width) (xs : List FilePlace) (i : ℕ) (first new : List PathField) → length xs ≤ i
+pub files-all : (section str : ℕ) (table : TextSection) (w : Width) (xs : List FilePlace) (i : ℕ) (first new : List TextField) → length xs ≤ i
     → new ++ text_fields section str table w (texts_of (drop i xs)) ≡ first ++ text_fields section str table w (texts_of xs)
     → new ≡ first ++ text_fields section str table w (texts_of xs)
 files-all section str table w xs i first new end is =
@@ -81,16 +83,16 @@ pub fields-append : (section str : ℕ) (table : TextSection) (w : Width) (xs ys
     → text_fields section str table w (xs ++ ys) ≡ text_fields section str table w xs ++ text_fields section str table w ys
 fields-append section str table w [] ys = refl
 fields-append section str table w (x ∷ xs) ys =
-    ap (λ (fs : List PathField). text_field section str table w x ++ fs) (fields-append section str table w xs ys)
+    ap (λ (fs : List TextField). text_field section str table w x ++ fs) (fields-append section str table w xs ys)
     ∙ sym (append_assoc (text_field section str table w x) (text_fields section str table w xs) (text_fields section str table w ys))
 
-pub both-lists : (section str : ℕ) (table : TextSection) (t : LineTable) (w : Width) (dirs : List TextPlace) (files : List FilePlace) (first old new : List PathField) → w ≡ t.width
+pub both-lists : (section str : ℕ) (table : TextSection) (t : LineTable) (w : Width) (dirs : List TextPlace) (files : List FilePlace) (first old new : List TextField) → w ≡ t.width
     → dirs ≡ t.dirs → files ≡ t.files → old ≡ first ++ text_fields section str table w dirs → new ≡ old ++ text_fields section str table w (texts_of files)
     → new ≡ first ++ text_fields section str table t.width (paths_of t)
 both-lists section str table t w dirs files first old new width d f before more =
-    more ∙ ap (λ (fs : List PathField). fs ++ text_fields section str table w (texts_of files)) before
+    more ∙ ap (λ (fs : List TextField). fs ++ text_fields section str table w (texts_of files)) before
     ∙ append_assoc first (text_fields section str table w dirs) (text_fields section str table w (texts_of files))
-    ∙ ap (λ (fs : List PathField). first ++ fs) (sym (fields-append section str table w dirs (texts_of files)))
+    ∙ ap (λ (fs : List TextField). first ++ fs) (sym (fields-append section str table w dirs (texts_of files)))
     ∙ ap (λ (v : Width). first ++ text_fields section str table v (dirs ++ texts_of files)) width
     ∙ ap (λ (xs : List TextPlace). first ++ text_fields section str table t.width (xs ++ texts_of files)) d
     ∙ ap (λ (xs : List FilePlace). first ++ text_fields section str table t.width (t.dirs ++ texts_of xs)) f
@@ -98,18 +100,18 @@ both-lists section str table t w dirs files first old new width d f before more 
 pub ruleset table_rules = (both-lists)
 
 -- one table after another
-pub tables-more : (section str : ℕ) (table : TextSection) (ts : List LineTable) (i : ℕ) (t : LineTable) (old new : List PathField) → i < length ts → t ≡ get_or ts i t
+pub tables-more : (section str : ℕ) (table : TextSection) (ts : List LineTable) (i : ℕ) (t : LineTable) (old new : List TextField) → i < length ts → t ≡ get_or ts i t
     → old ++ table_fields section str table (drop i ts) ≡ table_fields section str table ts → new ≡ old ++ text_fields section str table t.width (paths_of t)
     → new ++ table_fields section str table (drop (i + 1) ts) ≡ table_fields section str table ts
 tables-more section str table ts i t old new lt is before more =
     let next : suc i ≡ i + 1 = omega arith in
-    ap (λ (fs : List PathField). fs ++ table_fields section str table (drop (i + 1) ts)) more
+    ap (λ (fs : List TextField). fs ++ table_fields section str table (drop (i + 1) ts)) more
     ∙ append_assoc old (text_fields section str table t.width (paths_of t)) (table_fields section str table (drop (i + 1) ts))
     ∙ ap (λ (n : ℕ). old ++ (text_fields section str table t.width (paths_of t) ++ table_fields section str table (drop n ts))) (sym next)
     ∙ ap (λ (y : LineTable). old ++ (text_fields section str table y.width (paths_of y) ++ table_fields section str table (drop (suc i) ts))) is
     ∙ ap (λ (ys : List LineTable). old ++ table_fields section str table ys) (sym (drop-cons ts i t lt)) ∙ before
 
-pub tables-all : (section str : ℕ) (table : TextSection) (ts : List LineTable) (i : ℕ) (new : List PathField) → length ts ≤ i
+pub tables-all : (section str : ℕ) (table : TextSection) (ts : List LineTable) (i : ℕ) (new : List TextField) → length ts ≤ i
     → new ++ table_fields section str table (drop i ts) ≡ table_fields section str table ts → new ≡ table_fields section str table ts
 tables-all section str table ts i new end is =
     sym (append-nil new) ∙ ap (λ (ys : List LineTable). new ++ table_fields section str table ys) (sym (drop_all i ts end)) ∙ is
@@ -117,21 +119,21 @@ tables-all section str table ts i new end is =
 pub ruleset tables_rules = (tables-all)
 
 -- what they say
-first-number : (v : View) → table_number (debug_data v) in_str ≡ (view_source v 0).str.number
+first-number : (v : View) → table_number (debug_data v) InStr ≡ (view_source v 0).str.number
 unfolding debug_data
 first-number v = refl
 
-pub with-fields : (v : View) (section first : ℕ) (ts : List LineTable) (a b : List PathField) (none str both : UnitPaths) → first ≡ table_number (debug_data v) in_str
-    → a ≡ table_fields section first in_str ts → b ≡ table_fields section first in_line_str ts → none ≡ no_paths section → str ≡ with_fields none Str a
+pub with-fields : (v : View) (section first : ℕ) (ts : List LineTable) (a b : List TextField) (none str both : SectionFields) → first ≡ table_number (debug_data v) InStr
+    → a ≡ table_fields section first InStr ts → b ≡ table_fields section first InLineStr ts → none ≡ no_paths section → str ≡ with_fields none Str a
     → both ≡ with_fields str LineStr b → both ≡ lines_with (view_source v section) ts
 with-fields v section first ts a b none str both number x y n s l =
     let same : first ≡ (view_source v section).str.number = number ∙ first-number v in
-    l ∙ ap (λ (u : UnitPaths). with_fields u LineStr b) (s ∙ ap (λ (u : UnitPaths). with_fields u Str a) n)
+    l ∙ ap (λ (u : SectionFields). with_fields u LineStr b) (s ∙ ap (λ (u : SectionFields). with_fields u Str a) n)
     ∙ paths-same section (lists_by (own a b)) (lists_by (tables_into section (view_source v section).str.number ts)) [] [] None None
     (lists-same (own a b) (tables_into section (view_source v section).str.number ts) read_sections (each-section (own a b) (tables_into section (view_source v section).str.number ts) refl refl refl
-    (x ∙ ap (λ (k : ℕ). table_fields section k in_str ts) same) (y ∙ ap (λ (k : ℕ). table_fields section k in_line_str ts) same) refl refl refl refl)) refl refl
+    (x ∙ ap (λ (k : ℕ). table_fields section k InStr ts) same) (y ∙ ap (λ (k : ℕ). table_fields section k InLineStr ts) same) refl refl refl refl)) refl refl
   where
-    own : List PathField → List PathField → DebugSection → List PathField
+    own : List TextField → List TextField → DebugSection → List TextField
     own fs gs Str = fs
     own fs gs LineStr = gs
     own fs gs s = []
@@ -139,13 +141,13 @@ with-fields v section first ts a b none str both number x y n s l =
 pub ruleset with_rules = (with-fields)
 
 -- and this stands behind what was found
-pub lines-pushed : (v : View) (section : ℕ) (ts : List LineTable) (old new : List UnitPaths) (u : UnitPaths) → Some section ≡ section_named v (name_of Line)
+pub lines-pushed : (v : View) (section : ℕ) (ts : List LineTable) (old new : List SectionFields) (u : SectionFields) → Some section ≡ section_named v (name_of Line)
     → u ≡ lines_with (view_source v section) ts → new ≡ old ++ u ∷ [] → new ≡ old ++ lines_of_view v ts
 lines-pushed v section ts old new u found is more =
-    more ∙ ap (λ (x : UnitPaths). old ++ x ∷ []) is ∙ ap (λ (g : LineSource). old ++ lines_with g ts ∷ []) (sym (source-is v section found))
+    more ∙ ap (λ (x : SectionFields). old ++ x ∷ []) is ∙ ap (λ (g : LineSource). old ++ lines_with g ts ∷ []) (sym (source-is v section found))
     ∙ ap (λ (o : Option ℕ). old ++ lines_by o (line_source (debug_data v)) ts) found
 
-pub lines-absent : (v : View) (ts : List LineTable) (old new : List UnitPaths) → None ≡ section_named v (name_of Line) → new ≡ old → new ≡ old ++ lines_of_view v ts
+pub lines-absent : (v : View) (ts : List LineTable) (old new : List SectionFields) → None ≡ section_named v (name_of Line) → new ≡ old → new ≡ old ++ lines_of_view v ts
 lines-absent v ts old new none same = same ∙ sym (append-nil old) ∙ ap (λ (o : Option ℕ). old ++ lines_by o (line_source (debug_data v)) ts) none
 
 pub ruleset push_rules = (lines-pushed, lines-absent)

@@ -3,7 +3,7 @@
 use Rattle.std.proofs.Common.{Bool, true, false, ◌≡◌, ℕ, ◌+◌, ◌≤◌, ◌==◌, List, [], ◌∷◌, ◌++◌, length, Option, Some, None, refl, ap, subst, arith}
 use Rattle.std.specs.Prelude.{⊤, Ok}
 use Rattle.std.proofs.lemmas.List.{length-take}
-use Rattle.dw_base.specs.Forms.{TextSection, width_size}
+use Rattle.dw_base.specs.Forms.{width_size}
 use Rattle.dw_base.specs.LineEntries.{first_of, with_column, columns}
 use Rattle.dw_base.specs.LineReadings.{LineReading, ReadsTable}
 use Rattle.dw_base.specs.LineSources.{LineSource}
@@ -17,6 +17,7 @@ use Rattle.dw_base.specs.declared.line_tables.FilePlace.{FilePlace}
 use Rattle.dw_base.specs.declared.line_tables.LineHeader.{LineHeader}
 use Rattle.dw_base.specs.declared.line_tables.TextPlace.{TextPlace}
 use Rattle.dw_base.specs.declared.shared.Width.{Width}
+use Rattle.dw_base.specs.declared.texts.TextSection.{TextSection}
 use Rattle.dw_base.specs.declared.values.Spec.{Spec}
 use Rattle.dw_meaning.proofs.LineColumnLaws.{texts_in, ColumnIs, inline_is, offset_is, value_is, column-is}
 use Rattle.dw_meaning.proofs.LineEntryLaws.{text_with, column-step, entry-same}

@@ -3,7 +3,7 @@ use Rattle.std.proofs.Common.{Bool, true, false, ◌≡◌, ◌≢◌, ◌⊎◌
 use Rattle.std.specs.Prelude.{Result, Ok, Err}
 use Rattle.std.proofs.lemmas.Bool.{eq-eqb, ne_eqb, true≢false}
 use Rattle.dw_base.specs.Cells.{Located, bytes_of, cells_at, field_by, field_of, offset_into, offset_of}
-use Rattle.dw_base.specs.Forms.{TextSection, in_str, in_line_str, width_size}
+use Rattle.dw_base.specs.Forms.{width_size}
 use Rattle.dw_base.specs.LineReadings.{LineReading, TablesTo, table_read}
 use Rattle.dw_base.specs.LineSources.{LineSource, line_field}
 use Rattle.dw_base.specs.LineTexts.{named_text, text_by, text_of}
@@ -23,6 +23,8 @@ use Rattle.dw_lines.specs.ViewTables.{tables_read}
 use Rattle.dw_base.proofs.LineFieldLaws.{named_text-by, named_text-refused}
 use Rattle.dw_base.proofs.RelocationFieldLaws.{field_of-cells_at}
 use Rattle.dw_base.proofs.UnitEditLaws.{length-bytes_of}
+use Rattle.dw_base.specs.declared.texts.TextSection.{TextSection}
+use Rattle.dw_base.specs.declared.texts.TextSection.TheVariants.{InStr, InLineStr}
 use Rattle.dw_meaning.proofs.FieldPutLaws.{width-some}
 use Rattle.dw_meaning.proofs.LineColumnLaws.{texts_in}
 use Rattle.dw_find.specs.Fields.{AreOffsetFields, IsOffsetField}
@@ -105,8 +107,8 @@ path-field g table w x apart own (stands_there y is) =
     here = eq-eqb x.section g.number is
 
     by_table : (t : TextSection) → is_text_of g.number g.str.number t x ≡ true → ⊥
-    by_table in_str e = true≢false (sym e ∙ ap (λ (a : Bool). not a && x.section == g.str.number) here)
-    by_table in_line_str e = true≢false (sym e ∙ ap (λ (a : Bool). not a && not (x.section == g.str.number)) here)
+    by_table InStr e = true≢false (sym e ∙ ap (λ (a : Bool). not a && x.section == g.str.number) here)
+    by_table InLineStr e = true≢false (sym e ∙ ap (λ (a : Bool). not a && not (x.section == g.str.number)) here)
 path-field g table w x apart own (named_there z n field room reads ends) =
     each-if (IsOffsetField g.order (texts_in g table) g.cells) (record { at = x.field; size = width_size w }) (is_text_of g.number g.str.number table x)
     (λ e. record { sized = sized w; inside = inside; ends = by_table table z (named-offset g (texts_in g z) field (width_size w) n own (width-some w) room reads) ends e })
@@ -119,12 +121,12 @@ path-field g table w x apart own (named_there z n field room reads ends) =
     by_table : (t u : TextSection) → offset_of g.order (texts_in g u) (cells_at g.cells field (width_size w)) ≡ n → ends_in (texts_in g u).bytes n ≡ true
         → is_text_of g.number g.str.number t (record { section = (texts_in g u).number; at = n; len = length (text_in (texts_in g u).bytes n); field = field }) ≡ true
         → ends_in (texts_in g t).bytes (offset_of g.order (texts_in g t) (cells_at g.cells field (width_size w))) ≡ true
-    by_table in_str in_str number ends e = ap (ends_in g.str.bytes) number ∙ ends
-    by_table in_line_str in_line_str number ends e = ap (ends_in g.line_str.bytes) number ∙ ends
-    by_table in_str in_line_str number ends e =
+    by_table InStr InStr number ends e = ap (ends_in g.str.bytes) number ∙ ends
+    by_table InLineStr InLineStr number ends e = ap (ends_in g.line_str.bytes) number ∙ ends
+    by_table InStr InLineStr number ends e =
         let other : (g.line_str.number == g.str.number) ≡ false = ne_eqb g.line_str.number g.str.number (apart n ends) in
         absurd (no-both (g.line_str.number == g.number) (ap (λ (b : Bool). not (g.line_str.number == g.number) && b) (sym other) ∙ e))
-    by_table in_line_str in_str number ends e =
+    by_table InLineStr InStr number ends e =
         let same : (g.str.number == g.str.number) ≡ true = eq-eqb g.str.number g.str.number refl in
         absurd (no-both (g.str.number == g.number) (ap (λ (b : Bool). not (g.str.number == g.number) && not b) (sym same) ∙ e))
 

@@ -17,22 +17,22 @@ use Rattle.dw_base.specs.Texts.{ends_in}
 use Rattle.dw_base.specs.declared.debug_sections.DebugSection.TheVariants.{Str, Line, Macro}
 use Rattle.dw_base.specs.declared.macro_units.MacroUnit.{MacroUnit}
 use Rattle.dw_base.specs.declared.shared.Order.{Order}
+use Rattle.dw_base.specs.declared.texts.TextField.{TextField}
 use Rattle.dw_meaning.proofs.MacroPieceLaws.{Asked, CellsOf, EachUnit, FieldPlace, HoldsElse, PiecesRead, all_unit_starts, has_offset, line_field_by, line_fields as fields_begun, unit_line, unit_lines, unit_starts, units-read}
 use Rattle.dw_find.specs.MacroSections.{SectionUnits, line_field, line_fields, macro_starts, macros_of, macros_read, macros_with}
-use Rattle.dw_find.specs.UnitPaths.{UnitPaths, start_by}
+use Rattle.dw_find.specs.SectionFields.{SectionFields, start_by}
 use Rattle.dw_find.specs.UnitPlaces.{PlacesStart, UnitPlaces, names_place}
-use Rattle.dw_find.specs.declared.fields.PathField.{PathField}
 use Rattle.dw_find.proofs.FoundLaws.{names-if}
 use Rattle.dw_find.proofs.MacroPlaceLaws.{units_of}
 
 -- places of fields as fields
-abbrev as_fields : List FieldPlace → List PathField
+abbrev as_fields : List FieldPlace → List TextField
 as_fields [] = []
 as_fields (f ∷ fs) = record { at = f.place; size = f.size } ∷ as_fields fs
 
 as-append : (fs gs : List FieldPlace) → as_fields (fs ++ gs) ≡ as_fields fs ++ as_fields gs
 as-append [] gs = refl
-as-append (f ∷ fs) gs = ap (λ (xs : List PathField). record { at = f.place; size = f.size } ∷ xs) (as-append fs gs)
+as-append (f ∷ fs) gs = ap (λ (xs : List TextField). record { at = f.place; size = f.size } ∷ xs) (as-append fs gs)
 
 -- the fields of units are those
 line-is : (line : Option ℕ) (u : MacroUnit) → u.line ≡ line → line_field u.line u.line_field u.width ≡ as_fields (unit_line u)
@@ -42,7 +42,7 @@ line-is (Some n) u e = rw e refl
 lines-are : (us : List MacroUnit) → line_fields us ≡ as_fields (unit_lines us)
 lines-are [] = refl
 lines-are (u ∷ us) =
-    ap (λ (fs : List PathField). fs ++ line_fields us) (line-is u.line u refl) ∙ ap (λ (fs : List PathField). as_fields (unit_line u) ++ fs) (lines-are us)
+    ap (λ (fs : List TextField). fs ++ line_fields us) (line-is u.line u refl) ∙ ap (λ (fs : List TextField). as_fields (unit_line u) ++ fs) (lines-are us)
     ∙ sym (as-append (unit_line u) (unit_lines us))
 
 -- those of pieces too, of which each has its size
@@ -57,8 +57,8 @@ mode-field no_macros order p place f = refl
 pieces-fields : (order : Order) (s : MacroState) (xs : List (Piece MacroState)) → Chain (macro_grammar order) s xs → macro_starts xs ≡ as_fields (fields_begun xs)
 pieces-fields order s [] c = refl
 pieces-fields order s (x ∷ xs) c =
-    ap (λ (fs : List PathField). fs ++ macro_starts xs) (mode-field x.state.mode order x.cells x.state.place c.1)
-    ∙ ap (λ (fs : List PathField). as_fields (line_field_by x.state.mode x.state.place) ++ fs) (pieces-fields order ((macro_grammar order).next x.state x.cells) xs c.2)
+    ap (λ (fs : List TextField). fs ++ macro_starts xs) (mode-field x.state.mode order x.cells x.state.place c.1)
+    ∙ ap (λ (fs : List TextField). as_fields (line_field_by x.state.mode x.state.place) ++ fs) (pieces-fields order ((macro_grammar order).next x.state x.cells) xs c.2)
     ∙ sym (as-append (line_field_by x.state.mode x.state.place) (fields_begun xs))
 
 -- what a piece is to name, by starts and places
@@ -132,7 +132,7 @@ sections-read v P (z ∷ zs) (s ∷ ss) q all =
       reads = (refl, here.reads, rest.reads);
       each = (here.each, rest.each);
       starts = ap (λ (l : List MacroStart). l ++ units_begun rest.readings) here.starts ∙ ap (λ (l : List MacroStart). unit_starts z.number s.units ++ l) rest.starts;
-      says = ap (λ (fs : List PathField). macros_with z.number fs ∷ macros_read rest.readings) fields
+      says = ap (λ (fs : List TextField). macros_with z.number fs ∷ macros_read rest.readings) fields
           ∙ ap (λ (n : ℕ). macros_with n (line_fields s.units) ∷ macros_read rest.readings) (sym all.1)
-          ∙ ap (λ (us : List UnitPaths). macros_with s.number (line_fields s.units) ∷ us) rest.says;
+          ∙ ap (λ (us : List SectionFields). macros_with s.number (line_fields s.units) ∷ us) rest.says;
     }

@@ -18,12 +18,12 @@ use Rattle.dw_base.specs.declared.shared.Width.TheVariants.{W32, W64}
 use Rattle.dw_base.proofs.UnitEditLaws.{length-bytes_of}
 use Rattle.dw_base.proofs.UnitHeaderLaws.{bytes_of-append}
 use Rattle.dw_base.specs.declared.debug_sections.DebugSection.TheVariants.{Macro}
+use Rattle.dw_base.specs.declared.texts.TextField.{TextField}
 use Rattle.dw_meaning.proofs.MacroPieceLaws.{CellsOf}
 use Rattle.dw_find.specs.Fields.{AllApart, IsStartField}
 use Rattle.dw_find.specs.MacroSections.{macro_starts, macros_read, macros_with}
-use Rattle.dw_find.specs.UnitPaths.{start_by}
+use Rattle.dw_find.specs.SectionFields.{start_by}
 use Rattle.dw_find.specs.ViewFields.{AllHavePlaces, HasPlaces}
-use Rattle.dw_find.specs.declared.fields.PathField.{PathField}
 use Rattle.dw_find.proofs.ApartLaws.{apart-here}
 use Rattle.dw_find.proofs.MacroPlaceLaws.{AllAbove, NumbersRise}
 use Rattle.dw_find.proofs.PieceFieldLaws.{FieldsFrom, from-less}
@@ -113,7 +113,7 @@ one-field (at_offset width (of_text defines line)) order info p rest place f e =
 one-field (at_offset width of_unit) order info p rest place f e = tt
 one-field no_macros order info p rest place f e = tt
 
-start-append : (info : List ℕ) (fs gs : List PathField) → EachOf (IsStartField info) fs → EachOf (IsStartField info) gs → EachOf (IsStartField info) (fs ++ gs)
+start-append : (info : List ℕ) (fs gs : List TextField) → EachOf (IsStartField info) fs → EachOf (IsStartField info) gs → EachOf (IsStartField info) (fs ++ gs)
 start-append info [] gs a b = b
 start-append info (f ∷ fs) gs a b = (a.0, start-append info fs gs a.1 b)
 
@@ -126,7 +126,7 @@ all-fields order info s place (x ∷ xs) c l =
     (all-fields order info ((macro_grammar order).next x.state x.cells) (place + length x.cells) xs c.2 l.2)
 
 -- and stand apart
-from-one : (m : MacroMode) (place size : ℕ) (fs : List PathField) → FieldsFrom (place + size) fs → FieldsFrom place (start_by (macro_role_by m) place size ++ fs)
+from-one : (m : MacroMode) (place size : ℕ) (fs : List TextField) → FieldsFrom (place + size) fs → FieldsFrom place (start_by (macro_role_by m) place size ++ fs)
 from-one at_unit place size fs h = from-less place (place + size) fs (omega arith) h
 from-one (at_line width) place size fs h = (omega arith, from-less place (place + size) fs (omega arith) h)
 from-one (at_operation width) place size fs h = from-less place (place + size) fs (omega arith) h
@@ -140,7 +140,7 @@ from-all info place (x ∷ xs) l =
     subst (λ (i : ℕ). FieldsFrom place (start_by (macro_role x.state) i (length x.cells) ++ macro_starts xs)) (sym l.0)
     (from-one x.state.mode place (length x.cells) (macro_starts xs) (from-all info (place + length x.cells) xs l.2))
 
-apart-one : (m : MacroMode) (place size : ℕ) (fs : List PathField) → FieldsFrom (place + size) fs → AllApart fs → AllApart (start_by (macro_role_by m) place size ++ fs)
+apart-one : (m : MacroMode) (place size : ℕ) (fs : List TextField) → FieldsFrom (place + size) fs → AllApart fs → AllApart (start_by (macro_role_by m) place size ++ fs)
 apart-one at_unit place size fs h a = a
 apart-one (at_line width) place size fs h a = (apart-here place size fs h, a)
 apart-one (at_operation width) place size fs h a = a

@@ -16,7 +16,7 @@ use Rattle.dw_meaning.proofs.MacroReadLaws.{all-macros-one}
 use Rattle.dw_find.specs.IndexedTexts.{UnitsStart}
 use Rattle.dw_find.specs.MacroSections.{macros_read}
 use Rattle.dw_find.specs.ViewFields.{AllHavePlaces, AllRoomsFit}
-use Rattle.dw_find.specs.UnitPaths.{UnitPaths}
+use Rattle.dw_find.specs.SectionFields.{SectionFields}
 use Rattle.dw_find.specs.UnitPlaces.{PlacesStart, UnitPlaces}
 use Rattle.dw_find.proofs.MacroFoundLaws.{PieceNames, import-of, text-of}
 use Rattle.dw_find.proofs.MacroHaveLaws.{macros-have}
@@ -62,11 +62,11 @@ unfolding debug_data
 macros-order v rs r = r
 
 -- sections with those of macro units behind them have places
-have-both : (v : View) (xs ys : List UnitPaths) → AllHavePlaces v xs → AllHavePlaces v ys → AllHavePlaces v (xs ++ ys)
+have-both : (v : View) (xs ys : List SectionFields) → AllHavePlaces v xs → AllHavePlaces v ys → AllHavePlaces v (xs ++ ys)
 have-both v [] ys h k = k
 have-both v (x ∷ xs) ys h k = (h.0, have-both v xs ys h.1 k)
 
-pub have-macros : (v : View) (us : List UnitPaths) (rs : List MacroReading) → AllHavePlaces v us → ReadsAllMacros v.order ((debug_data v).found Macro) rs → AllHavePlaces v (us ++ macros_read rs)
+pub have-macros : (v : View) (us : List SectionFields) (rs : List MacroReading) → AllHavePlaces v us → ReadsAllMacros v.order ((debug_data v).found Macro) rs → AllHavePlaces v (us ++ macros_read rs)
 have-macros v us rs have reads = have-both v us (macros_read rs) have (macros-have v rs (all-cells v) reads)
 
 -- which fit their rooms
@@ -74,9 +74,9 @@ macro-rooms : (m : PathMap) (v : View) (rs : List MacroReading) → AllRoomsFit 
 macro-rooms m v [] = tt
 macro-rooms m v (r ∷ rs) = (tt, macro-rooms m v rs)
 
-rooms-both : (m : PathMap) (v : View) (xs ys : List UnitPaths) → AllRoomsFit m v xs → AllRoomsFit m v ys → AllRoomsFit m v (xs ++ ys)
+rooms-both : (m : PathMap) (v : View) (xs ys : List SectionFields) → AllRoomsFit m v xs → AllRoomsFit m v ys → AllRoomsFit m v (xs ++ ys)
 rooms-both m v [] ys h k = k
 rooms-both m v (x ∷ xs) ys h k = (h.0, rooms-both m v xs ys h.1 k)
 
-pub rooms-macros : (m : PathMap) (v : View) (us : List UnitPaths) (rs : List MacroReading) → AllRoomsFit m v us → AllRoomsFit m v (us ++ macros_read rs)
+pub rooms-macros : (m : PathMap) (v : View) (us : List SectionFields) (rs : List MacroReading) → AllRoomsFit m v us → AllRoomsFit m v (us ++ macros_read rs)
 rooms-macros m v us rs fits = rooms-both m v us (macros_read rs) fits (macro-rooms m v rs)

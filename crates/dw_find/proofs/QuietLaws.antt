@@ -8,7 +8,7 @@ use Rattle.dw_abbrev.specs.Coded.{index_of_code}
 use Rattle.dw_abbrev.proofs.CodedLaws.{get-here, index-within}
 use Rattle.dw_base.specs.AbbreviationTables.{Abbreviation}
 use Rattle.dw_base.specs.Forms.{ValueKind, number_of, leb_number, signed_leb, block_of, counted, counted_leb, inline_text, text_offset, present, in_abbreviation, form_in_front, supplementary, unlisted, FormRow, form_rows, kind_by, kind_in}
-use Rattle.dw_base.specs.Roles.{is_path, is_unit_tag}
+use Rattle.dw_base.specs.Roles.{is_path, is_unit_tag, is_macros, is_start_name}
 use Rattle.dw_base.specs.TextIndexes.{is_base}
 use Rattle.dw_base.specs.Values.{value_at}
 use Rattle.dw_base.specs.EntryScans.{ValuesFail, value as value_fails}
@@ -21,9 +21,11 @@ use Rattle.dw_base.specs.declared.values.ValueClass.{ValueClass}
 use Rattle.dw_base.specs.declared.values.ValueClass.TheVariants.{Address, Number, Signed, Bytes, Flag, InlineText, StrOffset, LineStrOffset, StrIndex, AddrIndex, ListIndex, LocalRef, GlobalRef, Signature, SecOffset}
 use Rattle.dw_base.proofs.ClassLaws.{class_of_kind, value-class}
 use Rattle.dw_base.proofs.FormLaws.{value_by-own}
+use Rattle.dw_base.specs.TableStarts.{own_form, is_start_form}
 use Rattle.dw_find.specs.EntryTexts.{Tables, AreTaken, OffsetNames, TakenBehind, ValuesRefuse, fails, value}
 use Rattle.dw_find.specs.QuietValues.{AllQuiet, AreCounts, AreLooked, IsCount, SaysNothing, none_left, quiet_left, is_quiet, is_text_form}
-use Rattle.dw_find.specs.TextPlaces.{TextPlace, class_places, is_macros, is_start, line_places, own_form, said_places, value_places, value_places_behind, values_places, is_start_form}
+use Rattle.dw_find.specs.TextPlaces.{TextPlace, class_places, line_places, said_places, value_places, values_places, of_value}
+use Rattle.dw_meaning.specs.PieceRuns.{value_out}
 
 -- the class of a text, or of what names one
 abbrev pub is_text_class : ValueClass → Bool
@@ -144,7 +146,7 @@ class-names t SecOffset v e = tt
 pub record Quiet (x : Spec) : Type 0 where
   pub form : is_text_form x.form ≡ false
   pub line : (x.name == DW_AT_stmt_list) ≡ false
-  pub start : is_start x.name ≡ false
+  pub start : is_start_name x.name ≡ false
 
 pub or-parts : (a b : Bool) → (a || b) ≡ false → (a ≡ false) × (b ≡ false)
 or-parts true b e = absurd cc
@@ -152,9 +154,9 @@ or-parts false b e = (refl, e)
 
 quiet-parts : (x : Spec) → is_quiet x ≡ true → Quiet x
 quiet-parts x e =
-    let both = and_parts (not (is_text_form x.form)) (not (is_start x.name)) e in
-    let places = or-parts (x.name == DW_AT_stmt_list) (is_macros x.name) (not-true (is_start x.name) both.1) in
-    record { form = not-true (is_text_form x.form) both.0; line = places.0; start = not-true (is_start x.name) both.1 }
+    let both = and_parts (not (is_text_form x.form)) (not (is_start_name x.name)) e in
+    let places = or-parts (x.name == DW_AT_stmt_list) (is_macros x.name) (not-true (is_start_name x.name) both.1) in
+    record { form = not-true (is_text_form x.form) both.0; line = places.0; start = not-true (is_start_name x.name) both.1 }
 
 -- entry `number` isn't the first
 number-other : (number : ℕ) → number ≢ 0 → (number == 0) ≡ false
@@ -175,7 +177,7 @@ pub places-none : (number tag : ℕ) (x : Spec) (bytes : List ℕ) (place : ℕ)
     → value_places number tag x bytes place v ≡ []
 places-none number tag x bytes place v other q class =
     ap (λ (b : Bool). line_places b (own_form x bytes place) v ++ (class_places v.class (is_path number tag x.name) (is_base number x.name) (is_start_form (own_form x bytes place)) place v
-    ++ said_places (is_start x.name) (is_macros x.name) (own_form x bytes place) place v)) q.line
+    ++ said_places (is_start_name x.name) (is_macros x.name) (own_form x bytes place) place v)) q.line
     ∙ ap (λ (b : Bool). class_places v.class (is_path number tag x.name) (is_base number x.name) (is_start_form (own_form x bytes place)) place v
     ++ said_places b (is_macros x.name) (own_form x bytes place) place v) q.start
     ∙ ap (λ (ts : List TextPlace). ts ++ [])
@@ -190,7 +192,7 @@ quiet-places params bytes number tag (x ∷ xs) place other all =
     by_value (value_at params x bytes place) refl (λ (p : ℕ). quiet-places params bytes number tag xs p other all.1)
   where
     by_value : (o : Option Value) → value_at params x bytes place ≡ o → ((p : ℕ) → values_places params bytes number tag xs p ≡ [])
-        → value_places_behind (λ p. values_places params bytes number tag xs p) number tag x bytes place o ≡ []
+        → value_out (of_value bytes) (λ p. values_places params bytes number tag xs p) number tag x place o ≡ []
     by_value None is rest = refl
     by_value (Some v) is rest =
         ap (λ (ts : List TextPlace). ts ++ values_places params bytes number tag xs (place + v.size))
@@ -231,8 +233,8 @@ places-left params bytes number tag (x ∷ xs) rest place left =
     by_value (value_at params x bytes place) (λ (p : ℕ). places-left params bytes number tag xs rest p left)
   where
     by_value : (o : Option Value) → ((p : ℕ) → values_places params bytes number tag xs p ≡ values_places params bytes number tag (xs ++ rest) p)
-        → value_places_behind (λ p. values_places params bytes number tag xs p) number tag x bytes place o
-        ≡ value_places_behind (λ p. values_places params bytes number tag (xs ++ rest) p) number tag x bytes place o
+        → value_out (of_value bytes) (λ p. values_places params bytes number tag xs p) number tag x place o
+        ≡ value_out (of_value bytes) (λ p. values_places params bytes number tag (xs ++ rest) p) number tag x place o
     by_value None more = refl
     by_value (Some v) more = ap (λ (ts : List TextPlace). value_places number tag x bytes place v ++ ts) (more (place + v.size))
 

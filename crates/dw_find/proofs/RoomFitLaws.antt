@@ -13,7 +13,7 @@ use Rattle.dw_base.specs.declared.fault.Refusal.{Refusal}
 use Rattle.dw_find.specs.InlineRooms.{AreRooms, grows, Grows, one}
 use Rattle.dw_find.specs.ViewFields.{HasPlaces, info_of}
 use Rattle.dw_find.specs.TextPlaces.{InlinesFit, AllFitRooms, AllPlaced}
-use Rattle.dw_find.specs.UnitPaths.{UnitPaths, inline_text}
+use Rattle.dw_find.specs.SectionFields.{SectionFields, inline_text}
 use Rattle.dw_find.specs.declared.fields.InlinePath.{InlinePath}
 use Rattle.dw_find.proofs.PlaceValueLaws.{EachOf}
 use Rattle.dw_find.proofs.SectionFactLaws.{FitsIn, all-fit}
@@ -36,13 +36,13 @@ fit-all m info paths i end passed = passed.fits (subst (InlinesFit m info) (sym 
 pub ruleset rooms_rules = (fit-none, fit-all)
 
 -- the same of sections
-pub record AllFitPassed (m : PathMap) (v : View) (us : List UnitPaths) (i : ℕ) : Type 0 where
+pub record AllFitPassed (m : PathMap) (v : View) (us : List SectionFields) (i : ℕ) : Type 0 where
   pub fits : EachOf (FitsIn m v) (drop i us) → EachOf (FitsIn m v) us
 
-pub all-none : (m : PathMap) (v : View) (us : List UnitPaths) → AllFitPassed m v us 0
+pub all-none : (m : PathMap) (v : View) (us : List SectionFields) → AllFitPassed m v us 0
 all-none m v us = record { fits = λ h. h }
 
-pub all-end : (m : PathMap) (v : View) (us : List UnitPaths) (i : ℕ) → AllPlaced (debug_data v) ((debug_data v).found Info) us → length us ≤ i → AllFitPassed m v us i
+pub all-end : (m : PathMap) (v : View) (us : List SectionFields) (i : ℕ) → AllPlaced (debug_data v) ((debug_data v).found Info) us → length us ≤ i → AllFitPassed m v us i
     → AllFitRooms m ((debug_data v).found Info) us
 all-end m v us i placed end passed =
     all-fit m v [] ((debug_data v).found Info) us refl placed (passed.fits (subst (EachOf (FitsIn m v)) (sym (drop_all i us end)) tt))
@@ -50,10 +50,10 @@ all-end m v us i placed end passed =
 pub ruleset all_rules = (all-none)
 
 -- what is known of a section
-pub paths-there : (v : View) (u : UnitPaths) → HasPlaces v u → u.number < length v.sections
+pub paths-there : (v : View) (u : SectionFields) → HasPlaces v u → u.number < length v.sections
 paths-there v u h = h.there
 
-pub paths-rooms : (v : View) (u : UnitPaths) (info : List ℕ) → HasPlaces v u → info ≡ info_of v u → AreRooms info u.inline
+pub paths-rooms : (v : View) (u : SectionFields) (info : List ℕ) → HasPlaces v u → info ≡ info_of v u → AreRooms info u.inline
 paths-rooms v u info h is = subst (λ (bs : List ℕ). AreRooms bs u.inline) (sym is) h.rooms
 
 pub ruleset section_rules = (paths-there, paths-rooms)

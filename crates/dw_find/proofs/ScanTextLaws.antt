@@ -1,14 +1,12 @@
 -- A pass over the entries of a unit: where it stands, one entry more, its end, and why it can't go on.
-use Rattle.std.proofs.Common.{false, ◌≡◌, ℕ, ◌+◌, ◌≤◌, ◌<◌, ◌^◌, List, [], ◌∷◌, ◌++◌, length, take, drop, Option, Some, IsTrue, refl, sym, ap, ◌∙◌, subst, arith}
+use Rattle.std.proofs.Common.{false, ◌≡◌, ℕ, ◌+◌, ◌≤◌, ◌<◌, ◌^◌, List, [], ◌∷◌, ◌++◌, length, take, Some, IsTrue, refl, sym, ap, ◌∙◌, subst, arith}
 use Rattle.std.specs.Prelude.{Result, Ok, Err}
-use Rattle.std.specs.Option.{IfSome}
 use Rattle.std.proofs.lemmas.List.{length-append, length-take}
 use Rattle.dw_base.specs.AbbreviationTables.{Abbreviation}
 use Rattle.dw_base.specs.Cells.{bytes_of}
-use Rattle.dw_base.specs.EntryScans.{SpellsValues, no_values, more_values, IsEntry, scanned, Scans, starts, null, entry as an_entry, AreEntries, EntryFails}
+use Rattle.dw_base.specs.EntryScans.{Scans, starts, AreEntries, EntryFails}
 use Rattle.dw_base.specs.EntryValues.{HasUnit, bytes_up_to}
 use Rattle.dw_base.specs.FileViews.{View, section_bytes}
-use Rattle.dw_base.specs.Lebs.{uleb_at, IsSized}
 use Rattle.dw_base.specs.Refusals.{Blames}
 use Rattle.dw_base.specs.UnitHeaders.{is_address_size}
 use Rattle.dw_base.specs.ViewData.{debug_data}
@@ -18,93 +16,21 @@ use Rattle.dw_base.specs.declared.fault.Refusal.{Refusal}
 use Rattle.dw_base.specs.declared.shared.Params.{Params}
 use Rattle.dw_base.specs.declared.units.Scanned.{Scanned}
 use Rattle.dw_base.specs.declared.units.UnitHeader.{UnitHeader}
-use Rattle.dw_base.specs.declared.values.Spec.{Spec}
-use Rattle.dw_base.proofs.LebLaws.{uleb_at-size}
 use Rattle.dw_base.proofs.UnitEditLaws.{length-bytes_of}
-use Rattle.dw_meaning.proofs.ValueCutLaws.{uleb-inside}
 use Rattle.dw_entries.specs.CodedEntries.{GivesCode, GivesCoded, HasCode}
 use Rattle.dw_entries.specs.ScanStates.{ScanState, scan_start, HasGiven, GivesEntry, GivesRefusal, GivesNothing}
 use Rattle.dw_entries.specs.ViewUnits.{unit_section_at}
 use Rattle.dw_entries.specs.declared.scan.Coded.{Coded}
-use Rattle.dw_entries.proofs.HasUnitLaws.{IsUnitOfView, unit-of-view}
-use Rattle.dw_find.specs.EntryTexts.{Tables, Found, with_places}
+use Rattle.dw_entries.proofs.HasUnitLaws.{IsUnitOfView, unit-of-view, unit-bytes}
+use Rattle.dw_find.specs.EntryTexts.{Tables, FoundTexts, with_places}
 use Rattle.dw_find.specs.TextPlaces.{entry_places, entries_places}
 use Rattle.dw_find.specs.UnitTexts.{EntryTaken, EntriesTaken, EntryRefuses, ScanTaken, UnitRefuses, entries, entry, tables_of}
-use Rattle.dw_find.proofs.EntryRunLaws.{entries_places-more}
 use Rattle.dw_find.proofs.EntryTextLaws.{with_places-more, with_places-none}
-use Rattle.dw_find.proofs.ValueFactLaws.{value-inside}
-
--- the last of entries that were read, and those before it
-record LastEntry (h : UnitHeader) (table : List Abbreviation) (bytes : List ℕ) (items : List Scanned) (e : Scanned) : Type 0 where
-  abbreviation : Abbreviation
-  depth : ℕ
-  scans : Scans h table bytes items e.offset depth
-  is : IsEntry h.params table bytes e.offset abbreviation e.after
-
-last-same : (xs ys : List Scanned) (x y : Scanned) → xs ++ x ∷ [] ≡ ys ++ y ∷ [] → (xs ≡ ys) × (x ≡ y)
-last-same [] [] x y e = (refl, head-is x y e)
-  where
-    head-is : (x y : Scanned) → x ∷ [] ≡ y ∷ [] → x ≡ y
-    head-is x y e = cc
-last-same [] (z ∷ zs) x y e = absurd (omega (arith, ap length e, length-append zs (y ∷ [])))
-last-same (z ∷ zs) [] x y e = absurd (omega (arith, ap length e, length-append zs (x ∷ [])))
-last-same (w ∷ ws) (z ∷ zs) x y e =
-    let rest = last-same ws zs x y (tail-is w z (ws ++ x ∷ []) (zs ++ y ∷ []) e) in
-    (ap (λ (v : Scanned). v ∷ ws) (head-is w z (ws ++ x ∷ []) (zs ++ y ∷ []) e) ∙ ap (λ (vs : List Scanned). z ∷ vs) rest.0, rest.1)
-  where
-    head-is : (x y : Scanned) (xs ys : List Scanned) → x ∷ xs ≡ y ∷ ys → x ≡ y
-    head-is x y xs ys e = cc
-
-    tail-is : (x y : Scanned) (xs ys : List Scanned) → x ∷ xs ≡ y ∷ ys → xs ≡ ys
-    tail-is x y xs ys e = cc
-
-no-last : (xs : List Scanned) (x : Scanned) → [] ≡ xs ++ x ∷ [] → ⊥
-no-last xs x e = omega (arith, ap length e, length-append xs (x ∷ []))
-
-last-entry : (h : UnitHeader) (table : List Abbreviation) (bytes : List ℕ) (all items : List Scanned) (e : Scanned) (place depth : ℕ)
-    → Scans h table bytes all place depth → all ≡ items ++ e ∷ [] → LastEntry h table bytes items e
-last-entry h table bytes all items e place depth starts same = absurd (no-last items e same)
-last-entry h table bytes all items e z d (null its place depth size s is) same = last-entry h table bytes all items e place depth s same
-last-entry h table bytes all items e z d (an_entry its place depth after a s is root) same =
-    let both = last-same its items (scanned place depth a after) e same in
-    let offset : place ≡ e.offset = ap (λ (x : Scanned). x.offset) both.1 in
-    let behind : after ≡ e.after = ap (λ (x : Scanned). x.after) both.1 in
-    record {
-      abbreviation = a;
-      depth = depth;
-      scans = subst (λ (p : ℕ). Scans h table bytes items p depth) offset (subst (λ (xs : List Scanned). Scans h table bytes xs place depth) both.0 s);
-      is = subst (λ (p : ℕ). IsEntry h.params table bytes p a e.after) offset (subst (IsEntry h.params table bytes place a) behind is);
-    }
-
--- values end behind where they begin, in the bytes
-values-room : (params : Params) (bytes : List ℕ) (start : ℕ) (xs : List Spec) (place : ℕ) → SpellsValues params bytes start xs place → start ≤ length bytes
-    → (start ≤ place) × (place ≤ length bytes)
-values-room params bytes start xs place no_values le = (omega arith, le)
-values-room params bytes start xs z (more_values ys y place v s is) le =
-    let before = values-room params bytes start ys place s le in
-    (omega (arith, before.0), value-inside params y bytes place v is)
-
--- a number has some bytes
-uleb-some : (bytes : List ℕ) (place code size : ℕ) → uleb_at bytes place ≡ Some (code, size) → 0 < size
-unfolding uleb_at
-uleb-some bytes place code size is = (subst (λ (o : Option (ℕ × ℕ)). IfSome o (IsSized (length (drop place bytes)))) is (uleb_at-size (drop place bytes))).some
-
--- entries take place
-scans-room : (h : UnitHeader) (table : List Abbreviation) (bytes : List ℕ) (items : List Scanned) (place depth : ℕ) → Scans h table bytes items place depth
-    → h.first ≤ length bytes → (length items ≤ place) × (place ≤ length bytes)
-scans-room h table bytes items place depth starts le = (omega arith, le)
-scans-room h table bytes items z d (null its place depth size s is) le =
-    let before = scans-room h table bytes items place depth s le in
-    (omega (arith, before.0), uleb-inside bytes place 0 size is)
-scans-room h table bytes all z d (an_entry items place depth after a s is root) le =
-    let before = scans-room h table bytes items place depth s le in
-    let room : place + is.size ≤ length bytes = uleb-inside bytes place is.code is.size is.spells in
-    let some : 0 < is.size = uleb-some bytes place is.code is.size is.spells in
-    let values = values-room h.params bytes (place + is.size) a.specs after is.values room in
-    (omega (arith, before.0, some, values.0, length-append items (scanned place depth a after ∷ [])), values.1)
+use Rattle.dw_find.proofs.PlacedRunLaws.{entries_places-more}
+use Rattle.dw_entries.proofs.LastEntryLaws.{LastEntry, last-entry, scans-room}
 
 -- where a pass stands: it gave these entries, which were taken
-pub record PassStands (t : Tables) (h : UnitHeader) (table : List Abbreviation) (bytes : List ℕ) (old now : Found) (s : ScanState) (number : ℕ) : Type 0 where
+pub record PassStands (t : Tables) (h : UnitHeader) (table : List Abbreviation) (bytes : List ℕ) (old now : FoundTexts) (s : ScanState) (number : ℕ) : Type 0 where
   pub items : List Scanned
   pub given : HasGiven s items
   pub unit_is : s.unit ≡ h
@@ -115,7 +41,7 @@ pub record PassStands (t : Tables) (h : UnitHeader) (table : List Abbreviation) 
   pub found : now ≡ with_places old (entries_places h.params table bytes 0 items)
   pub taken : EntriesTaken t h.params table bytes items
 
-pub pass-starts : (t : Tables) (h : UnitHeader) (table : List Abbreviation) (bytes : List ℕ) (old : Found) (s : ScanState) → s ≡ scan_start h table bytes
+pub pass-starts : (t : Tables) (h : UnitHeader) (table : List Abbreviation) (bytes : List ℕ) (old : FoundTexts) (s : ScanState) → s ≡ scan_start h table bytes
     → PassStands t h table bytes old old s 0
 pass-starts t h table bytes old s is =
     subst (λ (x : ScanState). PassStands t h table bytes old old x 0) (sym is) (record {
@@ -131,14 +57,14 @@ pass-starts t h table bytes old s is =
     })
 
 -- so many entries are few
-pub pass-few : (t : Tables) (h : UnitHeader) (table : List Abbreviation) (bytes : List ℕ) (old now : Found) (s : ScanState) (number : ℕ)
+pub pass-few : (t : Tables) (h : UnitHeader) (table : List Abbreviation) (bytes : List ℕ) (old now : FoundTexts) (s : ScanState) (number : ℕ)
     → PassStands t h table bytes old now s number → h.first ≤ length bytes → number ≤ length bytes
 pass-few t h table bytes old now s number p le =
     let scans : Scans h table bytes p.items s.place s.depth = own-scans t h table bytes old now s number p in
     let room = scans-room h table bytes p.items s.place s.depth scans le in
     omega (arith, p.count, room.0, room.1)
   where
-    own-scans : (t : Tables) (h : UnitHeader) (table : List Abbreviation) (bytes : List ℕ) (old now : Found) (s : ScanState) (number : ℕ)
+    own-scans : (t : Tables) (h : UnitHeader) (table : List Abbreviation) (bytes : List ℕ) (old now : FoundTexts) (s : ScanState) (number : ℕ)
         → (p : PassStands t h table bytes old now s number) → Scans h table bytes p.items s.place s.depth
     own-scans t h table bytes old now s number p =
         subst (λ (x : UnitHeader). Scans x table bytes p.items s.place s.depth) p.unit_is
@@ -152,7 +78,7 @@ taken-more t params table bytes [] e all one = (one, tt)
 taken-more t params table bytes (x ∷ xs) e all one = (all.0, taken-more t params table bytes xs e all.1 one)
 
 -- one entry more
-pub pass-more : (t : Tables) (h : UnitHeader) (table : List Abbreviation) (bytes : List ℕ) (old now new : Found) (s u : ScanState) (number : ℕ) (e : Scanned)
+pub pass-more : (t : Tables) (h : UnitHeader) (table : List Abbreviation) (bytes : List ℕ) (old now new : FoundTexts) (s u : ScanState) (number : ℕ) (e : Scanned)
     → PassStands t h table bytes old now s number → GivesEntry s e u → new ≡ with_places now (entry_places h.params table bytes number e)
     → EntryTaken t h.params table bytes e → PassStands t h table bytes old new u (number + 1)
 pass-more t h table bytes old now new s u number e p g found taken = record {
@@ -165,14 +91,14 @@ pass-more t h table bytes old now new s u number e p g found taken = record {
   count = (let before = p.count in omega (arith, before, length-append p.items (e ∷ [])));
   found =
       found ∙ ap (λ (n : ℕ). with_places now (entry_places h.params table bytes n e)) (p.count ∙ omega arith)
-      ∙ ap (λ (x : Found). with_places x (entry_places h.params table bytes (0 + length p.items) e)) p.found
+      ∙ ap (λ (x : FoundTexts). with_places x (entry_places h.params table bytes (0 + length p.items) e)) p.found
       ∙ with_places-more old (entries_places h.params table bytes 0 p.items) (entry_places h.params table bytes (0 + length p.items) e)
       ∙ ap (with_places old) (sym (entries_places-more h.params table bytes 0 p.items e));
   taken = taken-more t h.params table bytes p.items e p.taken taken;
 }
 
 -- the entry that the pass gives, behind those before it
-last-of : (t : Tables) (h : UnitHeader) (table : List Abbreviation) (bytes : List ℕ) (old now : Found) (s u : ScanState) (number : ℕ) (e : Scanned)
+last-of : (t : Tables) (h : UnitHeader) (table : List Abbreviation) (bytes : List ℕ) (old now : FoundTexts) (s u : ScanState) (number : ℕ) (e : Scanned)
     → (p : PassStands t h table bytes old now s number) → GivesEntry s e u → LastEntry h table bytes p.items e
 last-of t h table bytes old now s u number e p g =
     let more : HasGiven u (p.items ++ e ∷ []) = g.more p.items p.given in
@@ -186,14 +112,14 @@ last-of t h table bytes old now s u number e p g =
     last-entry h table bytes (p.items ++ e ∷ []) p.items e u.place u.depth scans refl
 
 -- and its code
-pub pass-code : (t : Tables) (h : UnitHeader) (table : List Abbreviation) (bytes : List ℕ) (old now : Found) (s u : ScanState) (number : ℕ) (c : Coded)
+pub pass-code : (t : Tables) (h : UnitHeader) (table : List Abbreviation) (bytes : List ℕ) (old now : FoundTexts) (s u : ScanState) (number : ℕ) (c : Coded)
     → PassStands t h table bytes old now s number → GivesCode s c u → HasCode table bytes c.entry c.index c.from
 pass-code t h table bytes old now s u number c p g =
     subst (λ (x : List Abbreviation). HasCode x bytes c.entry c.index c.from) p.table_is
     (subst (λ (x : List ℕ). HasCode s.table x c.entry c.index c.from) p.bytes_are g.has)
 
 -- an entry that can't be taken
-pub pass-refused : (t : Tables) (h : UnitHeader) (table : List Abbreviation) (bytes : List ℕ) (old now : Found) (s u : ScanState) (number : ℕ) (e : Scanned) (f : Fault)
+pub pass-refused : (t : Tables) (h : UnitHeader) (table : List Abbreviation) (bytes : List ℕ) (old now : FoundTexts) (s u : ScanState) (number : ℕ) (e : Scanned) (f : Fault)
     → PassStands t h table bytes old now s number → GivesEntry s e u → Blames (EntryRefuses t h.params table bytes h.section e) f
     → Blames (UnitRefuses t h table bytes) f
 pass-refused t h table bytes old now s u number e NoMemory p g b = tt
@@ -202,7 +128,7 @@ pass-refused t h table bytes old now s u number e (Refused r) p g b =
     entry p.items e last.depth last.abbreviation last.scans last.is b
 
 -- entries that can't be read
-pub pass-fails : (t : Tables) (h : UnitHeader) (table : List Abbreviation) (bytes : List ℕ) (old now : Found) (s u : ScanState) (number : ℕ) (r : Refusal)
+pub pass-fails : (t : Tables) (h : UnitHeader) (table : List Abbreviation) (bytes : List ℕ) (old now : FoundTexts) (s u : ScanState) (number : ℕ) (r : Refusal)
     → PassStands t h table bytes old now s number → GivesRefusal s r u → UnitRefuses t h table bytes r
 pass-fails t h table bytes old now s u number r p g =
     entries (subst (λ (x : UnitHeader). EntryFails x table bytes r) p.unit_is
@@ -210,7 +136,7 @@ pass-fails t h table bytes old now s u number r p g =
     (subst (λ (x : List ℕ). EntryFails s.unit s.table x r) p.bytes_are (g.fails p.items p.given))))
 
 -- the end of the pass
-pub pass-ends : (t : Tables) (h : UnitHeader) (table : List Abbreviation) (bytes : List ℕ) (old now : Found) (s u : ScanState) (number : ℕ)
+pub pass-ends : (t : Tables) (h : UnitHeader) (table : List Abbreviation) (bytes : List ℕ) (old now : FoundTexts) (s u : ScanState) (number : ℕ)
     → PassStands t h table bytes old now s number → GivesNothing s u → ScanTaken t h table bytes old now
 pass-ends t h table bytes old now s u number p g = record {
   items = p.items;
@@ -228,7 +154,7 @@ gave-code s u r c g is = subst (λ (x : Result Coded Refusal). GivesCoded s (Som
 pub gave-refusal : (s u : ScanState) (x : Result Coded Refusal) (r : Refusal) → GivesCoded s (Some x) u → x ≡ Err r → GivesRefusal s r u
 gave-refusal s u x r g is = subst (λ (y : Result Coded Refusal). GivesCoded s (Some y) u) is g
 
-pub pass-one : (t : Tables) (h : UnitHeader) (table : List Abbreviation) (bytes : List ℕ) (old now new : Found) (s u : ScanState) (number : ℕ) (c : Coded)
+pub pass-one : (t : Tables) (h : UnitHeader) (table : List Abbreviation) (bytes : List ℕ) (old now new : FoundTexts) (s u : ScanState) (number : ℕ) (c : Coded)
     → PassStands t h table bytes old now s number → GivesCode s c u → new ≡ with_places now (entry_places h.params table bytes number c.entry)
     → EntryTaken t h.params table bytes c.entry → PassStands t h table bytes old new u (number + 1)
 pass-one t h table bytes old now new s u number c p g found taken = pass-more t h table bytes old now new s u number c.entry p g.gives found taken
@@ -247,28 +173,6 @@ unit-end v h bs u is =
 pub unit-address : (v : View) (h : UnitHeader) → HasUnit (debug_data v) (unit_section_at v h.section) h → IsTrue (is_address_size h.params.address)
 unit-address v h u = (unit-of-view v h u).address
 
-pub unit-bytes : (v : View) (h : UnitHeader) (bs : List ℕ) → HasUnit (debug_data v) (unit_section_at v h.section) h → bs ≡ section_bytes v h.section
-    → take h.end bs ≡ bytes_up_to (unit_section_at v h.section) h
-unit-bytes v h bs u is = ap (take h.end) is ∙ (unit-of-view v h u).bytes
-
-pub unit-start : (v : View) (h : UnitHeader) (table : List Abbreviation) (bs : List ℕ) (s : ScanState) → HasUnit (debug_data v) (unit_section_at v h.section) h
-    → bs ≡ section_bytes v h.section → s ≡ scan_start h table (bytes_up_to (unit_section_at v h.section) h) → s ≡ scan_start h table (take h.end bs)
-unit-start v h table bs s u is e = e ∙ ap (scan_start h table) (sym (unit-bytes v h bs u is))
-
-pub unit-first : (v : View) (h : UnitHeader) (bs : List ℕ) → HasUnit (debug_data v) (unit_section_at v h.section) h → bs ≡ section_bytes v h.section
-    → h.first ≤ length (take h.end bs)
-unit-first v h bs u is =
-    let of : IsUnitOfView v h = unit-of-view v h u in
-    let end = unit-end v h bs u is in
-    let ends = of.ends in
-    omega (arith, end, ends, length-take h.end bs)
-
-pub unit-length : (v : View) (h : UnitHeader) (bs : List ℕ) → HasUnit (debug_data v) (unit_section_at v h.section) h → bs ≡ section_bytes v h.section
-    → h.end ≡ length (take h.end bs)
-unit-length v h bs u is =
-    let end = unit-end v h bs u is in
-    omega (arith, end, length-take h.end bs)
-
 pub unit-within : (v : View) (h : UnitHeader) (bs : List ℕ) (t : Tables) → HasUnit (debug_data v) (unit_section_at v h.section) h → bs ≡ section_bytes v h.section
     → t ≡ tables_of (debug_data v) (unit_section_at v h.section) → length (take h.end bs) ≤ length t.cells
 unit-within v h bs t u is same =
@@ -279,7 +183,7 @@ unit-within v h bs t u is same =
 pub unit-small : (h : UnitHeader) (bs : List ℕ) → length bs ≤ 2 ^ 31 → length (take h.end bs) ≤ 2 ^ 31
 unit-small h bs small = omega (arith, small, length-take h.end bs)
 
-pub unit-taken : (t : Tables) (v : View) (h : UnitHeader) (table : List Abbreviation) (bs : List ℕ) (old new : Found)
+pub unit-taken : (t : Tables) (v : View) (h : UnitHeader) (table : List Abbreviation) (bs : List ℕ) (old new : FoundTexts)
     → HasUnit (debug_data v) (unit_section_at v h.section) h → bs ≡ section_bytes v h.section → ScanTaken t h table (take h.end bs) old new
     → ScanTaken t h table (bytes_up_to (unit_section_at v h.section) h) old new
 unit-taken t v h table bs old new u is s = subst (λ (x : List ℕ). ScanTaken t h table x old new) (unit-bytes v h bs u is) s

@@ -7,10 +7,10 @@ use Rattle.dw_base.specs.EntryValues.{HasUnit, bytes_up_to}
 use Rattle.dw_base.specs.UnitHeaders.{UnitBase, UnitSection, IsUnit, UnitsUpTo, no_units, more_units, AreUnits}
 use Rattle.dw_base.specs.declared.units.UnitHeader.{UnitHeader}
 use Rattle.dw_entries.specs.ViewUnits.{numbered}
-use Rattle.dw_find.specs.EntryTexts.{Found, with_paths, with_places, no_paths, none_found}
+use Rattle.dw_find.specs.EntryTexts.{FoundTexts, with_paths, with_places, no_paths, none_found}
 use Rattle.dw_find.specs.NamedSlots.{Slots, TakesIndexes, TakesUnits}
 use Rattle.dw_find.specs.TextPlaces.{TextPlace, BaseSource, UnitSays, base_in, base_source, number_said, entries_places, indexes_in, UnitsPlaced, none_placed, more_placed, PlacesName, SectionSays}
-use Rattle.dw_find.specs.UnitPaths.{UnitPaths}
+use Rattle.dw_find.specs.SectionFields.{SectionFields}
 use Rattle.dw_find.specs.declared.fields.TextBase.{TextBase}
 use Rattle.dw_find.specs.declared.fields.TextIndex.{TextIndex}
 use Rattle.dw_find.specs.UnitTexts.{tables_of, ScanTaken, OneTaken, IsUnitTaken, UnitsTaken, SectionIndexed}
@@ -52,7 +52,7 @@ stands-numbered (y ∷ ys) i z e = by_number (y.number == i) (λ f. stands-numbe
 
 -- where a pass over the units of a section stands: behind so many of them, at a place, with what was found, and what they say by index
 -- went to the slots
-pub record SectionPass (d : DebugData) (z : UnitSection) (list : List UnitHeader) (i : ℕ) (found : Found) (first now : Slots) : Type 0 where
+pub record SectionPass (d : DebugData) (z : UnitSection) (list : List UnitHeader) (i : ℕ) (found : FoundTexts) (first now : Slots) : Type 0 where
   pub start : ℕ
   pub places : List TextPlace
   pub units : List UnitSays
@@ -65,7 +65,7 @@ pub record SectionPass (d : DebugData) (z : UnitSection) (list : List UnitHeader
   pub slots : TakesUnits (base_source d) units first now
   pub headers : HeaderOffsetsRead d.base z
 
-pub section-starts : (d : DebugData) (z : UnitSection) (list : List UnitHeader) (found : Found) (first : Slots) → HeaderOffsetsRead d.base z → AreUnits d.base z list
+pub section-starts : (d : DebugData) (z : UnitSection) (list : List UnitHeader) (found : FoundTexts) (first : Slots) → HeaderOffsetsRead d.base z → AreUnits d.base z list
     → found ≡ none_found (no_paths z.number) → SectionPass d z list 0 found first first
 section-starts d z list found first headers units is = record {
   start = 0;
@@ -93,11 +93,11 @@ behind list h i lt is =
     ap (λ (n : ℕ). take n list) next ∙ take-suc list i h lt ∙ ap (λ (y : UnitHeader). take i list ++ y ∷ []) (sym is)
 
 -- the next unit
-next-unit : (d : DebugData) (z : UnitSection) (list : List UnitHeader) (i : ℕ) (found : Found) (first now : Slots) (h : UnitHeader) → i < length list → h ≡ get_or list i h
+next-unit : (d : DebugData) (z : UnitSection) (list : List UnitHeader) (i : ℕ) (found : FoundTexts) (first now : Slots) (h : UnitHeader) → i < length list → h ≡ get_or list i h
     → (p : SectionPass d z list i found first now) → IsUnit d.base z p.start h × UnitsFrom d.base z h.end (drop (i + 1) list) (length z.contents)
 next-unit d z list i found first now h lt is p = subst (λ (xs : List UnitHeader). UnitsFrom d.base z p.start xs (length z.contents)) (front list h i lt is) p.rest
 
-pub unit-there : (d : DebugData) (z : UnitSection) (list : List UnitHeader) (i n : ℕ) (found : Found) (first now : Slots) (h : UnitHeader) → numbered (d.found Info) n ≡ Some z
+pub unit-there : (d : DebugData) (z : UnitSection) (list : List UnitHeader) (i n : ℕ) (found : FoundTexts) (first now : Slots) (h : UnitHeader) → numbered (d.found Info) n ≡ Some z
     → i < length list → h ≡ get_or list i h → SectionPass d z list i found first now → HasUnit d z h
 unit-there d z list i n found first now h number lt is p =
     let s : Stands (d.found Info) z = stands-numbered (d.found Info) n z number in
@@ -117,32 +117,32 @@ units-append d z [] h all one = (one, tt)
 units-append d z (x ∷ xs) h all one = (all.0, units-append d z xs h all.1 one)
 
 -- what a unit says by index goes to the slots
-one-says : (g : BaseSource) (h : UnitHeader) (z : UnitSection) (p : UnitPaths) (old found : Found) (here : List TextPlace) (before now : Slots) → h.section ≡ z.number
+one-says : (g : BaseSource) (h : UnitHeader) (z : UnitSection) (p : SectionFields) (old found : FoundTexts) (here : List TextPlace) (before now : Slots) → h.section ≡ z.number
     → old ≡ none_found p → found ≡ with_places old here → TakesIndexes h.section (number_said g z.contents found.base) found.indexes before now
     → TakesUnits g (record { section = z.number; cells = z.contents; places = here } ∷ []) before now
 unfolding with_places
 one-says g h z p old found here before now section start is t =
-    let says : found ≡ with_places (none_found p) here = is ∙ ap (λ (x : Found). with_places x here) start in
-    let base : found.base ≡ base_in here = ap (λ (x : Found). x.base) says in
-    let indexes : found.indexes ≡ indexes_in here = ap (λ (x : Found). x.indexes) says in
+    let says : found ≡ with_places (none_found p) here = is ∙ ap (λ (x : FoundTexts). with_places x here) start in
+    let base : found.base ≡ base_in here = ap (λ (x : FoundTexts). x.base) says in
+    let indexes : found.indexes ≡ indexes_in here = ap (λ (x : FoundTexts). x.indexes) says in
     units-one g (record { section = z.number; cells = z.contents; places = here }) before now
     (subst (λ (n : ℕ). TakesIndexes n (number_said g z.contents (base_in here)) (indexes_in here) before now) section
     (subst (λ (xs : List TextIndex). TakesIndexes h.section (number_said g z.contents (base_in here)) xs before now) indexes
     (subst (λ (b : Option TextBase). TakesIndexes h.section (number_said g z.contents b) found.indexes before now) base t)))
 
-paths-say : (p : UnitPaths) (old found : Found) (here : List TextPlace) → old ≡ none_found p → found ≡ with_places old here → found.paths ≡ with_paths p here
+paths-say : (p : SectionFields) (old found : FoundTexts) (here : List TextPlace) → old ≡ none_found p → found ≡ with_places old here → found.paths ≡ with_paths p here
 unfolding with_places
-paths-say p old found here start is = ap (λ (x : Found). x.paths) (is ∙ ap (λ (x : Found). with_places x here) start)
+paths-say p old found here start is = ap (λ (x : FoundTexts). x.paths) (is ∙ ap (λ (x : FoundTexts). with_places x here) start)
 
 -- one unit more
-pub section-more : (d : DebugData) (z : UnitSection) (list : List UnitHeader) (i : ℕ) (old new : Found) (h : UnitHeader) (first now next_slots : Slots) → i < length list
+pub section-more : (d : DebugData) (z : UnitSection) (list : List UnitHeader) (i : ℕ) (old new : FoundTexts) (h : UnitHeader) (first now next_slots : Slots) → i < length list
     → h ≡ get_or list i h → h.section ≡ z.number → SectionPass d z list i old first now
     → OneTaken d z h old new now next_slots → SectionPass d z list (i + 1) new first next_slots
 section-more d z list i old new h first now next_slots lt is section p one =
     let next = next-unit d z list i old first now h lt is p in
     let s : ScanTaken (tables_of d z) h one.table (bytes_up_to z h) old one.found = one.scan in
     let here : List TextPlace = entries_places h.params one.table (bytes_up_to z h) 0 s.items in
-    let before_ : UnitPaths = with_paths (no_paths z.number) p.places in
+    let before_ : SectionFields = with_paths (no_paths z.number) p.places in
     record {
       start = h.end;
       places = p.places ++ here;
@@ -162,11 +162,11 @@ section-more d z list i old new h first now next_slots lt is section p one =
     }
 
 -- no base was found of the next unit yet
-pub pass-base : (d : DebugData) (z : UnitSection) (list : List UnitHeader) (i : ℕ) (found : Found) (first now : Slots) → SectionPass d z list i found first now → found.base ≡ None
-pass-base d z list i found first now p = ap (λ (f : Found). f.base) p.found_is
+pub pass-base : (d : DebugData) (z : UnitSection) (list : List UnitHeader) (i : ℕ) (found : FoundTexts) (first now : Slots) → SectionPass d z list i found first now → found.base ≡ None
+pass-base d z list i found first now p = ap (λ (f : FoundTexts). f.base) p.found_is
 
 -- the end
-pub section-says : (d : DebugData) (z : UnitSection) (list : List UnitHeader) (i : ℕ) (found : Found) (first now : Slots) → length list ≤ i
+pub section-says : (d : DebugData) (z : UnitSection) (list : List UnitHeader) (i : ℕ) (found : FoundTexts) (first now : Slots) → length list ≤ i
     → SectionPass d z list i found first now → SectionSays d z found.paths
 unfolding with_paths
 section-says d z list i found first now end p =
@@ -180,10 +180,10 @@ section-says d z list i found first now end p =
             (subst (λ (xs : List UnitHeader). UnitsPlaced d.base z xs p.start p.places p.units) (take_all i list end) p.placed);
       };
       names = p.names;
-      says = ap (λ (f : Found). f.paths) p.found_is;
+      says = ap (λ (f : FoundTexts). f.paths) p.found_is;
     }
 
-pub section-ends : (d : DebugData) (z : UnitSection) (list : List UnitHeader) (i : ℕ) (found : Found) (first now : Slots) → length list ≤ i
+pub section-ends : (d : DebugData) (z : UnitSection) (list : List UnitHeader) (i : ℕ) (found : FoundTexts) (first now : Slots) → length list ≤ i
     → SectionPass d z list i found first now → SectionIndexed d z found.paths first now
 unfolding section-says
 section-ends d z list i found first now end p =

@@ -4,17 +4,18 @@ use Rattle.std.proofs.Common.{◌≡◌, ℕ, ◌+◌, List, [], ◌∷◌, ◌+
 use Rattle.std.proofs.Math.Seq.{drop-append_seam}
 use Rattle.std.proofs.lemmas.List.{drop-drop}
 use Rattle.dw_base.specs.Cells.{Cell, bytes_of}
-use Rattle.dw_base.specs.Forms.{TextSection, in_line_str}
 use Rattle.dw_base.specs.OffsetPieces.{OffsetMode, at_contribution, at_slot, no_offsets, OffsetState, past_offsets, offset_grammar}
 use Rattle.dw_base.specs.Pieces.{Piece, Chain, joined}
 use Rattle.dw_base.specs.SectionTexts.{offset_role, slot_role}
 use Rattle.dw_base.specs.declared.shared.Order.{Order}
 use Rattle.dw_base.proofs.UnitEditLaws.{length-bytes_of}
 use Rattle.dw_base.proofs.UnitHeaderLaws.{bytes_of-append}
+use Rattle.dw_base.specs.declared.texts.TextField.{TextField}
+use Rattle.dw_base.specs.declared.texts.TextSection.{TextSection}
+use Rattle.dw_base.specs.declared.texts.TextSection.TheVariants.{InLineStr}
 use Rattle.dw_offsets.proofs.SlotPieceLaws.{place-next}
 use Rattle.dw_find.specs.SlotPaths.{offset_fields}
-use Rattle.dw_find.specs.UnitPaths.{field_by, start_by}
-use Rattle.dw_find.specs.declared.fields.PathField.{PathField}
+use Rattle.dw_find.specs.SectionFields.{field_by, start_by}
 use Rattle.dw_find.proofs.PieceFieldLaws.{FieldsFrom, from-less, from-piece}
 
 -- pieces of string offsets stand where their states say
@@ -53,15 +54,15 @@ slots-in order cells s place (x ∷ xs) at c e =
     (here, e, slots-in order cells (past_offsets x.state.mode order x.state x.cells) (place + length x.cells) xs next c.2 behind)
 
 -- no slot holds an offset into the other table
-line-field : (paths : List ℕ) (m : OffsetMode) (n place size : ℕ) → field_by in_line_str (offset_role paths m n) place size ≡ []
+line-field : (paths : List ℕ) (m : OffsetMode) (n place size : ℕ) → field_by InLineStr (offset_role paths m n) place size ≡ []
 line-field paths at_contribution n place size = refl
 line-field paths (at_slot w end) n place size = refl
 line-field paths no_offsets n place size = refl
 
-pub line-fields : (paths : List ℕ) (xs : List (Piece OffsetState)) → offset_fields in_line_str paths xs ≡ []
+pub line-fields : (paths : List ℕ) (xs : List (Piece OffsetState)) → offset_fields InLineStr paths xs ≡ []
 line-fields paths [] = refl
 line-fields paths (x ∷ xs) =
-    ap (λ (fs : List PathField). fs ++ offset_fields in_line_str paths xs) (line-field paths x.state.mode x.state.slot x.state.place (length x.cells))
+    ap (λ (fs : List TextField). fs ++ offset_fields InLineStr paths xs) (line-field paths x.state.mode x.state.slot x.state.place (length x.cells))
     ∙ line-fields paths xs
 
 pub no-start : (paths : List ℕ) (m : OffsetMode) (n place size : ℕ) → start_by (offset_role paths m n) place size ≡ []

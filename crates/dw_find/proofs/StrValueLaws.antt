@@ -1,10 +1,11 @@
 -- The value of an attribute whose form is an offset of a text in `.debug_str`.
 use Rattle.std.proofs.Common.{◌≡◌, ℕ, List, Some, refl, sym, ap, ◌∙◌}
-use Rattle.dw_base.specs.Forms.{ValueKind, form_rows, in_str, kind_in, text_offset, width_size}
+use Rattle.dw_base.specs.Forms.{ValueKind, form_rows, kind_in, text_offset, width_size}
 use Rattle.dw_base.specs.Numbers.{number_at}
 use Rattle.dw_base.specs.Values.{number_value, value_at, value_by, value_of}
 use Rattle.dw_base.specs.declared.dwarf_numbers.TheConstants.{DW_FORM_strp}
 use Rattle.dw_base.specs.declared.shared.Params.{Params}
+use Rattle.dw_base.specs.declared.texts.TextSection.TheVariants.{InStr}
 use Rattle.dw_base.specs.declared.values.Spec.{Spec}
 use Rattle.dw_base.specs.declared.values.Value.{Value}
 use Rattle.dw_base.specs.declared.values.ValueClass.TheVariants.{StrOffset}
@@ -16,7 +17,7 @@ str-read params bytes place size n is e = record {
   is = sym (ap (λ (m : ℕ). number_value StrOffset place m (number_at params.order bytes place m)) is) ∙ ap (number_value StrOffset place size) (sym e);
 }
 
-str-kind : (params : Params) → kind_in params DW_FORM_strp ≡ text_offset in_str (width_size params.width)
+str-kind : (params : Params) → kind_in params DW_FORM_strp ≡ text_offset InStr (width_size params.width)
 unfolding kind_in form_rows
 str-kind params = refl
 

@@ -1,10 +1,10 @@
 -- The field of a value that is the offset of a text, or says a start: the one field of its kind.
 use Rattle.std.proofs.Common.{Bool, true, if◌then◌else◌, ◌≡◌, ◌⊎◌, inl, inr, ℕ, ◌+◌, List, [], ◌∷◌, Option, Some, refl, sym, ap, ◌∙◌}
 use Rattle.std.specs.Prelude.{ℤ}
-use Rattle.dw_base.specs.Forms.{TextSection, ValueKind, form_in_front, kind_in, number_of, text_offset}
+use Rattle.dw_base.specs.Forms.{ValueKind, form_in_front, kind_in, number_of, text_offset}
 use Rattle.dw_base.specs.Numbers.{number_at}
 use Rattle.dw_base.specs.RelocationRows.{field_place, kind_field, listed_field, offset_field, plain_field, use_of_number}
-use Rattle.dw_base.specs.Roles.{is_line_start, names_line_table}
+use Rattle.dw_base.specs.Roles.{is_line_start}
 use Rattle.dw_base.specs.UnitStates.{read_value}
 use Rattle.dw_base.specs.Values.{offset_class, value_at, value_of}
 use Rattle.dw_base.specs.declared.shared.Order.{Order}
@@ -15,12 +15,14 @@ use Rattle.dw_base.specs.declared.values.ValueClass.{ValueClass}
 use Rattle.dw_base.specs.declared.values.ValueClass.TheVariants.{Address, GlobalRef, Number, SecOffset}
 use Rattle.dw_base.proofs.ClassLaws.{form-proper, is_proper, offset-kind, value-class}
 use Rattle.dw_base.proofs.FormLaws.{value_by-own}
+use Rattle.dw_base.specs.TableStarts.{is_start_form, own_form}
+use Rattle.dw_base.specs.declared.texts.TextSection.{TextSection}
+use Rattle.dw_base.specs.declared.values.AttributeUse.TheVariants.{NamesLineTable}
 use Rattle.dw_meaning.specs.RelocationFails.{behind_front, kind_there}
 use Rattle.dw_find.specs.EntryTexts.{value_field}
-use Rattle.dw_find.specs.TextPlaces.{is_start_form, own_form}
-use Rattle.dw_find.proofs.StartFormLaws.{StartKind, chosen-form, plain-form, start-kind}
+use Rattle.dw_base.proofs.StartFormLaws.{StartKind, chosen-form, plain-form, start-kind}
 use Rattle.dw_find.proofs.ValuePlaceLaws.{Fields, number-fields}
-use Rattle.dw_find.proofs.ValueRunLaws.{Chosen, chosen-read, is_front}
+use Rattle.dw_meaning.proofs.ScanPieceLaws.{Chosen, chosen-read, is_front}
 
 -- a value of a kind
 kind-field : (k : ValueKind) (table : TextSection) (o : Order) (bytes : List ℕ) (at : ℕ) (i : ℤ) (v : Value) (start : Bool) → is_proper k ≡ true
@@ -60,7 +62,7 @@ text-field params x bytes place v table start is class = by_front (is_front (kin
         (sym (value_by-own (kind_in params x.form) params x bytes place other) ∙ is) class
 
 -- and one that says where a line table or a macro unit starts
-class-field : (class : ValueClass) (n place : ℕ) → is_line_start names_line_table class n ≡ true → listed_field place n (use_of_number class n true) ≡ field_place place n offset_field ∷ []
+class-field : (class : ValueClass) (n place : ℕ) → is_line_start NamesLineTable class n ≡ true → listed_field place n (use_of_number class n true) ≡ field_place place n offset_field ∷ []
 class-field SecOffset n place e = refl
 class-field Number n place e = ap (λ (b : Bool). listed_field place n (Some (if b then offset_field else plain_field))) e
 class-field Address n place e = absurd cc

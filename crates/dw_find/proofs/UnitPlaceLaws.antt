@@ -1,19 +1,14 @@
 -- The macro units of a view that were read start at the places that are kept: their first section, and each as one number.
-use Rattle.std.proofs.Common.{◌≡◌, ℕ, suc, ◌+◌, ◌^◌, ◌<◌, ◌≤◌, List, [], ◌∷◌, ◌++◌, length, get_or, slice_index, drop, nat_le, Some, refl, sym, ap, ◌∙◌, subst, arith, append_assoc, append-nil}
+use Rattle.std.proofs.Common.{◌≡◌, ℕ, suc, ◌+◌, ◌^◌, ◌<◌, ◌≤◌, List, [], ◌∷◌, ◌++◌, length, get_or, drop, refl, sym, ap, ◌∙◌, subst, arith, append_assoc, append-nil}
 use Rattle.std.proofs.Math.Seq.{drop-cons}
-use Rattle.std.proofs.lemmas.Bool.{leb-true}
 use Rattle.std.proofs.lemmas.List.{drop_all}
 use Rattle.dw_base.specs.Cells.{CellSection}
 use Rattle.dw_base.specs.DebugData.{started_unit}
 use Rattle.dw_base.specs.FileViews.{View, section_bytes}
-use Rattle.dw_base.specs.MacroHeaders.{header_of, macro_header}
 use Rattle.dw_base.specs.MacroReadings.{MacroStart, first_macros}
-use Rattle.dw_base.specs.Numbers.{spelled}
 use Rattle.dw_base.specs.ViewData.{debug_data, located}
 use Rattle.dw_base.specs.declared.debug_sections.DebugSection.TheVariants.{Macro}
-use Rattle.dw_base.specs.declared.macro_units.MacroHeader.{MacroHeader}
 use Rattle.dw_base.specs.declared.macro_units.MacroUnit.{MacroUnit}
-use Rattle.dw_meaning.proofs.LineReadLaws.{if-some}
 use Rattle.dw_meaning.proofs.MacroFirstLaws.{first-macros}
 use Rattle.dw_macros.specs.MacroEvents.{IsUnitIn}
 use Rattle.dw_find.specs.IndexedTexts.{UnitsStart}
@@ -25,18 +20,11 @@ use Rattle.dw_find.proofs.MacroNameLaws.{units-in}
 use Rattle.dw_find.proofs.MacroStartLaws.{Any, all-cells, any-asked}
 use Rattle.dw_find.proofs.UnitKeyLaws.{keys-append, keys-rise, numbered, starts-all}
 use Rattle.dw_find.proofs.MacroLoopLaws.{unit-at}
-
--- a unit starts in its section
-header-inside : (v : View) (section start : ℕ) (h : MacroHeader) → macro_header v.order (section_bytes v section) start ≡ Some h → start + 3 ≤ length (section_bytes v section)
-unfolding macro_header
-header-inside v section start h e =
-    leb-true (start + 3) (length (section_bytes v section))
-    (if-some (nat_le (start + 3) (length (section_bytes v section)))
-    (header_of (section_bytes v section) (spelled v.order (section_bytes v section) start 2) (slice_index (section_bytes v section) (start + 2)) (start + 3)) h e).0
+use Rattle.dw_base.proofs.MacroRowLaws.{macro_header-inside}
 
 pub start-below : (v : View) (u : MacroUnit) (bytes : List ℕ) → IsUnitIn v u → bytes ≡ section_bytes v u.section → length bytes ≤ 2 ^ 31 → u.start < place_limit
 start-below v u bytes is same small =
-    let inside = header-inside v u.section is.start is.is.header is.is.header_is in
+    let inside = macro_header-inside v.order (section_bytes v u.section) is.start is.is.header is.is.header_is in
     let size : length bytes ≡ length (section_bytes v u.section) = ap length same in
     let own : u.start ≡ is.start = ap (λ (x : MacroUnit). x.start) is.is.is in
     omega (arith, inside, size, own, small)

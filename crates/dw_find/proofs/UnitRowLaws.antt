@@ -20,11 +20,11 @@ use Rattle.dw_entries.specs.Fronts.{IsOfView}
 use Rattle.dw_entries.specs.HeaderRows.{HeadersRefuse, offsets, units}
 use Rattle.dw_entries.specs.ViewUnits.{IsUnitSection, numbered, unit_base, unit_section_at}
 use Rattle.dw_entries.proofs.UnitSectionLaws.{is-of-view}
-use Rattle.dw_find.specs.EntryTexts.{Tables, TextTables, Found, none_found}
+use Rattle.dw_find.specs.EntryTexts.{Tables, TextTables, FoundTexts, none_found}
 use Rattle.dw_find.specs.NamedSlots.{Slots, TakesIndexes}
 use Rattle.dw_find.specs.TextPlaces.{base_source, number_said}
 use Rattle.dw_find.specs.UnitTexts.{OneTaken, ScanTaken, UnitRefuses, UnitsRefuse, data_fails, header_fails, tables_of, texts_of}
-use Rattle.dw_find.proofs.HeaderLaws.{header-of}
+use Rattle.dw_base.proofs.HeaderOfLaws.{header-of}
 use Rattle.dw_find.proofs.RowLaws.{unit-row}
 use Rattle.dw_find.proofs.SectionTextLaws.{SectionPass, section-starts, section-more, section-ends, unit-there, Stands, stands-numbered}
 
@@ -71,7 +71,7 @@ one-row d z h t table f u same declares b =
     unit-row d z h table f (record { unit = u; declares = declares }) (unit-section d z h u)
     (subst (λ (x : Tables). Blames (UnitRefuses x h table (bytes_up_to z h)) f) same b)
 
-pub one-taken : (d : DebugData) (z : UnitSection) (h : UnitHeader) (t : Tables) (table : List Abbreviation) (old found new : Found) (before now : Slots) → t ≡ tables_of d z
+pub one-taken : (d : DebugData) (z : UnitSection) (h : UnitHeader) (t : Tables) (table : List Abbreviation) (old found new : FoundTexts) (before now : Slots) → t ≡ tables_of d z
     → IsUnitTable d.base h table → ScanTaken t h table (bytes_up_to z h) old found → TakesIndexes h.section (number_said (base_source d) z.contents found.base) found.indexes before now
     → new ≡ none_found found.paths → OneTaken d z h old new before now
 one-taken d z h t table old found new before now same declares s slots ends = record {
@@ -86,7 +86,7 @@ one-taken d z h t table old found new before now same declares s slots ends = re
 pub ruleset one_rules = (one-taken, elsewhere-row, unit-table)
 
 -- the next unit of a section of a view, and its section
-own-unit : (v : View) (section : ℕ) (list : List UnitHeader) (i : ℕ) (found : Found) (first now : Slots) (h : UnitHeader) → IsUnitSection v section → i < length list
+own-unit : (v : View) (section : ℕ) (list : List UnitHeader) (i : ℕ) (found : FoundTexts) (first now : Slots) (h : UnitHeader) → IsUnitSection v section → i < length list
     → h ≡ get_or list i h → SectionPass (debug_data v) (unit_section_at v section) list i found first now → HasUnit (debug_data v) (unit_section_at v section) h
 own-unit v section list i found first now h there lt is p =
     unit-there (debug_data v) (unit_section_at v section) list i section found first now h (data-numbered v section (unit_section_at v section) there) lt is p
@@ -95,7 +95,7 @@ own-section : (v : View) (section : ℕ) (h : UnitHeader) → IsUnitSection v se
 own-section v section h there u = unit-section (debug_data v) (unit_section_at v section) h u ∙ (is-of-view v section there).number
 
 -- one unit more of a section of a view
-pub units-more : (v : View) (section : ℕ) (list : List UnitHeader) (i : ℕ) (old new : Found) (first now next_slots : Slots) (h : UnitHeader) → IsUnitSection v section
+pub units-more : (v : View) (section : ℕ) (list : List UnitHeader) (i : ℕ) (old new : FoundTexts) (first now next_slots : Slots) (h : UnitHeader) → IsUnitSection v section
     → i < length list → h ≡ get_or list i h → SectionPass (debug_data v) (unit_section_at v section) list i old first now
     → OneTaken (debug_data v) (unit_section_at v h.section) h old new now next_slots
     → SectionPass (debug_data v) (unit_section_at v section) list (i + 1) new first next_slots
@@ -108,7 +108,7 @@ units-more v section list i old new first now next_slots h there lt is p one =
     (unit-section (debug_data v) (unit_section_at v section) h u) p own
 
 -- the next unit of a section of a view
-pub units-there : (v : View) (section : ℕ) (list : List UnitHeader) (i : ℕ) (found : Found) (first now : Slots) (h : UnitHeader) → IsUnitSection v section → i < length list
+pub units-there : (v : View) (section : ℕ) (list : List UnitHeader) (i : ℕ) (found : FoundTexts) (first now : Slots) (h : UnitHeader) → IsUnitSection v section → i < length list
     → h ≡ get_or list i h → SectionPass (debug_data v) (unit_section_at v section) list i found first now → HasUnit (debug_data v) (unit_section_at v h.section) h
 units-there v section list i found first now h there lt is p =
     let u : HasUnit (debug_data v) (unit_section_at v section) h = own-unit v section list i found first now h there lt is p in
@@ -126,7 +126,7 @@ section-row v section (Refused r) there b =
     by_row s (offsets f) = header_fails s.before s.behind (unit_section_at v section) s.is f
 
 -- and its texts
-pub units-tables : (v : View) (section : ℕ) (list : List UnitHeader) (i : ℕ) (found : Found) (first now : Slots) (h : UnitHeader) (x : TextTables) (t : Tables) → IsUnitSection v section
+pub units-tables : (v : View) (section : ℕ) (list : List UnitHeader) (i : ℕ) (found : FoundTexts) (first now : Slots) (h : UnitHeader) (x : TextTables) (t : Tables) → IsUnitSection v section
     → i < length list → h ≡ get_or list i h → SectionPass (debug_data v) (unit_section_at v section) list i found first now → x ≡ texts_of (debug_data v)
     → t ≡ record { order = v.order; number = section; cells = view_cells v section; str = x.str; line_str = x.line_str }
     → t ≡ tables_of (debug_data v) (unit_section_at v h.section)

@@ -1,6 +1,7 @@
 -- A pass over the entries of a unit, entry by entry.
 use Rattle.std.proofs.Common.{◌≡◌, ℕ, ◌+◌, ◌≤◌, List, length, Some, sym, ap, ◌∙◌, subst}
 use Rattle.dw_abbrev.specs.Coded.{index_of_code}
+use Rattle.dw_base.proofs.LebLaws.{uleb-inside}
 use Rattle.dw_base.specs.AbbreviationTables.{Abbreviation, abbreviation_of}
 use Rattle.dw_base.specs.Lebs.{uleb_at}
 use Rattle.dw_base.specs.Refusals.{Blames}
@@ -9,13 +10,13 @@ use Rattle.dw_base.specs.declared.fault.Fault.TheVariants.{NoMemory, Refused}
 use Rattle.dw_base.specs.declared.shared.Params.{Params}
 use Rattle.dw_base.specs.declared.units.Scanned.{Scanned}
 use Rattle.dw_base.specs.declared.values.Spec.{Spec}
-use Rattle.dw_meaning.proofs.ValueCutLaws.{uleb-inside}
 use Rattle.dw_entries.specs.CodedEntries.{HasCode}
 use Rattle.dw_find.specs.EntryTexts.{Tables, AreTaken, ValuesRefuse}
 use Rattle.dw_find.specs.QuietValues.{AreLooked}
-use Rattle.dw_find.specs.TextPlaces.{values_places, places_behind, places_by, entry_places}
+use Rattle.dw_find.specs.TextPlaces.{values_places, entry_places, of_entry, of_value}
 use Rattle.dw_find.specs.UnitTexts.{TakenOf, TakenBy, EntryTaken, EntryRefuses, values}
 use Rattle.dw_find.proofs.QuietLaws.{places-left, taken-left, refuses-left}
+use Rattle.dw_meaning.specs.PieceRuns.{listed_out, coded_out}
 
 -- the values of an entry begin in the bytes
 pub values-inside : (table : List Abbreviation) (bytes : List ℕ) (e : Scanned) (index from : ℕ) → HasCode table bytes e index from → from ≤ length bytes
@@ -31,7 +32,7 @@ pub places-listed : (params : Params) (table : List Abbreviation) (bytes : List 
     → values_places params bytes number a.tag a.specs (e.offset + size) ≡ entry_places params table bytes number e
 unfolding entry_places
 places-listed params table bytes number e a code size is listed =
-    sym (ap (places_by params table bytes number e.offset) is ∙ ap (places_behind params bytes number (e.offset + size)) listed)
+    sym (ap (coded_out of_entry (of_value bytes) params table bytes number e) is ∙ ap (listed_out of_entry (of_value bytes) params bytes number e (e.offset + size)) listed)
 
 -- and of those that are looked at
 pub places-given : (params : Params) (table : List Abbreviation) (bytes : List ℕ) (number : ℕ) (e : Scanned) (index from tag : ℕ) (specs : List Spec)

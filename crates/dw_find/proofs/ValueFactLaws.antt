@@ -3,7 +3,7 @@ use Rattle.std.proofs.Common.{Bool, true, false, ◌≡◌, ◌⊎◌, inl, inr,
 use Rattle.std.specs.Prelude.{ℤ, nat_le}
 use Rattle.std.specs.Bool.{⊤}
 use Rattle.std.proofs.lemmas.Bool.{leb-true}
-use Rattle.dw_base.specs.Forms.{TextSection, in_str, in_line_str, ValueKind, number_of, leb_number, signed_leb, block_of, counted, counted_leb, inline_text, text_offset, present, in_abbreviation, form_in_front, supplementary, unlisted, kind_in, width_size}
+use Rattle.dw_base.specs.Forms.{ValueKind, number_of, leb_number, signed_leb, block_of, counted, counted_leb, inline_text, text_offset, present, in_abbreviation, form_in_front, supplementary, unlisted, kind_in, width_size}
 use Rattle.dw_base.specs.Lebs.{uleb_at, sleb_at}
 use Rattle.dw_base.specs.Numbers.{spelled, number_at}
 use Rattle.dw_base.specs.Values.{value_of, value_at, number_value, offset_class}
@@ -16,12 +16,14 @@ use Rattle.dw_base.specs.declared.values.ValueClass.{ValueClass}
 use Rattle.dw_base.specs.declared.values.ValueClass.TheVariants.{InlineText, StrOffset, LineStrOffset, Signed, Bytes, Flag}
 use Rattle.dw_base.proofs.FormLaws.{value_by-own}
 use Rattle.dw_base.proofs.FormSizeLaws.{is_sized, offset_sized, offset-size}
+use Rattle.dw_base.specs.TableStarts.{is_start_form, own_form}
+use Rattle.dw_base.specs.declared.texts.TextSection.{TextSection}
+use Rattle.dw_base.specs.declared.texts.TextSection.TheVariants.{InStr, InLineStr}
 use Rattle.dw_meaning.proofs.ValueCutLaws.{value_of-own}
 use Rattle.dw_find.specs.EntryTexts.{OffsetLies, OffsetSized}
-use Rattle.dw_find.specs.TextPlaces.{is_start_form, own_form}
-use Rattle.dw_find.proofs.StartFormLaws.{StartKind, chosen-form, plain-form, start-kind}
+use Rattle.dw_base.proofs.StartFormLaws.{StartKind, chosen-form, plain-form, start-kind}
 use Rattle.dw_find.proofs.ValuePlaceLaws.{is_plain_kind, kind_plain, is_plain_class, leb_plain, number-fields, leb-class, signed-class, block-class, counted-class, counted_leb-class, bare-class, text-fields}
-use Rattle.dw_find.proofs.ValueRunLaws.{is_front, Chosen, chosen-read}
+use Rattle.dw_meaning.proofs.ScanPieceLaws.{is_front, Chosen, chosen-read}
 
 -- a field of four or eight bytes in the bytes, and its number
 pub record OffsetRead (params : Params) (bytes : List ℕ) (v : Value) : Type 0 where
@@ -97,10 +99,10 @@ text-facts params bytes v e = subst (λ (c : ValueClass). OffsetFacts c params b
 
 offset-facts : (table : TextSection) (params : Params) (bytes : List ℕ) (at n : ℕ) (v : Value) → n ≡ width_size params.width
     → number_value (offset_class table) at n (number_at params.order bytes at n) ≡ Some v → OffsetFacts v.class params bytes v
-offset-facts in_str params bytes at n v size e =
+offset-facts InStr params bytes at n v size e =
     subst (λ (c : ValueClass). OffsetFacts c params bytes v) (sym (number-fields StrOffset at n (number_at params.order bytes at n) v e).class_is)
     (number-read params StrOffset bytes at n v size e)
-offset-facts in_line_str params bytes at n v size e =
+offset-facts InLineStr params bytes at n v size e =
     subst (λ (c : ValueClass). OffsetFacts c params bytes v) (sym (number-fields LineStrOffset at n (number_at params.order bytes at n) v e).class_is)
     (number-read params LineStrOffset bytes at n v size e)
 

@@ -14,7 +14,7 @@ use Rattle.dw_base.proofs.ClassLaws.{is_proper, form-proper, value-class, inline
 use Rattle.dw_base.proofs.FormLaws.{value_by-own}
 use Rattle.dw_meaning.proofs.ValueCutLaws.{value_of-own}
 use Rattle.dw_find.proofs.ValuePlaceLaws.{text-fields}
-use Rattle.dw_find.proofs.ValueRunLaws.{is_front, Chosen, chosen-read}
+use Rattle.dw_meaning.proofs.ScanPieceLaws.{is_front, Chosen, chosen-read}
 
 -- the text lies in the bytes, and is the one there
 pub record TextRead (bytes : List ℕ) (v : Value) : Type 0 where

@@ -21,19 +21,19 @@ use Rattle.dw_base.specs.declared.fault.Refusal.{Refusal}
 use Rattle.dw_base.specs.declared.string_offsets.Contribution.{Contribution}
 use Rattle.dw_base.specs.NameOffsets.{NamesRefuse}
 use Rattle.dw_offsets.specs.PathSlots.{SlotsTaken, slots_in}
-use Rattle.dw_offsets.specs.declared.slot_fields.PathSlot.{PathSlot}
 use Rattle.dw_find.specs.IndexedTexts.{TextsRefuse}
 use Rattle.dw_find.specs.ViewFields.{AllHaveOffsets, AllHavePlaces, AllRoomsFit}
-use Rattle.dw_find.specs.SlotPaths.{as_fields, lines_count, slots_of_view, slots_read}
+use Rattle.dw_find.specs.SlotPaths.{lines_count, slots_of_view, slots_read}
 use Rattle.dw_find.specs.TextPlaces.{AllPlaced, AllFitRooms}
 use Rattle.dw_find.specs.NamedStarts.{AllStarts}
-use Rattle.dw_find.specs.UnitPaths.{UnitPaths, paths_of}
+use Rattle.dw_find.specs.SectionFields.{SectionFields, paths_of}
 use Rattle.dw_find.specs.UnitPlaces.{UnitPlaces}
 use Rattle.dw_find.specs.MacroSections.{macros_read}
 use Rattle.dw_find.specs.UnitTexts.{UnitsRefuse}
 use Rattle.dw_find.specs.ViewLines.{lines_of_view}
 use Rattle.dw_base.specs.UnitHeaders.{UnitSection}
 use Rattle.dw_base.specs.declared.debug_sections.DebugSection.TheVariants.{Info, StrOffsets}
+use Rattle.dw_base.specs.declared.texts.TextField.{TextField}
 
 -- the offsets in the headers of all units can be read
 pub record HeadersRead (d : DebugData) : Type 0 where
@@ -41,7 +41,7 @@ pub record HeadersRead (d : DebugData) : Type 0 where
 
 -- the unit sections of debug data can be read, with the offsets in the headers of units, and say this of paths, each path that stands in its
 -- value fits its room, and each value that is to say where a line table or a macro unit starts names one of these starts or places
-pub record UnitsFound (m : PathMap) (d : DebugData) (starts : List ℕ) (places : UnitPlaces) (us : List UnitPaths) : Type 0 where
+pub record UnitsFound (m : PathMap) (d : DebugData) (starts : List ℕ) (places : UnitPlaces) (us : List SectionFields) : Type 0 where
   pub headers : HeadersRead d
   pub placed : AllPlaced d (d.found Info) us
   pub fits : AllFitRooms m (d.found Info) us
@@ -53,19 +53,19 @@ pub data UnitPathsRefuse (m : PathMap) (d : DebugData) (list : List Contribution
   inline : {r : Refusal} → InlineFails m d r → UnitPathsRefuse m d list r
 
 -- what the slots say of paths was put behind what the units say
-pub record SlotsFound (m : PathMap) (v : View) (list : List Contribution) (marks : List ℕ) (old new : List UnitPaths) : Type 0 where
-  pub fields : List PathSlot
+pub record SlotsFound (m : PathMap) (v : View) (list : List Contribution) (marks : List ℕ) (old new : List SectionFields) : Type 0 where
+  pub fields : List TextField
   pub taken : SlotsTaken m (slots_in v) marks (slots_of list) [] fields
-  pub is : new ≡ old ++ slots_of_view v (as_fields fields)
+  pub is : new ≡ old ++ slots_of_view v fields
 
 -- the sections without that of line tables, which is the last, if there is one
-abbrev pub without_lines : View → List UnitPaths → List UnitPaths
+abbrev pub without_lines : View → List SectionFields → List SectionFields
 without_lines v us = take (length us - lines_count v) us
 
 -- the debug data of a view can be read, its relocations are ones that may stand there, its line tables are these, its paths fit the rooms in which they stand, and its slots can be mapped;
 -- its unit sections say this of paths, behind them its slots, behind these its macro units, and behind these its line tables. All of these
 -- are fields of the view, by the cells of its sections.
-pub record PathsFound (m : PathMap) (v : View) (us : List UnitPaths) (ts : List LineTable) : Type 0 where
+pub record PathsFound (m : PathMap) (v : View) (us : List SectionFields) (ts : List LineTable) : Type 0 where
   pub readings : DataReadings
   pub reads : DataReads (debug_data v) readings
   pub inline : EachReading (InlineFits m) readings.units

@@ -5,7 +5,7 @@ use Rattle.dw_base.specs.Paths.{PathMap}
 use Rattle.dw_base.specs.Refusals.{at}
 use Rattle.dw_base.specs.declared.fault.Kind.TheVariants.{InlineGrows}
 use Rattle.dw_base.specs.declared.fault.Refusal.{Refusal}
-use Rattle.dw_find.specs.UnitPaths.{inline_text}
+use Rattle.dw_find.specs.SectionFields.{inline_text}
 use Rattle.dw_find.specs.declared.fields.InlinePath.{InlinePath}
 
 -- the rooms of paths lie in the section

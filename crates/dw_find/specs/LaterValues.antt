@@ -8,7 +8,7 @@ use Rattle.dw_base.specs.declared.shared.Params.{Params}
 use Rattle.dw_base.specs.declared.values.Spec.{Spec}
 use Rattle.dw_base.specs.declared.values.Value.{Value}
 use Rattle.dw_base.specs.declared.values.ValueClass.TheVariants.{StrOffset}
-use Rattle.dw_find.specs.EntryTexts.{Found, IsTaken, Tables, offset_in, with_places}
+use Rattle.dw_find.specs.EntryTexts.{FoundTexts, IsTaken, Tables, offset_in, with_places}
 use Rattle.dw_find.specs.TextPlaces.{value_places}
 
 -- the value of an attribute at a place of some bytes takes so many bytes and can be taken; of an entry that isn't its unit's first, what it says is
@@ -18,7 +18,7 @@ pub record IsLater (t : Tables) (params : Params) (bytes : List ℕ) (x : Spec) 
   pub is : value_at params x bytes place ≡ Some value
   pub size_is : size ≡ value.size
   pub taken : IsTaken t value
-  pub nothing : (number tag : ℕ) (f : Found) → number ≢ 0 → f ≡ with_places f (value_places number tag x bytes place value)
+  pub nothing : (number tag : ℕ) (f : FoundTexts) → number ≢ 0 → f ≡ with_places f (value_places number tag x bytes place value)
 
 -- an offset into `.debug_str` of this number
 abbrev pub str_field : ℕ → ℕ → ℕ → Value

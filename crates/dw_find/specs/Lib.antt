@@ -1,5 +1,5 @@
 pub mod Fields
-pub mod UnitPaths
+pub mod SectionFields
 pub mod MacroSections
 pub mod UnitPlaces
 pub mod TextPlaces

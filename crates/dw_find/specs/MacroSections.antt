@@ -16,8 +16,8 @@ use Rattle.dw_base.specs.declared.shared.Width.{Width}
 use Rattle.dw_base.specs.MacroOffsets.{AreReadUnits, UnitsRefuse}
 use Rattle.dw_base.specs.declared.debug_sections.DebugSection.{DebugSection}
 use Rattle.dw_base.specs.declared.debug_sections.DebugSection.TheVariants.{Line, Macro}
-use Rattle.dw_find.specs.UnitPaths.{UnitPaths, start_by, lists_by}
-use Rattle.dw_find.specs.declared.fields.PathField.{PathField}
+use Rattle.dw_base.specs.declared.texts.TextField.{TextField}
+use Rattle.dw_find.specs.SectionFields.{SectionFields, start_by, lists_by}
 
 -- a section of macro units: its number, and its units
 pub record SectionUnits : Type 0 where
@@ -46,32 +46,32 @@ first_section [] = 0
 first_section (s ∷ ss) = s.number
 
 -- the field of the offset of a unit's line table, where it has one
-abbrev pub line_field : Option ℕ → ℕ → Width → List PathField
+abbrev pub line_field : Option ℕ → ℕ → Width → List TextField
 line_field None at w = []
 line_field (Some line) at w = record { at = at; size = width_size w } ∷ []
 
-abbrev pub line_fields : List MacroUnit → List PathField
+abbrev pub line_fields : List MacroUnit → List TextField
 line_fields [] = []
 line_fields (u ∷ us) = line_field u.line u.line_field u.width ++ line_fields us
 
 -- what a section of macro units says of paths and line tables: where these start, by the fields of their offsets into `.debug_line`
-abbrev pub starts_into : List PathField → DebugSection → List PathField
+abbrev pub starts_into : List TextField → DebugSection → List TextField
 starts_into fields Line = fields
 starts_into fields s = []
 
-abbrev pub macros_with : ℕ → List PathField → UnitPaths
+abbrev pub macros_with : ℕ → List TextField → SectionFields
 macros_with number starts = record { number = number; fields = lists_by (starts_into starts); inline = []; stray = None }
 
-abbrev pub macros_of : List SectionUnits → List UnitPaths
+abbrev pub macros_of : List SectionUnits → List SectionFields
 macros_of [] = []
 macros_of (s ∷ ss) = macros_with s.number (line_fields s.units) ∷ macros_of ss
 
 -- the same by what was read
-abbrev pub macro_starts : List (Piece MacroState) → List PathField
+abbrev pub macro_starts : List (Piece MacroState) → List TextField
 macro_starts [] = []
 macro_starts (x ∷ xs) = start_by (macro_role x.state) x.state.place (length x.cells) ++ macro_starts xs
 
-abbrev pub macros_read : List MacroReading → List UnitPaths
+abbrev pub macros_read : List MacroReading → List SectionFields
 macros_read [] = []
 macros_read (r ∷ rs) = macros_with r.number (macro_starts r.pieces) ∷ macros_read rs
 

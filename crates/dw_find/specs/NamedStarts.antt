@@ -8,12 +8,12 @@ use Rattle.dw_base.specs.UnitHeaders.{UnitSection}
 use Rattle.dw_base.specs.ViewData.{located}
 use Rattle.dw_base.specs.declared.debug_sections.DebugSection.TheVariants.{Line, Macro}
 use Rattle.dw_base.specs.declared.shared.Order.{Order}
+use Rattle.dw_base.specs.declared.texts.TextField.{TextField}
 use Rattle.dw_find.specs.UnitPlaces.{UnitPlaces, names_place}
-use Rattle.dw_find.specs.UnitPaths.{UnitPaths, fields_into}
-use Rattle.dw_find.specs.declared.fields.PathField.{PathField}
+use Rattle.dw_find.specs.SectionFields.{SectionFields, fields_into}
 
 -- this says each of these fields of a section, by its cells
-abbrev pub FieldsSay : (List Cell → Bool) → List Cell → List PathField → Type 0
+abbrev pub FieldsSay : (List Cell → Bool) → List Cell → List TextField → Type 0
 FieldsSay says cells [] = ⊤
 FieldsSay says cells (f ∷ fs) = IsTrue (says (cells_at cells f.at f.size)) × FieldsSay says cells fs
 
@@ -26,25 +26,25 @@ abbrev pub says_unit : Order → UnitPlaces → List Cell → Bool
 says_unit order places p = names_place places (field_of order p)
 
 -- each value of a section of a view that is to say where a line table starts says one of these starts, and so does one of a macro unit
-pub record SectionStarts (v : View) (starts : List ℕ) (places : UnitPlaces) (u : UnitPaths) : Type 0 where
+pub record SectionStarts (v : View) (starts : List ℕ) (places : UnitPlaces) (u : SectionFields) : Type 0 where
   pub all_say : u.stray ≡ None
   pub there : FieldsSay (says_start v.order (located v Line) starts) (view_cells v u.number) (fields_into u Line)
   pub units : FieldsSay (says_unit v.order places) (view_cells v u.number) (fields_into u Macro)
 
 -- the same of the cells of a section of debug data
-abbrev pub StartsNamed : DebugData → List ℕ → List Cell → List PathField → Type 0
+abbrev pub StartsNamed : DebugData → List ℕ → List Cell → List TextField → Type 0
 StartsNamed d starts cells fs = FieldsSay (says_start d.base.order (located_cells (d.found Line)) starts) cells fs
 
-abbrev pub UnitsNamed : DebugData → UnitPlaces → List Cell → List PathField → Type 0
+abbrev pub UnitsNamed : DebugData → UnitPlaces → List Cell → List TextField → Type 0
 UnitsNamed d places cells fs = FieldsSay (says_unit d.base.order places) cells fs
 
-pub record SectionNamed (d : DebugData) (starts : List ℕ) (places : UnitPlaces) (z : UnitSection) (u : UnitPaths) : Type 0 where
+pub record SectionNamed (d : DebugData) (starts : List ℕ) (places : UnitPlaces) (z : UnitSection) (u : SectionFields) : Type 0 where
   pub all_say : u.stray ≡ None
   pub named : StartsNamed d starts z.contents (fields_into u Line)
   pub units : UnitsNamed d places z.contents (fields_into u Macro)
 
 -- in all sections
-abbrev pub AllStarts : DebugData → List ℕ → UnitPlaces → List UnitSection → List UnitPaths → Type 0
+abbrev pub AllStarts : DebugData → List ℕ → UnitPlaces → List UnitSection → List SectionFields → Type 0
 AllStarts d starts places [] us = ⊤
 AllStarts d starts places (z ∷ zs) [] = ⊤
 AllStarts d starts places (z ∷ zs) (u ∷ us) = SectionNamed d starts places z u × AllStarts d starts places zs us

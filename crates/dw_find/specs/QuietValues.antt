@@ -2,9 +2,9 @@
 -- over entries doesn't look at their values where none that may say something follows.
 use Rattle.std.specs.Prelude.{Bool, true, ◌≡◌, ◌≢◌, ℕ, ◌≤◌, ◌==◌, ◌&&◌, ◌||◌, not, List, [], ◌∷◌, ◌++◌, ⊤, length, drop, Some}
 use Rattle.dw_base.specs.AbbreviationTables.{Abbreviation, abbreviation_of}
+use Rattle.dw_base.specs.Roles.{is_start_name}
 use Rattle.dw_base.specs.declared.dwarf_numbers.TheConstants.{DW_FORM_indirect, DW_FORM_line_strp, DW_FORM_strp, DW_FORM_strx, DW_FORM_strx1, DW_FORM_strx2, DW_FORM_strx3, DW_FORM_strx4}
 use Rattle.dw_base.specs.declared.values.Spec.{Spec}
-use Rattle.dw_find.specs.TextPlaces.{is_start}
 
 -- a form whose values name texts, or stand behind their own form
 abbrev pub is_text_form : ℕ → Bool
@@ -14,7 +14,7 @@ is_text_form form =
 
 -- an attribute says nothing
 abbrev pub is_quiet : Spec → Bool
-is_quiet x = not (is_text_form x.form) && not (is_start x.name)
+is_quiet x = not (is_text_form x.form) && not (is_start_name x.name)
 
 -- all of these do
 abbrev pub AllQuiet : List Spec → Type 0

@@ -3,48 +3,43 @@ use Rattle.std.specs.Prelude.{ℕ, List, [], ◌∷◌, ◌++◌, length, Option
 use Rattle.dw_base.specs.DebugData.{DebugData, DataReadings, around_of, path_slots}
 use Rattle.dw_base.specs.DebugSections.{name_of}
 use Rattle.dw_base.specs.FileViews.{View, section_named}
-use Rattle.dw_base.specs.Forms.{TextSection, in_str}
 use Rattle.dw_base.specs.OffsetPieces.{OffsetState}
 use Rattle.dw_base.specs.Pieces.{Piece}
 use Rattle.dw_base.specs.SectionTexts.{slot_role}
 use Rattle.dw_base.specs.ViewData.{debug_data}
 use Rattle.dw_base.specs.declared.debug_sections.DebugSection.{DebugSection}
 use Rattle.dw_base.specs.declared.debug_sections.DebugSection.TheVariants.{Str, StrOffsets, Line}
-use Rattle.dw_offsets.specs.declared.slot_fields.PathSlot.{PathSlot}
-use Rattle.dw_find.specs.UnitPaths.{UnitPaths, field_by, lists_by}
-use Rattle.dw_find.specs.declared.fields.PathField.{PathField}
-
--- the fields of slots as fields of paths
-abbrev pub as_fields : List PathSlot → List PathField
-as_fields [] = []
-as_fields (s ∷ ss) = record { at = s.at; size = s.size } ∷ as_fields ss
+use Rattle.dw_base.specs.declared.texts.TextField.{TextField}
+use Rattle.dw_base.specs.declared.texts.TextSection.{TextSection}
+use Rattle.dw_base.specs.declared.texts.TextSection.TheVariants.{InStr}
+use Rattle.dw_find.specs.SectionFields.{SectionFields, field_by, lists_by}
 
 -- the fields of paths' offsets into a table among pieces of string offsets
-abbrev pub offset_fields : TextSection → List ℕ → List (Piece OffsetState) → List PathField
+abbrev pub offset_fields : TextSection → List ℕ → List (Piece OffsetState) → List TextField
 offset_fields table paths [] = []
 offset_fields table paths (x ∷ xs) = field_by table (slot_role paths x.state) x.state.place (length x.cells) ++ offset_fields table paths xs
 
 -- what a section of string offsets says of paths, by its number and these fields, which hold offsets into `.debug_str`
-abbrev pub slots_into : List PathField → DebugSection → List PathField
+abbrev pub slots_into : List TextField → DebugSection → List TextField
 slots_into fields Str = fields
 slots_into fields s = []
 
-abbrev pub slots_with : ℕ → List PathField → UnitPaths
+abbrev pub slots_with : ℕ → List TextField → SectionFields
 slots_with number fields = record { number = number; fields = lists_by (slots_into fields); inline = []; stray = None }
 
 -- the same of the section of a view, where there is one
-abbrev pub slots_by : Option ℕ → List PathField → List UnitPaths
+abbrev pub slots_by : Option ℕ → List TextField → List SectionFields
 slots_by None fields = []
 slots_by (Some number) fields = slots_with number fields ∷ []
 
-abbrev pub slots_of_view : View → List PathField → List UnitPaths
+abbrev pub slots_of_view : View → List TextField → List SectionFields
 slots_of_view v fields = slots_by (section_named v (name_of StrOffsets)) fields
 
 -- the fields of the slots that paths name, by what was read
-abbrev pub read_fields : DebugData → DataReadings → List PathField
-read_fields d r = offset_fields in_str (path_slots (around_of d r)) r.offsets
+abbrev pub read_fields : DebugData → DataReadings → List TextField
+read_fields d r = offset_fields InStr (path_slots (around_of d r)) r.offsets
 
-abbrev pub slots_read : View → DataReadings → List UnitPaths
+abbrev pub slots_read : View → DataReadings → List SectionFields
 slots_read v r = slots_of_view v (read_fields (debug_data v) r)
 
 -- how many sections of string offsets a view has: one or none

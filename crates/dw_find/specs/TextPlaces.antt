@@ -1,39 +1,40 @@
 -- What a pass over the entries of units meets of texts: where they stand, each place with its role, and the values that name them by
 -- index (DWARF 5, 7.5.5, class string), or say where line tables and macro units start (DWARF 5, 3.1.1); and what these places say of source paths.
 use Rattle.std.specs.Prelude.{Bool, true, false, ◌≡◌, ℕ, ◌+◌, ◌-◌, ◌==◌, ◌||◌, if◌then◌else◌, List, [], ◌∷◌, ◌++◌, IsTrue, ⊤, Option, Some, None, length}
-use Rattle.dw_base.specs.AbbreviationTables.{Abbreviation, abbreviation_of}
+use Rattle.dw_base.specs.AbbreviationTables.{Abbreviation}
 use Rattle.dw_base.specs.Cells.{Cell, Located, bytes_of, cells_at, located_cells, offset_of}
 use Rattle.dw_base.specs.DebugData.{DebugData}
 use Rattle.dw_base.specs.EntryScans.{AreEntries}
 use Rattle.dw_base.specs.EntryValues.{bytes_up_to}
-use Rattle.dw_base.specs.Forms.{TextSection, in_str, in_line_str, ValueKind, number_of, leb_number, kind_in}
+use Rattle.dw_base.specs.Forms.{ValueKind, number_of, leb_number, kind_in}
 use Rattle.dw_base.specs.InlinePaths.{inline_fits}
-use Rattle.dw_base.specs.Lebs.{uleb_at}
 use Rattle.dw_base.specs.Numbers.{spelled}
 use Rattle.dw_base.specs.Paths.{PathMap}
 use Rattle.dw_base.specs.Pieces.{Piece}
-use Rattle.dw_base.specs.Roles.{Role, fixed, offset, inline_path, line_start, role_of, is_path, use_of}
-use Rattle.dw_base.specs.TableStarts.{macro_value_by, start_form_by}
+use Rattle.dw_base.specs.Roles.{Role, fixed, offset, inline_path, line_start, role_of, is_macros, is_path, is_start_name, use_of}
+use Rattle.dw_base.specs.TableStarts.{is_start_form, macro_value_by, own_form, start_form_by}
 use Rattle.dw_base.specs.TextIndexes.{SaidBase, IndexUse, is_base}
 use Rattle.dw_base.specs.Texts.{ends_in}
 use Rattle.dw_base.specs.UnitHeaders.{UnitBase, UnitSection, IsUnit}
 use Rattle.dw_base.specs.UnitTables.{IsUnitTable}
-use Rattle.dw_base.specs.UnitStates.{Mode, at_values, at_chosen, UnitState, code_value, read_value}
-use Rattle.dw_base.specs.Values.{value_at}
+use Rattle.dw_base.specs.UnitStates.{Mode, at_values, at_chosen, UnitState, code_value}
 use Rattle.dw_base.specs.declared.debug_sections.DebugSection.{DebugSection}
 use Rattle.dw_base.specs.declared.debug_sections.DebugSection.TheVariants.{Str, LineStr, StrOffsets, Line, Macro}
-use Rattle.dw_base.specs.declared.dwarf_numbers.TheConstants.{DW_AT_GNU_macros, DW_AT_macros, DW_AT_stmt_list, DW_FORM_data4, DW_FORM_data8, DW_FORM_indirect, DW_FORM_sec_offset}
+use Rattle.dw_base.specs.declared.dwarf_numbers.TheConstants.{DW_AT_stmt_list}
 use Rattle.dw_base.specs.declared.shared.Order.{Order}
 use Rattle.dw_base.specs.declared.shared.Params.{Params}
+use Rattle.dw_base.specs.declared.texts.TextField.{TextField}
+use Rattle.dw_base.specs.declared.texts.TextSection.{TextSection}
+use Rattle.dw_base.specs.declared.texts.TextSection.TheVariants.{InStr, InLineStr}
 use Rattle.dw_base.specs.declared.units.Scanned.{Scanned}
 use Rattle.dw_base.specs.declared.units.UnitHeader.{UnitHeader}
 use Rattle.dw_base.specs.declared.values.Spec.{Spec}
 use Rattle.dw_base.specs.declared.values.Value.{Value}
 use Rattle.dw_base.specs.declared.values.ValueClass.{ValueClass}
 use Rattle.dw_base.specs.declared.values.ValueClass.TheVariants.{InlineText, Number, StrOffset, LineStrOffset, StrIndex, SecOffset}
-use Rattle.dw_find.specs.UnitPaths.{UnitPaths, field_by, inline_text, lists_by}
+use Rattle.dw_meaning.specs.PieceRuns.{entries_out, entry_out, values_out}
+use Rattle.dw_find.specs.SectionFields.{SectionFields, field_by, inline_text, lists_by}
 use Rattle.dw_find.specs.declared.fields.InlinePath.{InlinePath}
-use Rattle.dw_find.specs.declared.fields.PathField.{PathField}
 use Rattle.dw_find.specs.declared.fields.TextBase.{TextBase}
 use Rattle.dw_find.specs.declared.fields.TextBase.TheVariants.{Field as BaseField, Number as BaseNumber}
 use Rattle.dw_find.specs.declared.fields.TextIndex.{TextIndex}
@@ -109,21 +110,13 @@ places_in (x ∷ xs) =
 -- those of a value of a class that stands at a place, of an attribute that holds a path or not, and a unit's base or not, and of a form
 -- that can be an offset or not; an inline path has its NUL behind it
 abbrev pub class_places : ValueClass → Bool → Bool → Bool → ℕ → Value → List TextPlace
-class_places StrOffset path base field place v = record { role = offset in_str path; at = v.at; len = v.len; says = no_index } ∷ []
-class_places LineStrOffset path base field place v = record { role = offset in_line_str path; at = v.at; len = v.len; says = no_index } ∷ []
+class_places StrOffset path base field place v = record { role = offset InStr path; at = v.at; len = v.len; says = no_index } ∷ []
+class_places LineStrOffset path base field place v = record { role = offset InLineStr path; at = v.at; len = v.len; says = no_index } ∷ []
 class_places InlineText true base field place v = record { role = inline_path; at = v.at; len = v.len + 1; says = no_index } ∷ []
 class_places StrIndex path base field place v = indexed_at place (text_index path v.number)
 class_places Number path true field place v = said_base field place v.at v.len v.number
 class_places SecOffset path true field place v = said_base field place v.at v.len v.number
 class_places class path base field place v = []
-
--- the form of a value that stands at a place: its attribute's, or the one in front of it (DWARF 5, 7.5.3)
-abbrev pub own_form : Spec → List ℕ → ℕ → ℕ
-own_form x bytes place = if x.form == DW_FORM_indirect then read_value (uleb_at bytes place) else x.form
-
--- a form that can say where a line table or a macro unit starts (DWARF 5, 3.1.1; before version 4 a number of 4 or 8 bytes)
-abbrev pub is_start_form : ℕ → Bool
-is_start_form form = form == DW_FORM_sec_offset || form == DW_FORM_data4 || form == DW_FORM_data8
 
 -- the field of a value of a form that says where a line table starts, where it is to say that
 abbrev pub line_at : Bool → Value → List TextPlace
@@ -133,13 +126,6 @@ line_at false v = []
 abbrev pub line_places : Bool → ℕ → Value → List TextPlace
 line_places true form v = line_at (is_start_form form) v
 line_places false form v = []
-
--- an attribute of a name that says where a macro unit starts, and one that says where that or a line table does
-abbrev pub is_macros : ℕ → Bool
-is_macros name = name == DW_AT_macros || name == DW_AT_GNU_macros
-
-abbrev pub is_start : ℕ → Bool
-is_start name = name == DW_AT_stmt_list || is_macros name
 
 -- where a value begins that is to say a start, and its form can't; else the field of the start of a macro unit
 abbrev pub said_value : Bool → Bool → ℕ → Value → List TextPlace
@@ -156,35 +142,23 @@ abbrev pub value_places : ℕ → ℕ → Spec → List ℕ → ℕ → Value �
 value_places number tag x bytes place v =
     line_places (x.name == DW_AT_stmt_list) (own_form x bytes place) v
     ++ (class_places v.class (is_path number tag x.name) (is_base number x.name) (is_start_form (own_form x bytes place)) place v
-    ++ said_places (is_start x.name) (is_macros x.name) (own_form x bytes place) place v)
+    ++ said_places (is_start_name x.name) (is_macros x.name) (own_form x bytes place) place v)
 
--- those of the values of attributes that stand one after another from a place on
-abbrev pub value_places_behind : (ℕ → List TextPlace) → ℕ → ℕ → Spec → List ℕ → ℕ → Option Value → List TextPlace
-value_places_behind rest number tag x bytes place None = []
-value_places_behind rest number tag x bytes place (Some v) = value_places number tag x bytes place v ++ rest (place + v.size)
+-- those of the values of entries, of which the first has this number; an entry has none of its own
+abbrev pub of_entry : ℕ → ℕ → ℕ → Abbreviation → List TextPlace
+of_entry number place depth a = []
+
+abbrev pub of_value : List ℕ → ℕ → ℕ → Spec → ℕ → Value → List TextPlace
+of_value bytes number tag x place v = value_places number tag x bytes place v
 
 abbrev pub values_places : Params → List ℕ → ℕ → ℕ → List Spec → ℕ → List TextPlace
-values_places params bytes number tag [] place = []
-values_places params bytes number tag (x ∷ xs) place =
-    value_places_behind (λ p. values_places params bytes number tag xs p) number tag x bytes place (value_at params x bytes place)
-
--- those of entry `number`, whose code stands at a place
-abbrev pub places_behind : Params → List ℕ → ℕ → ℕ → Option Abbreviation → List TextPlace
-places_behind params bytes number place None = []
-places_behind params bytes number place (Some a) = values_places params bytes number a.tag a.specs place
-
-abbrev pub places_by : Params → List Abbreviation → List ℕ → ℕ → ℕ → Option (ℕ × ℕ) → List TextPlace
-places_by params table bytes number place None = []
-places_by params table bytes number place (Some (code, size)) = places_behind params bytes number (place + size) (abbreviation_of table code)
+values_places params bytes number tag xs place = values_out (of_value bytes) params bytes number tag xs place
 
 unfoldable pub entry_places : Params → List Abbreviation → List ℕ → ℕ → Scanned → List TextPlace
-entry_places params table bytes number x = places_by params table bytes number x.offset (uleb_at bytes x.offset)
+entry_places params table bytes number x = entry_out of_entry (of_value bytes) params table bytes number x
 
--- those of entries, of which the first has this number
 abbrev pub entries_places : Params → List Abbreviation → List ℕ → ℕ → List Scanned → List TextPlace
-entries_places params table bytes number [] = []
-entries_places params table bytes number (x ∷ xs) =
-    entry_places params table bytes number x ++ entries_places params table bytes (number + 1) xs
+entries_places params table bytes number xs = entries_out of_entry (of_value bytes) params table bytes number xs
 
 -- what the values of a unit in the section of a number, of these cells, say
 pub record UnitSays : Type 0 where
@@ -208,8 +182,8 @@ ArePlaced base z list places units = UnitsPlaced base z list (length z.contents)
 
 -- an offset at a place names a text that ends in its table
 abbrev pub PlaceNames : Role → DebugData → List Cell → Type 0
-PlaceNames (offset in_str path) d p = IsTrue (ends_in (d.found Str).bytes (offset_of d.base.order (d.found Str) p))
-PlaceNames (offset in_line_str path) d p = IsTrue (ends_in (d.found LineStr).bytes (offset_of d.base.order (d.found LineStr) p))
+PlaceNames (offset InStr path) d p = IsTrue (ends_in (d.found Str).bytes (offset_of d.base.order (d.found Str) p))
+PlaceNames (offset InLineStr path) d p = IsTrue (ends_in (d.found LineStr).bytes (offset_of d.base.order (d.found LineStr) p))
 PlaceNames r d p = ⊤
 
 -- each offset at these places does
@@ -218,7 +192,7 @@ PlacesName d cells [] = ⊤
 PlacesName d cells (t ∷ ts) = PlaceNames t.role d (cells_at cells t.at t.len) × PlacesName d cells ts
 
 -- the fields of paths' offsets into a table among these places
-abbrev pub fields_in : TextSection → List TextPlace → List PathField
+abbrev pub fields_in : TextSection → List TextPlace → List TextField
 fields_in table [] = []
 fields_in table (t ∷ ts) = field_by table t.role t.at t.len ++ fields_in table ts
 
@@ -232,27 +206,27 @@ inline_in [] = []
 inline_in (t ∷ ts) = inline_at t.role t.at t.len ++ inline_in ts
 
 -- the fields that say where line tables start
-abbrev pub start_at : Role → ℕ → ℕ → List PathField
+abbrev pub start_at : Role → ℕ → ℕ → List TextField
 start_at line_start at len = record { at = at; size = len } ∷ []
 start_at r at len = []
 
-abbrev pub starts_in : List TextPlace → List PathField
+abbrev pub starts_in : List TextPlace → List TextField
 starts_in [] = []
 starts_in (t ∷ ts) = start_at t.role t.at t.len ++ starts_in ts
 
 -- those that say where macro units start
-abbrev pub unit_start_at : ℕ → ℕ → Indexed → List PathField
+abbrev pub unit_start_at : ℕ → ℕ → Indexed → List TextField
 unit_start_at at len unit_start = record { at = at; size = len } ∷ []
 unit_start_at at len i = []
 
-abbrev pub macros_in : List TextPlace → List PathField
+abbrev pub macros_in : List TextPlace → List TextField
 macros_in [] = []
 macros_in (t ∷ ts) = unit_start_at t.at t.len t.says ++ macros_in ts
 
 -- the fields among these places that hold offsets into a section of debug data
-abbrev pub places_into : List TextPlace → DebugSection → List PathField
-places_into ts Str = fields_in in_str ts
-places_into ts LineStr = fields_in in_line_str ts
+abbrev pub places_into : List TextPlace → DebugSection → List TextField
+places_into ts Str = fields_in InStr ts
+places_into ts LineStr = fields_in InLineStr ts
 places_into ts Line = starts_in ts
 places_into ts Macro = macros_in ts
 places_into ts s = []
@@ -340,7 +314,7 @@ numbered_bases g unit [] = []
 numbered_bases g unit (u ∷ us) = bases_among g u.cells unit u.places ++ numbered_bases g (unit + 1) us
 
 -- what a unit section says of paths, by its number and its places of texts
-abbrev pub paths_by : ℕ → List TextPlace → UnitPaths
+abbrev pub paths_by : ℕ → List TextPlace → SectionFields
 paths_by number ts = record {
   number = number;
   fields = lists_by (places_into ts);
@@ -355,14 +329,14 @@ pub record SectionPlaced (base : UnitBase) (z : UnitSection) (ts : List TextPlac
   pub placed : ArePlaced base z list ts units
 
 -- the units of a section can be read, each offset names a text, and they say this of paths
-pub record SectionSays (d : DebugData) (z : UnitSection) (u : UnitPaths) : Type 0 where
+pub record SectionSays (d : DebugData) (z : UnitSection) (u : SectionFields) : Type 0 where
   pub places : List TextPlace
   pub section : SectionPlaced d.base z places
   pub names : PlacesName d z.contents places
   pub says : u ≡ paths_by z.number places
 
 -- so do those of all sections
-abbrev pub AllPlaced : DebugData → List UnitSection → List UnitPaths → Type 0
+abbrev pub AllPlaced : DebugData → List UnitSection → List SectionFields → Type 0
 AllPlaced d [] [] = ⊤
 AllPlaced d [] (u ∷ us) = ⊥
 AllPlaced d (z ∷ zs) [] = ⊥
@@ -374,7 +348,7 @@ InlinesFit m info [] = ⊤
 InlinesFit m info (p ∷ ps) = IsTrue (inline_fits m (inline_text info p)) × InlinesFit m info ps
 
 -- in all sections
-abbrev pub AllFitRooms : PathMap → List UnitSection → List UnitPaths → Type 0
+abbrev pub AllFitRooms : PathMap → List UnitSection → List SectionFields → Type 0
 AllFitRooms m [] us = ⊤
 AllFitRooms m (z ∷ zs) [] = ⊤
 AllFitRooms m (z ∷ zs) (u ∷ us) = InlinesFit m (bytes_of z.contents) u.inline × AllFitRooms m zs us

@@ -15,10 +15,10 @@ use Rattle.dw_base.specs.declared.fault.Refusal.{Refusal}
 use Rattle.dw_base.specs.declared.shared.Params.{Params}
 use Rattle.dw_base.specs.declared.units.Scanned.{Scanned}
 use Rattle.dw_base.specs.declared.units.UnitHeader.{UnitHeader}
-use Rattle.dw_find.specs.EntryTexts.{Tables, TextTables, AreTaken, Found, ValuesRefuse, with_places, none_found}
+use Rattle.dw_find.specs.EntryTexts.{Tables, TextTables, AreTaken, FoundTexts, ValuesRefuse, with_places, none_found}
 use Rattle.dw_find.specs.NamedSlots.{Slots, TakesIndexes, TakesUnits}
 use Rattle.dw_find.specs.TextPlaces.{UnitSays, base_source, entries_places, number_said, SectionSays}
-use Rattle.dw_find.specs.UnitPaths.{UnitPaths}
+use Rattle.dw_find.specs.SectionFields.{SectionFields}
 
 -- the values of an entry, whose code stands at a place, can be taken
 abbrev pub TakenOf : Tables → Params → List ℕ → ℕ → Option Abbreviation → Type 0
@@ -44,13 +44,13 @@ pub data EntryRefuses (t : Tables) (params : Params) (table : List Abbreviation)
 
 -- the entries of a unit were read, and what they say of paths stands behind what was found; `bytes` are those of the section
 -- up to the unit's end
-pub record ScanTaken (t : Tables) (h : UnitHeader) (table : List Abbreviation) (bytes : List ℕ) (old new : Found) : Type 0 where
+pub record ScanTaken (t : Tables) (h : UnitHeader) (table : List Abbreviation) (bytes : List ℕ) (old new : FoundTexts) : Type 0 where
   pub items : List Scanned
   pub entries : AreEntries h table bytes items
   pub found : new ≡ with_places old (entries_places h.params table bytes 0 items)
   pub taken : EntriesTaken t h.params table bytes items
 
-abbrev pub UnitTaken : Tables → UnitSection → UnitHeader → List Abbreviation → Found → Found → Type 0
+abbrev pub UnitTaken : Tables → UnitSection → UnitHeader → List Abbreviation → FoundTexts → FoundTexts → Type 0
 UnitTaken t z h table old new = ScanTaken t h table (bytes_up_to z h) old new
 
 -- the tables of texts of debug data, and a unit section with them
@@ -75,10 +75,10 @@ pub data UnitRefuses (t : Tables) (h : UnitHeader) (table : List Abbreviation) (
       → UnitRefuses t h table bytes r
 
 -- a unit was taken, with its table of abbreviations: what it says by index went to the slots
-pub record OneTaken (d : DebugData) (z : UnitSection) (h : UnitHeader) (old new : Found) (before now : Slots) : Type 0 where
+pub record OneTaken (d : DebugData) (z : UnitSection) (h : UnitHeader) (old new : FoundTexts) (before now : Slots) : Type 0 where
   pub table : List Abbreviation
   pub declares : IsUnitTable d.base h table
-  pub found : Found
+  pub found : FoundTexts
   pub scan : ScanTaken (tables_of d z) h table (bytes_up_to z h) old found
   pub slots : TakesIndexes h.section (number_said (base_source d) z.contents found.base) found.indexes before now
   pub ends : new ≡ none_found found.paths
@@ -96,7 +96,7 @@ UnitsTaken d z [] = ⊤
 UnitsTaken d z (h ∷ hs) = IsUnitTaken d z h × UnitsTaken d z hs
 
 -- what the units of a section say of paths, all of which were taken, with the offsets in their headers
-pub record SectionTaken (d : DebugData) (z : UnitSection) (u : UnitPaths) : Type 0 where
+pub record SectionTaken (d : DebugData) (z : UnitSection) (u : SectionFields) : Type 0 where
   pub headers : HeaderOffsetsRead d.base z
   pub says : SectionSays d z u
   pub list : List UnitHeader
@@ -104,25 +104,25 @@ pub record SectionTaken (d : DebugData) (z : UnitSection) (u : UnitPaths) : Type
   pub taken : UnitsTaken d z list
 
 -- and what these units say by index went to the slots
-pub record SectionIndexed (d : DebugData) (z : UnitSection) (u : UnitPaths) (before now : Slots) : Type 0 where
+pub record SectionIndexed (d : DebugData) (z : UnitSection) (u : SectionFields) (before now : Slots) : Type 0 where
   pub taken : SectionTaken d z u
   pub slots : TakesUnits (base_source d) taken.says.section.units before now
 
 -- so do those of sections
-abbrev pub AllTaken : DebugData → List UnitSection → List UnitPaths → Type 0
+abbrev pub AllTaken : DebugData → List UnitSection → List SectionFields → Type 0
 AllTaken d [] [] = ⊤
 AllTaken d [] (u ∷ us) = ⊥
 AllTaken d (z ∷ zs) [] = ⊥
 AllTaken d (z ∷ zs) (u ∷ us) = SectionTaken d z u × AllTaken d zs us
 
 -- what the units of these sections say, one after another
-abbrev pub units_taken : (d : DebugData) (zs : List UnitSection) (us : List UnitPaths) → AllTaken d zs us → List UnitSays
+abbrev pub units_taken : (d : DebugData) (zs : List UnitSection) (us : List SectionFields) → AllTaken d zs us → List UnitSays
 units_taken d [] [] all = []
 units_taken d [] (u ∷ us) all = []
 units_taken d (z ∷ zs) [] all = []
 units_taken d (z ∷ zs) (u ∷ us) all = all.0.says.section.units ++ units_taken d zs us all.1
 
 -- all of it went to the slots
-pub record AllIndexed (d : DebugData) (zs : List UnitSection) (us : List UnitPaths) (before now : Slots) : Type 0 where
+pub record AllIndexed (d : DebugData) (zs : List UnitSection) (us : List SectionFields) (before now : Slots) : Type 0 where
   pub taken : AllTaken d zs us
   pub slots : TakesUnits (base_source d) (units_taken d zs us taken) before now

@@ -3,78 +3,72 @@ use Rattle.std.specs.Prelude.{ℕ, ◌<◌, List, [], ◌∷◌, ◌++◌, lengt
 use Rattle.dw_base.specs.Cells.{Located}
 use Rattle.dw_base.specs.DebugData.{DebugData}
 use Rattle.dw_base.specs.FileViews.{View, section_bytes, view_cells}
-use Rattle.dw_base.specs.Forms.{TextSection, in_str, in_line_str}
 use Rattle.dw_base.specs.Paths.{PathMap}
 use Rattle.dw_base.specs.ViewData.{debug_data}
 use Rattle.dw_base.specs.declared.debug_sections.DebugSection.{DebugSection}
 use Rattle.dw_base.specs.declared.debug_sections.DebugSection.TheVariants.{Str as str_section, LineStr as line_str_section, Line, Macro}
+use Rattle.dw_base.specs.declared.texts.TextField.{TextField}
+use Rattle.dw_base.specs.declared.texts.TextSection.{TextSection}
+use Rattle.dw_base.specs.declared.texts.TextSection.TheVariants.{InStr, InLineStr}
 use Rattle.dw_find.specs.Fields.{OffsetTable, AllApart, AreOffsetFields, AreStartFields}
 use Rattle.dw_find.specs.InlineRooms.{AreRooms}
 use Rattle.dw_find.specs.TextPlaces.{InlinesFit}
-use Rattle.dw_find.specs.UnitPaths.{UnitPaths, fields_into}
-use Rattle.dw_find.specs.declared.fields.PathField.{PathField}
-use Rattle.dw_find.specs.declared.tables.TextsOf.{TextsOf}
-use Rattle.dw_find.specs.declared.tables.TextsOf.TheVariants.{Str, LineStr}
-
--- a table of texts as the code has it
-abbrev pub as_table : TextsOf → TextSection
-as_table Str = in_str
-as_table LineStr = in_line_str
+use Rattle.dw_find.specs.SectionFields.{SectionFields, fields_into}
 
 -- the section that it is
-abbrev pub section_of : TextsOf → DebugSection
-section_of Str = str_section
-section_of LineStr = line_str_section
+abbrev pub section_of : TextSection → DebugSection
+section_of InStr = str_section
+section_of InLineStr = line_str_section
 
 -- the table of a section of texts, and the byte order of fields
 abbrev pub offsets_of : DebugData → TextSection → OffsetTable
-offsets_of d in_str = record { order = d.base.order; bytes = (d.found str_section).bytes }
-offsets_of d in_line_str = record { order = d.base.order; bytes = (d.found line_str_section).bytes }
+offsets_of d InStr = record { order = d.base.order; bytes = (d.found str_section).bytes }
+offsets_of d InLineStr = record { order = d.base.order; bytes = (d.found line_str_section).bytes }
 
 abbrev pub texts_in : DebugData → TextSection → Located
-texts_in d in_str = d.found str_section
-texts_in d in_line_str = d.found line_str_section
+texts_in d InStr = d.found str_section
+texts_in d InLineStr = d.found line_str_section
 
 abbrev pub table_number : DebugData → TextSection → ℕ
-table_number d in_str = (d.found str_section).number
-table_number d in_line_str = (d.found line_str_section).number
+table_number d InStr = (d.found str_section).number
+table_number d InLineStr = (d.found line_str_section).number
 
 abbrev pub offsets_in : View → TextSection → OffsetTable
 offsets_in v table = offsets_of (debug_data v) table
 
 -- the fields of paths' offsets into a table
-abbrev pub fields_of : TextSection → UnitPaths → List PathField
-fields_of in_str u = fields_into u str_section
-fields_of in_line_str u = fields_into u line_str_section
+abbrev pub fields_of : TextSection → SectionFields → List TextField
+fields_of InStr u = fields_into u str_section
+fields_of InLineStr u = fields_into u line_str_section
 
 -- the bytes of a section that says this of paths
-abbrev pub info_of : View → UnitPaths → List ℕ
+abbrev pub info_of : View → SectionFields → List ℕ
 info_of v u = section_bytes v u.number
 
 -- it is there, and each of its fields of paths holds an offset that names a text, by the cells of the section
-pub record HasOffsets (v : View) (u : UnitPaths) : Type 0 where
+pub record HasOffsets (v : View) (u : SectionFields) : Type 0 where
   pub there : u.number < length v.sections
   pub str : AreOffsetFields v.order ((debug_data v).found str_section) (view_cells v u.number) (fields_into u str_section)
   pub line_str : AreOffsetFields v.order ((debug_data v).found line_str_section) (view_cells v u.number) (fields_into u line_str_section)
 
-abbrev pub AllHaveOffsets : View → List UnitPaths → Type 0
+abbrev pub AllHaveOffsets : View → List SectionFields → Type 0
 AllHaveOffsets v [] = ⊤
 AllHaveOffsets v (u ∷ us) = HasOffsets v u × AllHaveOffsets v us
 
 -- a section of a view: it is there, its fields of line tables and of macro units are fields, no two fields of paths and of line tables have
 -- a byte in common, and its paths that stand in their values have rooms
-pub record HasPlaces (v : View) (u : UnitPaths) : Type 0 where
+pub record HasPlaces (v : View) (u : SectionFields) : Type 0 where
   pub there : u.number < length v.sections
   pub starts : AreStartFields (info_of v u) (fields_into u Line)
   pub macros : AreStartFields (info_of v u) (fields_into u Macro)
   pub apart : AllApart (fields_into u str_section ++ (fields_into u line_str_section ++ fields_into u Line))
   pub rooms : AreRooms (info_of v u) u.inline
 
-abbrev pub AllHavePlaces : View → List UnitPaths → Type 0
+abbrev pub AllHavePlaces : View → List SectionFields → Type 0
 AllHavePlaces v [] = ⊤
 AllHavePlaces v (u ∷ us) = HasPlaces v u × AllHavePlaces v us
 
 -- each path that stands in its value fits its room when it is mapped
-abbrev pub AllRoomsFit : PathMap → View → List UnitPaths → Type 0
+abbrev pub AllRoomsFit : PathMap → View → List SectionFields → Type 0
 AllRoomsFit m v [] = ⊤
 AllRoomsFit m v (u ∷ us) = InlinesFit m (info_of v u) u.inline × AllRoomsFit m v us

@@ -10,7 +10,7 @@ ghost use Rattle.dw_find.specs.NamedSlots.{no_slots};
 ghost use Rattle.dw_find.specs.NamedStarts.{AllStarts};
 ghost use Rattle.dw_find.specs.UnitTexts.{AllIndexed, AllTaken, UnitsRefuse, texts_of};
 
-use crate::found::{TextTables, UnitPaths};
+use crate::found::{SectionFields, TextTables};
 use crate::sections::section_texts;
 use crate::slots::NamedSlots;
 use crate::starts::all_start;
@@ -34,7 +34,7 @@ pub(crate) fn all_texts(
     starts: &[u64],
     places: &UnitPlaces,
     slots: &mut NamedSlots,
-) -> Result<Vec<UnitPaths>, Fault>
+) -> Result<Vec<SectionFields>, Fault>
     requires tables { tables.now ≡ texts_of (debug_data view.now) }
     requires none { slots.old ≡ no_slots slots.old.list (length slots.old.marks) }
     requires starts { TablesStart (debug_data view.now) starts.now }
@@ -58,7 +58,7 @@ fn read_all(
     view: &View,
     tables: &TextTables,
     slots: &mut NamedSlots,
-) -> Result<Vec<UnitPaths>, Fault>
+) -> Result<Vec<SectionFields>, Fault>
     requires tables { tables.now ≡ texts_of (debug_data view.now) }
     ensures taken { IfOk result (λ us. AllIndexed (debug_data view.now) ((debug_data view.now).found Info) us.items slots.old slots.new) }
     ensures refused { IfErr result (Blames (UnitsRefuse (debug_data view.now))) }
@@ -75,7 +75,7 @@ fn read_sections(
     tables: &TextTables,
     sections: &[u32],
     slots: &mut NamedSlots,
-) -> Result<Vec<UnitPaths>, Fault>
+) -> Result<Vec<SectionFields>, Fault>
     requires tables { tables.now ≡ texts_of (debug_data view.now) }
     requires sections { AreSections view.now sections.now }
     ensures taken { IfOk result (λ us. AllIndexed (debug_data view.now) ((debug_data view.now).found Info) us.items slots.old slots.new) }

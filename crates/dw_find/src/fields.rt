@@ -2,14 +2,7 @@
 //! tables or macro units start, the paths that stand in their values, and the values that name texts by index (DWARF 5, 7.5.5,
 //! class string, and 3.1.1).
 
-/// A field that holds the offset of a path's text, or that says where a line table or a macro unit starts.
-#[derive(Clone, Copy)]
-pub struct PathField {
-    /// Where it stands, in bytes from the section's start.
-    pub at: u64,
-    /// How many bytes it has: 4 or 8.
-    pub size: u8,
-}
+use dw_base::TextField;
 
 /// A path that stands in its value.
 #[derive(Clone, Copy)]
@@ -26,7 +19,7 @@ pub(crate) enum TextBase {
     /// A number.
     Number(u64),
     /// The field of an offset into the section of string offsets.
-    Field(PathField),
+    Field(TextField),
 }
 
 /// A value that names a text by index.

@@ -1,45 +1,45 @@
 //! What a pass over a unit section finds of paths, and of texts by index.
 
-ghost use Rattle.std.specs.Prelude.{◌≡◌, ◌⊎◌, ◌+◌, ◌≤◌, ◌<◌, length, map, IfErr, IfOk, OnOk};
-ghost use Rattle.dw_base.specs.Cells.{Located, cells_at, offset_of};
+ghost use Rattle.std.specs.Prelude.{◌≡◌, ◌⊎◌, ◌+◌, ◌≤◌, ◌<◌, length, map, true, IfErr, IfOk, OnOk};
+ghost use Rattle.dw_base.specs.Cells.{Located, cells_at, field_of, is_placed, offset_of};
 ghost use Rattle.dw_base.specs.FileViews.{view_cells};
 ghost use Rattle.dw_base.specs.RelocationRows.{OffsetFails};
 ghost use Rattle.dw_base.specs.Texts.{IsNulEnd, ends_in};
-ghost use Rattle.dw_find.specs.EntryTexts.{Found as FoundOf, Tables, TextTables as TablesOf, base_noted, index_noted, inline_noted, no_paths, none_found, noted, offset_in, stray_noted, value_field};
-ghost use Rattle.dw_find.specs.UnitPaths.{UnitPaths as PathsOf, fields_into, with_field, with_fields, with_inline, with_stray_at};
+ghost use Rattle.dw_find.specs.EntryTexts.{FoundTexts as FoundOf, Tables, TextTables as TablesOf, base_noted, index_noted, inline_noted, no_paths, none_found, noted, offset_in, stray_noted, value_field};
+ghost use Rattle.dw_find.specs.SectionFields.{SectionFields as PathsOf, fields_into, with_field, with_fields, with_inline, with_stray_at};
 
 use crate::field_offsets::offset_at;
-use crate::fields::{InlinePath, PathField, TextBase, TextIndex};
-use dw_base::{DebugSection, Refusal, Value, nul_end};
-use dw_view::View;
+use crate::fields::{InlinePath, TextBase, TextIndex};
+use dw_base::{DebugSection, Refusal, TextField, Value, nul_end};
+use dw_view::{SectionBytes, View};
 use std::alloc::{AllocError, Global};
 use std::marker::Model;
 
 /// What a section says of paths, line tables and macro units.
 #[derive(Drop)]
-pub struct UnitPaths {
+pub struct SectionFields {
     /// The section's number.
     pub section: u32,
     /// For each section of debug data, in the order of the table, the fields that hold offsets into it.
-    fields: [Vec<PathField>; 9],
+    fields: [Vec<TextField>; 9],
     /// The paths that stand in their values.
     pub inline: Vec<InlinePath>,
     /// Where the first value begins that is to say where a line table or a macro unit starts, and has a form that can't.
     pub stray: Option<u64>,
 }
 
-impl Model for UnitPaths {
+impl Model for SectionFields {
     ghost Value = { PathsOf };
 
     ghost view = { λ u. record { number = u.section; fields = map (λ l. l.items) u.fields; inline = u.inline.items; stray = u.stray } };
 }
 
-impl UnitPaths {
+impl SectionFields {
     /// Nothing was found in a section yet.
-    pub(crate) fn new(alloc: Global, section: u32) -> UnitPaths
+    pub(crate) fn new(alloc: Global, section: u32) -> SectionFields
         ensures { result ≡ no_paths section }
     {
-        UnitPaths {
+        SectionFields {
             section,
             fields: [
                 Vec::new(alloc),
@@ -59,7 +59,7 @@ impl UnitPaths {
 
     /// The fields that hold offsets into a section of debug data: of paths into the tables of texts, and those that say where
     /// line tables and macro units start.
-    pub fn fields(&self, into: DebugSection) -> &[PathField]
+    pub fn fields(&self, into: DebugSection) -> &[TextField]
         ensures fields { result.now ≡ fields_into self.now into }
     {
         self.fields[into as usize].as_slice()
@@ -67,7 +67,7 @@ impl UnitPaths {
 
     /// Puts these fields in the stead of those that hold offsets into a section.
     #[tactic(auto, using(crate::proofs::FieldListLaws::list_rules))]
-    pub(crate) fn put(&mut self, into: DebugSection, fields: Vec<PathField>)
+    pub(crate) fn put(&mut self, into: DebugSection, fields: Vec<TextField>)
         ensures { self.new ≡ with_fields self.old into fields.items }
     {
         self.fields[into as usize] = fields;
@@ -75,7 +75,7 @@ impl UnitPaths {
 
     /// Adds a field that holds an offset into a section, behind those that do.
     #[tactic(auto, using(crate::proofs::FieldListLaws::list_rules))]
-    pub(crate) fn push(&mut self, into: DebugSection, field: PathField) -> Result<(), AllocError>
+    pub(crate) fn push(&mut self, into: DebugSection, field: TextField) -> Result<(), AllocError>
         ensures { OnOk result (self.new ≡ with_field self.old into field) }
     {
         self.fields[into as usize].push(field)?;
@@ -103,28 +103,28 @@ impl UnitPaths {
 /// What a pass over a unit section found: of the units so far the paths, and of the unit where it is what
 /// it says by index.
 #[derive(Drop)]
-pub(crate) struct Found {
+pub(crate) struct FoundTexts {
     /// The paths.
-    pub paths: UnitPaths,
+    pub paths: SectionFields,
     /// The base of the unit, the first that its first entry says.
     pub base: Option<TextBase>,
     /// The values of the unit that name texts by index.
     pub indexes: Vec<TextIndex>,
 }
 
-impl Model for Found {
+impl Model for FoundTexts {
     ghost Value = { FoundOf };
 
     ghost view = { λ f. record { paths = f.paths; base = f.base; indexes = f.indexes.items } };
 }
 
-impl Found {
+impl FoundTexts {
     /// Nothing was found in a section yet.
-    pub(crate) fn new(alloc: Global, section: u32) -> Found
+    pub(crate) fn new(alloc: Global, section: u32) -> FoundTexts
         ensures { result ≡ none_found (no_paths section) }
     {
-        Found {
-            paths: UnitPaths::new(alloc, section),
+        FoundTexts {
+            paths: SectionFields::new(alloc, section),
             base: None,
             indexes: Vec::new(alloc),
         }
@@ -134,7 +134,7 @@ impl Found {
     pub(crate) fn push_field(
         &mut self,
         into: DebugSection,
-        field: PathField,
+        field: TextField,
     ) -> Result<(), AllocError>
         ensures { OnOk result (self.new ≡ noted self.old into field) }
     {
@@ -186,10 +186,8 @@ impl Found {
 /// A table of texts, and where its last text ends.
 #[derive(Drop)]
 pub(crate) struct TextTable<'a> {
-    /// The section's number.
-    pub number: u32,
-    /// Its bytes.
-    pub bytes: &'a [u8],
+    /// Its section.
+    pub section: SectionBytes<'a>,
     /// Where its last text ends.
     pub end: u64,
 }
@@ -197,21 +195,18 @@ pub(crate) struct TextTable<'a> {
 impl<'a> Model for TextTable<'a> {
     ghost Value = { Located };
 
-    ghost view = { λ t. record { number = t.number; bytes = t.bytes.now } };
+    ghost view = { λ t. t.section };
 
-    ghost invariant = { λ t. IsNulEnd t.bytes.now t.end };
+    ghost invariant = { λ t. IsNulEnd t.section.bytes t.end };
 }
 
 impl<'a> TextTable<'a> {
-    /// The table of a section of a number.
-    pub(crate) fn new(number: u32, bytes: &'a [u8]) -> TextTable<'a>
-        ensures { result ≡ record { number = number; bytes = bytes.now } }
+    /// The table of a section.
+    pub(crate) fn new(section: SectionBytes<'a>) -> TextTable<'a>
+        ensures { result ≡ section }
     {
-        TextTable {
-            number,
-            bytes,
-            end: nul_end(bytes) as u64,
-        }
+        let end = nul_end(section.bytes) as u64;
+        TextTable { section, end }
     }
 
     /// A text that ends begins at a place.
@@ -297,6 +292,7 @@ impl<'v, 'f, 't, 'a> SectionTexts<'v, 'f, 't, 'a> {
         requires sized { (value.now.len ≡ 4) ⊎ (value.now.len ≡ 8) }
         requires lies { value.now.at + value.now.len ≤ length self.now.cells }
         ensures offset { IfOk result (λ n. n ≡ offset_in self.now table.now value.now) }
+        ensures placed { OnOk result (is_placed (field_of self.now.order (cells_at self.now.cells value.now.at value.now.len)) ≡ true) }
         ensures refused { IfErr result (OffsetFails self.now.order self.now.number self.now.cells (value_field value.now)) }
     {
         let offset = value_offset(self.view, self.section, value, table)?;
@@ -311,15 +307,9 @@ fn value_offset(view: &View, section: u32, value: &Value, table: &TextTable) -> 
     requires sized { (value.now.len ≡ 4) ⊎ (value.now.len ≡ 8) }
     requires lies { value.now.at + value.now.len ≤ length (view_cells view.now section) }
     ensures offset { IfOk result (λ n. n ≡ offset_of view.now.order table.now (cells_at (view_cells view.now section) value.now.at value.now.len)) }
+    ensures placed { OnOk result (is_placed (field_of view.now.order (cells_at (view_cells view.now section) value.now.at value.now.len)) ≡ true) }
     ensures refused { IfErr result (OffsetFails view.now.order section (view_cells view.now section) (value_field value.now)) }
 {
-    let offset = offset_at(
-        view,
-        section,
-        value.at,
-        value.len as u8,
-        table.number,
-        table.bytes,
-    )?;
+    let offset = offset_at(view, section, value.at, value.len as u8, &table.section)?;
     Ok(offset)
 }

@@ -10,10 +10,10 @@ ghost use Rattle.dw_find.specs.EntryTexts.{OneRefuses};
 ghost use Rattle.dw_find.specs.LaterValues.{IsLater, IsNamed};
 
 use crate::found::SectionTexts;
-use crate::scan_table::{is_start, is_text_form};
+use crate::scan_table::is_text_form;
 use crate::texts::offset_names;
 use dw_base::dwarf_numbers::DW_FORM_strp;
-use dw_base::{Params, Refusal, Spec, UnitHeader, Value, ValueClass};
+use dw_base::{Params, Refusal, Spec, UnitHeader, Value, ValueClass, is_start_name};
 use dw_entries::plain_len;
 
 /// How many bytes the value of an attribute takes at a place, in an entry that isn't its unit's first, where nothing of it is noted.
@@ -32,7 +32,7 @@ pub(crate) fn later_len(
     ensures within { IfOk result (λ o. IfSome o (λ n. place + n ≤ length bytes.now)) }
     ensures refused { IfErr result (OneRefuses texts.now unit.now.params bytes.now unit.now.section place spec.now) }
 {
-    if is_start(spec.name) {
+    if is_start_name(spec.name) {
         return Ok(None);
     }
     if spec.form == DW_FORM_strp {

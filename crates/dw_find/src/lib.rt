@@ -5,7 +5,7 @@
 //! or a macro unit starts says it), and what was found of paths is what they say; they are
 //! refused only by a condition that holds in them, at its place.
 //! It does not promise: anything of what the paths are mapped to; rows of line tables.
-//! Read first: `specs/ReadData.antt`, then `specs/FoundPaths.antt`, `specs/UnitPaths.antt` and `specs/TextPlaces.antt`.
+//! Read first: `specs/ReadData.antt`, then `specs/FoundPaths.antt`, `specs/SectionFields.antt` and `specs/TextPlaces.antt`.
 //!
 //! # Example
 //!
@@ -35,13 +35,12 @@ mod texts;
 mod unit_places;
 mod units;
 
-pub use fields::{InlinePath, PathField};
-pub use found::UnitPaths;
+pub use fields::InlinePath;
+pub use found::SectionFields;
 pub use lines::starts_of;
 pub use macros::{MacroSection, macro_sections};
 pub use paths::found_paths;
 pub use reading::{ReadTables, read_data};
 pub use starts::{start_in, start_number, with_start};
-pub use tables::{TextsOf, table_number, table_texts};
-pub use texts::{is_start_form, own_form};
+pub use tables::{table_number, table_texts};
 pub use unit_places::{place_key, start_key};

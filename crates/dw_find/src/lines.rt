@@ -6,13 +6,11 @@ ghost use Rattle.std.specs.Prelude.{◌≡◌, ◌++◌, ◌<◌, IfOk, OnOk};
 ghost use Rattle.dw_base.specs.LineTables.{texts_of};
 ghost use Rattle.dw_base.specs.WrittenLines.{paths_of};
 ghost use Rattle.dw_lines.specs.ViewSources.{view_source};
-ghost use Rattle.dw_find.specs.ViewFields.{as_table};
 ghost use Rattle.dw_find.specs.ViewLines.{is_text_of, lines_of_view, lines_with, starts_of, table_fields, text_field, text_fields};
 
-use crate::fields::PathField;
-use crate::found::UnitPaths;
-use crate::tables::{TextsOf, table_number};
-use dw_base::{DebugSection, FilePlace, TextPlace, Width};
+use crate::found::SectionFields;
+use crate::tables::table_number;
+use dw_base::{DebugSection, FilePlace, TextField, TextPlace, TextSection, Width};
 use dw_lines::LineTable;
 use dw_view::View;
 use std::alloc::{AllocError, Global};
@@ -63,7 +61,7 @@ pub(crate) fn push_lines(
     alloc: Global,
     view: &View,
     tables: &[LineTable],
-    paths: &mut Vec<UnitPaths>,
+    paths: &mut Vec<SectionFields>,
 ) -> Result<(), AllocError>
     ensures { OnOk result (paths.new.items ≡ paths.old.items ++ lines_of_view view.now tables.now) }
 {
@@ -80,13 +78,13 @@ fn lines_with(
     view: &View,
     section: u32,
     tables: &[LineTable],
-) -> Result<UnitPaths, AllocError>
+) -> Result<SectionFields, AllocError>
     ensures { IfOk result (λ u. u ≡ lines_with (view_source view.now section) tables.now) }
 {
-    let first = table_number(view, TextsOf::Str);
-    let str = table_fields(alloc, section, first, TextsOf::Str, tables)?;
-    let line_str = table_fields(alloc, section, first, TextsOf::LineStr, tables)?;
-    let mut paths = UnitPaths::new(alloc, section);
+    let first = table_number(view, TextSection::InStr);
+    let str = table_fields(alloc, section, first, TextSection::InStr, tables)?;
+    let line_str = table_fields(alloc, section, first, TextSection::InLineStr, tables)?;
+    let mut paths = SectionFields::new(alloc, section);
     paths.put(DebugSection::Str, str);
     paths.put(DebugSection::LineStr, line_str);
     Ok(paths)
@@ -98,10 +96,10 @@ fn table_fields(
     alloc: Global,
     section: u32,
     str: u32,
-    texts: TextsOf,
+    texts: TextSection,
     tables: &[LineTable],
-) -> Result<Vec<PathField>, AllocError>
-    ensures { IfOk result (λ fields. fields.items ≡ table_fields section str (as_table texts) tables.now) }
+) -> Result<Vec<TextField>, AllocError>
+    ensures { IfOk result (λ fields. fields.items ≡ table_fields section str texts tables.now) }
 {
     let mut fields = Vec::new(alloc);
     for table in tables {
@@ -115,11 +113,11 @@ fn table_fields(
 fn push_fields(
     section: u32,
     str: u32,
-    texts: TextsOf,
+    texts: TextSection,
     table: &LineTable,
-    fields: &mut Vec<PathField>,
+    fields: &mut Vec<TextField>,
 ) -> Result<(), AllocError>
-    ensures { OnOk result (fields.new.items ≡ fields.old.items ++ text_fields section str (as_table texts) table.now.width (paths_of table.now)) }
+    ensures { OnOk result (fields.new.items ≡ fields.old.items ++ text_fields section str texts table.now.width (paths_of table.now)) }
 {
     let width = width_of(table);
     push_dirs(section, str, texts, width, dirs_of(table), fields)?;
@@ -132,12 +130,12 @@ fn push_fields(
 fn push_dirs(
     section: u32,
     str: u32,
-    texts: TextsOf,
+    texts: TextSection,
     width: Width,
     dirs: &[TextPlace],
-    fields: &mut Vec<PathField>,
+    fields: &mut Vec<TextField>,
 ) -> Result<(), AllocError>
-    ensures { OnOk result (fields.new.items ≡ fields.old.items ++ text_fields section str (as_table texts) width dirs.now) }
+    ensures { OnOk result (fields.new.items ≡ fields.old.items ++ text_fields section str texts width dirs.now) }
 {
     for dir in dirs {
         push_field(section, str, texts, width, *dir, fields)?;
@@ -150,12 +148,12 @@ fn push_dirs(
 fn push_files(
     section: u32,
     str: u32,
-    texts: TextsOf,
+    texts: TextSection,
     width: Width,
     files: &[FilePlace],
-    fields: &mut Vec<PathField>,
+    fields: &mut Vec<TextField>,
 ) -> Result<(), AllocError>
-    ensures { OnOk result (fields.new.items ≡ fields.old.items ++ text_fields section str (as_table texts) width (texts_of files.now)) }
+    ensures { OnOk result (fields.new.items ≡ fields.old.items ++ text_fields section str texts width (texts_of files.now)) }
 {
     for file in files {
         push_field(section, str, texts, width, file.text, fields)?;
@@ -168,15 +166,15 @@ fn push_files(
 fn push_field(
     section: u32,
     str: u32,
-    texts: TextsOf,
+    texts: TextSection,
     width: Width,
     text: TextPlace,
-    fields: &mut Vec<PathField>,
+    fields: &mut Vec<TextField>,
 ) -> Result<(), AllocError>
-    ensures { OnOk result (fields.new.items ≡ fields.old.items ++ text_field section str (as_table texts) width text) }
+    ensures { OnOk result (fields.new.items ≡ fields.old.items ++ text_field section str texts width text) }
 {
     if lies_in(section, str, texts, text) {
-        fields.push(PathField {
+        fields.push(TextField {
             at: text.field,
             size: width.offset_size(),
         })?;
@@ -185,14 +183,14 @@ fn push_field(
 }
 
 /// The text lies in the table of texts.
-fn lies_in(section: u32, str: u32, texts: TextsOf, text: TextPlace) -> bool
-    ensures { result ≡ is_text_of section str (as_table texts) text }
+fn lies_in(section: u32, str: u32, texts: TextSection, text: TextPlace) -> bool
+    ensures { result ≡ is_text_of section str texts text }
 {
     if text.section == section {
         return false;
     }
     match texts {
-        TextsOf::Str => text.section == str,
-        TextsOf::LineStr => text.section != str,
+        TextSection::InStr => text.section == str,
+        TextSection::InLineStr => text.section != str,
     }
 }

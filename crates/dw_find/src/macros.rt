@@ -12,11 +12,10 @@ ghost use Rattle.dw_find.specs.LineStarts.{Rises};
 ghost use Rattle.dw_find.specs.MacroNames.{AllUnitsIn, AreUnitsIn, EventNames, EventStray, EventStrays, EventsName, LineNames, LineStrays, MacrosName, MacrosStray, UnitsName, UnitsStray};
 ghost use Rattle.dw_find.specs.MacroSections.{SectionUnits, UnitsFailIn, UnitsFoundIn, line_fields, macros_of, macros_with};
 
-use crate::fields::PathField;
-use crate::found::UnitPaths;
+use crate::found::SectionFields;
 use crate::starts::{start_number, stray};
 use crate::unit_places::UnitPlaces;
-use dw_base::{DebugSection, Fault, MacroEvent, MacroUnit, Refusal};
+use dw_base::{DebugSection, Fault, MacroEvent, MacroUnit, Refusal, TextField};
 use dw_macros::{MacroEvents, macro_units};
 use dw_view::View;
 use std::alloc::{AllocError, Global};
@@ -82,7 +81,7 @@ pub(crate) fn number_of(section: &MacroSection) -> u32
 pub(crate) fn push_macros(
     alloc: Global,
     macros: &[MacroSection],
-    paths: &mut Vec<UnitPaths>,
+    paths: &mut Vec<SectionFields>,
 ) -> Result<(), AllocError>
     ensures { OnOk result (paths.new.items ≡ paths.old.items ++ macros_of macros.now) }
 {
@@ -94,24 +93,24 @@ pub(crate) fn push_macros(
 
 /// What a section of macro units says of line tables: where they start.
 #[tactic(auto, using(crate::proofs::MacroSectionLaws::with_rules))]
-fn macros_with(alloc: Global, section: &MacroSection) -> Result<UnitPaths, AllocError>
+fn macros_with(alloc: Global, section: &MacroSection) -> Result<SectionFields, AllocError>
     ensures { IfOk result (λ u. u ≡ macros_with section.now.number (line_fields section.now.units)) }
 {
     let starts = line_fields(alloc, units_of(section))?;
-    let mut paths = UnitPaths::new(alloc, number_of(section));
+    let mut paths = SectionFields::new(alloc, number_of(section));
     paths.put(DebugSection::Line, starts);
     Ok(paths)
 }
 
 /// The fields of the offsets of the line tables of units.
 #[tactic(auto, using(crate::proofs::MacroSectionLaws::fields_rules))]
-fn line_fields(alloc: Global, units: &[MacroUnit]) -> Result<Vec<PathField>, AllocError>
+fn line_fields(alloc: Global, units: &[MacroUnit]) -> Result<Vec<TextField>, AllocError>
     ensures { IfOk result (λ fields. fields.items ≡ line_fields units.now) }
 {
     let mut fields = Vec::new(alloc);
     for unit in units {
         if let Some(_) = unit.line {
-            fields.push(PathField {
+            fields.push(TextField {
                 at: unit.line_field,
                 size: unit.width.offset_size(),
             })?;

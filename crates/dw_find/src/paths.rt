@@ -13,22 +13,20 @@ ghost use Rattle.dw_find.specs.FoundPaths.{PathsFound, PathsRefuse, SlotsFound, 
 ghost use Rattle.dw_find.specs.IndexedTexts.{TablesStart, TextsIndexed, UnitsStart};
 ghost use Rattle.dw_find.specs.MacroSections.{UnitsFoundIn};
 ghost use Rattle.dw_find.specs.NamedSlots.{no_slots};
-ghost use Rattle.dw_find.specs.SlotPaths.{as_fields, slots_with};
+ghost use Rattle.dw_find.specs.SlotPaths.{slots_with};
 ghost use Rattle.dw_find.specs.UnitTexts.{texts_of};
 
 use crate::all_sections::all_texts;
-use crate::fields::PathField;
-use crate::found::{TextTable, TextTables, UnitPaths};
+use crate::found::{SectionFields, TextTable, TextTables};
 use crate::lines::{push_lines, starts_of};
 use crate::macros::{MacroSection, macros_name, push_macros};
 use crate::rooms::all_rooms_fit;
 use crate::slots::NamedSlots;
-use crate::tables::{TextsOf, table_number, table_texts};
 use crate::unit_places::UnitPlaces;
-use dw_base::{DebugSection, Fault};
+use dw_base::{DebugSection, Fault, TextField};
 use dw_fields::check_fields;
 use dw_lines::LineTable;
-use dw_offsets::{ContributionList, PathSlot, SlotMarks, contributions, name_tables, path_slots};
+use dw_offsets::{ContributionList, SlotMarks, contributions, name_tables, path_slots};
 use dw_paths::Maps;
 use dw_view::View;
 use std::alloc::{AllocError, Global};
@@ -44,7 +42,7 @@ pub fn found_paths(
     maps: &Maps,
     tables: &[LineTable],
     macros: &[MacroSection],
-) -> Result<Vec<UnitPaths>, Fault>
+) -> Result<Vec<SectionFields>, Fault>
     requires tables { TablesFound view.now tables.now }
     requires macros { UnitsFoundIn view.now macros.now }
     ensures found { IfOk result (λ paths. PathsFound maps.now view.now paths.items tables.now) }
@@ -78,10 +76,7 @@ fn no_marks(alloc: Global, view: &View) -> Result<SlotMarks, AllocError>
 fn offsets_bytes<'a>(view: &'a View) -> &'a [u8]
     ensures bytes { result.now ≡ (string_offsets view.now).bytes }
 {
-    match view.first(DebugSection::StrOffsets) {
-        Some(section) => view.bytes(section),
-        None => b"",
-    }
+    view.located(DebugSection::StrOffsets).bytes
 }
 
 /// What the unit sections say of paths; exactly the slots that their values name are marked.
@@ -93,7 +88,7 @@ fn unit_paths(
     starts: &[u64],
     places: &UnitPlaces,
     slots: &mut NamedSlots,
-) -> Result<Vec<UnitPaths>, Fault>
+) -> Result<Vec<SectionFields>, Fault>
     requires none { slots.old ≡ no_slots slots.old.list (length slots.old.marks) }
     requires starts { TablesStart (debug_data view.now) starts.now }
     requires units { UnitsStart (debug_data view.now) places.now }
@@ -112,11 +107,9 @@ fn unit_paths(
 fn text_tables<'a>(view: &'a View) -> TextTables<'a>
     ensures { result ≡ texts_of (debug_data view.now) }
 {
-    let str = table_texts(view, TextsOf::Str);
-    let line_str = table_texts(view, TextsOf::LineStr);
     TextTables {
-        str: TextTable::new(table_number(view, TextsOf::Str), str),
-        line_str: TextTable::new(table_number(view, TextsOf::LineStr), line_str),
+        str: TextTable::new(view.located(DebugSection::Str)),
+        line_str: TextTable::new(view.located(DebugSection::LineStr)),
     }
 }
 
@@ -128,7 +121,7 @@ fn push_slots(
     maps: &Maps,
     list: &ContributionList,
     marks: &SlotMarks,
-    paths: &mut Vec<UnitPaths>,
+    paths: &mut Vec<SectionFields>,
 ) -> Result<(), Fault>
     requires contributions { AreContributions view.now.order (string_offsets view.now) list.now }
     ensures found { OnOk result (SlotsFound maps.now view.now list.now marks.now paths.old.items paths.new.items) }
@@ -136,31 +129,17 @@ fn push_slots(
 {
     let fields = path_slots(alloc, view, maps, list, marks)?;
     if let Some(section) = view.first(DebugSection::StrOffsets) {
-        paths.push(slots_with(alloc, section, &fields)?)?;
+        paths.push(slots_with(alloc, section, fields))?;
     }
     Ok(())
 }
 
 /// What the section of string offsets says of paths, by the fields of its slots.
 #[tactic(auto, using(crate::proofs::SlotPathLaws::with_rules))]
-fn slots_with(alloc: Global, section: u32, slots: &[PathSlot]) -> Result<UnitPaths, AllocError>
-    ensures paths { IfOk result (λ u. u ≡ slots_with section (as_fields slots.now)) }
+fn slots_with(alloc: Global, section: u32, fields: Vec<TextField>) -> SectionFields
+    ensures paths { result ≡ slots_with section fields.items }
 {
-    let str = path_fields(alloc, slots)?;
-    let mut paths = UnitPaths::new(alloc, section);
-    paths.put(DebugSection::Str, str);
-    Ok(paths)
-}
-
-/// The fields of slots as fields of paths.
-#[tactic(auto, using(crate::proofs::SlotPathLaws::field_rules))]
-fn path_fields(alloc: Global, slots: &[PathSlot]) -> Result<Vec<PathField>, AllocError>
-    ensures fields { IfOk result (λ fields. fields.items ≡ as_fields slots.now) }
-{
-    let mut fields = Vec::with_capacity(alloc, slots.len())?;
-    for slot in slots {
-        let PathSlot { at, size } = *slot;
-        fields.push(PathField { at, size })?;
-    }
-    Ok(fields)
+    let mut paths = SectionFields::new(alloc, section);
+    paths.put(DebugSection::Str, fields);
+    paths
 }

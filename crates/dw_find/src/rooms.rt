@@ -10,10 +10,10 @@ ghost use Rattle.dw_base.specs.declared.debug_sections.DebugSection.TheVariants.
 ghost use Rattle.dw_find.specs.InlineRooms.{AreRooms, Grows};
 ghost use Rattle.dw_find.specs.ViewFields.{HasPlaces, info_of};
 ghost use Rattle.dw_find.specs.TextPlaces.{AllFitRooms, AllPlaced, InlinesFit};
-ghost use Rattle.dw_find.specs.UnitPaths.{inline_text};
+ghost use Rattle.dw_find.specs.SectionFields.{inline_text};
 
 use crate::fields::InlinePath;
-use crate::found::UnitPaths;
+use crate::found::SectionFields;
 use dw_base::{Kind, Refusal};
 use dw_paths::{Maps, map_len};
 use dw_view::View;
@@ -21,7 +21,11 @@ use dw_view::View;
 /// Tests that each path of all unit sections that stands in its value fits its room when it is mapped.
 /// Refused where one would be longer, at it.
 #[tactic(auto, using(crate::proofs::RoomFitLaws::all_rules))]
-pub(crate) fn all_rooms_fit(view: &View, maps: &Maps, paths: &[UnitPaths]) -> Result<(), Refusal>
+pub(crate) fn all_rooms_fit(
+    view: &View,
+    maps: &Maps,
+    paths: &[SectionFields],
+) -> Result<(), Refusal>
     requires placed { AllPlaced (debug_data view.now) ((debug_data view.now).found Info) paths.now }
     ensures fits { OnOk result (AllFitRooms maps.now ((debug_data view.now).found Info) paths.now) }
     ensures refused { IfErr result (InlineFails maps.now (debug_data view.now)) }
@@ -34,7 +38,7 @@ pub(crate) fn all_rooms_fit(view: &View, maps: &Maps, paths: &[UnitPaths]) -> Re
 
 /// The same of one section.
 #[tactic(auto, using(crate::proofs::RoomFitLaws::section_rules))]
-fn rooms_fit(view: &View, maps: &Maps, found: &UnitPaths) -> Result<(), Refusal>
+fn rooms_fit(view: &View, maps: &Maps, found: &SectionFields) -> Result<(), Refusal>
     requires paths { HasPlaces view.now found.now }
     ensures fits { OnOk result (InlinesFit maps.now (info_of view.now found.now) found.now.inline) }
     ensures refused { IfErr result (Grows maps.now found.now.number (info_of view.now found.now) found.now.inline) }

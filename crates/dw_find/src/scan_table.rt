@@ -6,15 +6,15 @@
 ghost use Rattle.std.specs.Prelude.{◌≡◌, ◌≤◌, List, Some, length, drop, take, IfOk};
 ghost use Rattle.dw_abbrev.specs.Coded.{index_of_code};
 ghost use Rattle.dw_base.specs.AbbreviationTables.{Abbreviation};
+ghost use Rattle.dw_base.specs.Roles.{is_start_name};
 ghost use Rattle.dw_find.specs.QuietValues.{AllQuiet, AreCounts, AreLooked, IsCount, is_quiet, is_text_form};
-ghost use Rattle.dw_find.specs.TextPlaces.{is_start};
 
 use dw_abbrev::{Abbrev, AbbrevTable};
-use dw_base::Spec;
 use dw_base::dwarf_numbers::{
-    DW_AT_GNU_macros, DW_AT_macros, DW_AT_stmt_list, DW_FORM_indirect, DW_FORM_line_strp,
-    DW_FORM_strp, DW_FORM_strx, DW_FORM_strx1, DW_FORM_strx2, DW_FORM_strx3, DW_FORM_strx4,
+    DW_FORM_indirect, DW_FORM_line_strp, DW_FORM_strp, DW_FORM_strx, DW_FORM_strx1, DW_FORM_strx2,
+    DW_FORM_strx3, DW_FORM_strx4,
 };
+use dw_base::{Spec, is_start_name};
 use dw_entries::Coded;
 use std::alloc::{AllocError, Global};
 use std::marker::Model;
@@ -128,14 +128,7 @@ fn quiet_from(specs: &[Spec]) -> usize
 fn is_quiet(spec: &Spec) -> bool
     ensures value { result ≡ is_quiet spec.now }
 {
-    !is_text_form(spec.form) && !is_start(spec.name)
-}
-
-/// An attribute that says where a line table or a macro unit starts.
-pub(crate) fn is_start(name: u64) -> bool
-    ensures value { result ≡ is_start name }
-{
-    name == DW_AT_stmt_list || name == DW_AT_macros || name == DW_AT_GNU_macros
+    !is_text_form(spec.form) && !is_start_name(spec.name)
 }
 
 /// A form whose values name texts, or stand behind their own form.

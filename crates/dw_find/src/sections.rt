@@ -20,7 +20,7 @@ ghost use Rattle.dw_find.specs.UnitTexts.{OneTaken, SectionIndexed, UnitsRefuse,
 
 use crate::field_offsets::section_offset;
 use crate::fields::TextBase;
-use crate::found::{Found, SectionTexts, TextTables, UnitPaths};
+use crate::found::{FoundTexts, SectionFields, SectionTexts, TextTables};
 use crate::scan_table::ScanTable;
 use crate::slots::NamedSlots;
 use crate::units::unit_texts;
@@ -40,7 +40,7 @@ pub(crate) fn section_texts(
     section: u32,
     shared: &mut HashMap<u64, ScanTable>,
     slots: &mut NamedSlots,
-) -> Result<UnitPaths, Fault>
+) -> Result<SectionFields, Fault>
     requires there { IsUnitSection view.now section }
     requires tables { tables.now ≡ texts_of (debug_data view.now) }
     requires shared { AreTables (debug_data view.now) (λ at. get nat_eq shared.old at) }
@@ -70,7 +70,7 @@ fn units_texts(
     units: &[UnitHeader],
     shared: &mut HashMap<u64, ScanTable>,
     slots: &mut NamedSlots,
-) -> Result<UnitPaths, Fault>
+) -> Result<SectionFields, Fault>
     requires there { IsUnitSection view.now section }
     requires tables { tables.now ≡ texts_of (debug_data view.now) }
     requires shared { AreTables (debug_data view.now) (λ at. get nat_eq shared.old at) }
@@ -81,7 +81,7 @@ fn units_texts(
     ensures refused { IfErr result (Blames (UnitsRefuse (debug_data view.now))) }
 {
     let texts = SectionTexts::new(view, section, tables);
-    let mut found = Found::new(alloc, section);
+    let mut found = FoundTexts::new(alloc, section);
     for unit in units {
         one_unit(alloc, view, &texts, unit, shared, &mut found, slots)?;
     }
@@ -97,7 +97,7 @@ fn one_unit(
     texts: &SectionTexts,
     unit: &UnitHeader,
     shared: &mut HashMap<u64, ScanTable>,
-    found: &mut Found,
+    found: &mut FoundTexts,
     slots: &mut NamedSlots,
 ) -> Result<(), Fault>
     requires unit { HasUnit (debug_data view.now) (unit_section_at view.now unit.now.section) unit.now }

@@ -2,9 +2,9 @@
 //!
 //! Read first: `specs/LineStarts.antt`.
 
-ghost use Rattle.std.specs.Prelude.{◌≡◌, ◌<◌, length, IfErr, IfOk, OnOk};
+ghost use Rattle.std.specs.Prelude.{◌≡◌, ◌<◌, length, true, IfErr, IfOk, OnOk};
 ghost use Rattle.std.specs.Option.{ForSome};
-ghost use Rattle.dw_base.specs.Cells.{cells_at, offset_of};
+ghost use Rattle.dw_base.specs.Cells.{cells_at, field_of, is_placed};
 ghost use Rattle.dw_base.specs.DebugData.{start_number};
 ghost use Rattle.dw_base.specs.FileViews.{section_bytes, view_cells};
 ghost use Rattle.dw_base.specs.Numbers.{spelled};
@@ -20,10 +20,9 @@ ghost use Rattle.dw_find.specs.NamedStarts.{AllStarts, FieldsSay, SectionStarts,
 ghost use Rattle.dw_find.specs.UnitTexts.{AllTaken};
 
 use crate::field_offsets::{cells_field, section_offset};
-use crate::fields::PathField;
-use crate::found::UnitPaths;
+use crate::found::SectionFields;
 use crate::unit_places::UnitPlaces;
-use dw_base::{DebugSection, Kind, Order, Refusal, number_in};
+use dw_base::{DebugSection, Kind, Order, Refusal, TextField, number_in};
 use dw_view::View;
 
 /// Tests that each value of all unit sections that is to say where a line table starts names one of these starts, and that
@@ -34,7 +33,7 @@ pub(crate) fn all_start(
     view: &View,
     starts: &[u64],
     places: &UnitPlaces,
-    paths: &[UnitPaths],
+    paths: &[SectionFields],
 ) -> Result<(), Refusal>
     requires taken { AllTaken (debug_data view.now) ((debug_data view.now).found Info) paths.now }
     requires tables { TablesStart (debug_data view.now) starts.now }
@@ -54,7 +53,7 @@ fn section_starts(
     view: &View,
     starts: &[u64],
     places: &UnitPlaces,
-    found: &UnitPaths,
+    found: &SectionFields,
 ) -> Result<(), Refusal>
     requires paths { HasPlaces view.now found.now }
     requires rises { Rises starts.now }
@@ -84,7 +83,7 @@ fn lines_start(
     view: &View,
     section: u32,
     starts: &[u64],
-    fields: &[PathField],
+    fields: &[TextField],
 ) -> Result<(), Refusal>
     requires there { section < length view.now.sections }
     requires fields { AreStartFields (section_bytes view.now section) fields.now }
@@ -102,11 +101,12 @@ fn lines_start(
 
 /// A field holds the start of a line table.
 #[tactic(auto, using(crate::proofs::StartLaws::says_rules))]
-fn line_starts(view: &View, section: u32, starts: &[u64], field: PathField) -> Result<bool, Refusal>
+fn line_starts(view: &View, section: u32, starts: &[u64], field: TextField) -> Result<bool, Refusal>
     requires there { section < length view.now.sections }
     requires field { IsStartField (section_bytes view.now section) field }
     requires rises { Rises starts.now }
     ensures says { IfOk result (λ says. says ≡ says_start view.now.order (located view.now DebugSection.Line) starts.now (cells_at (view_cells view.now section) field.at field.size)) }
+    ensures placed { OnOk result (is_placed (field_of view.now.order (cells_at (view_cells view.now section) field.at field.size)) ≡ true) }
     ensures refused { IfErr result (OffsetFails view.now.order section (view_cells view.now section) (field_place field.at field.size offset_field)) }
 {
     let start = section_offset(view, section, field, DebugSection::Line)?;
@@ -121,7 +121,7 @@ fn units_start(
     view: &View,
     section: u32,
     places: &UnitPlaces,
-    fields: &[PathField],
+    fields: &[TextField],
 ) -> Result<(), Refusal>
     requires there { section < length view.now.sections }
     requires fields { AreStartFields (section_bytes view.now section) fields.now }
@@ -141,11 +141,12 @@ fn unit_starts(
     view: &View,
     section: u32,
     places: &UnitPlaces,
-    field: PathField,
+    field: TextField,
 ) -> Result<bool, Refusal>
     requires there { section < length view.now.sections }
     requires field { IsStartField (section_bytes view.now section) field }
     ensures says { IfOk result (λ says. says ≡ says_unit view.now.order places.now (cells_at (view_cells view.now section) field.at field.size)) }
+    ensures placed { OnOk result (is_placed (field_of view.now.order (cells_at (view_cells view.now section) field.at field.size)) ≡ true) }
     ensures refused { IfErr result (OffsetFails view.now.order section (view_cells view.now section) (field_place field.at field.size offset_field)) }
 {
     let read = cells_field(view, section, field.at, field.size)?;
@@ -154,7 +155,7 @@ fn unit_starts(
 
 /// The start that a field holds.
 #[tactic(auto, using(crate::proofs::StartLaws::field_rules))]
-pub fn start_in(order: Order, info: &[u8], field: PathField) -> u64
+pub fn start_in(order: Order, info: &[u8], field: TextField) -> u64
     requires field { IsStartField info.now field }
     ensures { result ≡ spelled order info.now field.at field.size }
 {

@@ -7,22 +7,21 @@ ghost use Rattle.std.specs.Prelude.{◌≡◌, ◌⊎◌, ◌+◌, ◌^◌, ◌�
 ghost use Rattle.dw_base.specs.FormFails.{FormFails};
 ghost use Rattle.dw_base.specs.Values.{value_at};
 ghost use Rattle.dw_base.specs.Refusals.{Blames, at};
+ghost use Rattle.dw_base.specs.Roles.{is_macros, is_start_name};
+ghost use Rattle.dw_base.specs.TableStarts.{is_start_form, own_form};
 ghost use Rattle.dw_base.specs.Texts.{ends_in};
 ghost use Rattle.dw_base.specs.UnitHeaders.{is_address_size};
 ghost use Rattle.dw_base.specs.declared.dwarf_numbers.TheConstants.{DW_AT_stmt_list};
 ghost use Rattle.dw_find.specs.EntryTexts.{AreTaken, OffsetLies, OffsetNames, OffsetRefuses, OffsetSized, OneRefuses, offset_in, StartSized, ValueRefuses, ValuesRefuse, ValueTaken, with_places};
-ghost use Rattle.dw_find.specs.TextPlaces.{class_places, indexed_at, is_macros, is_start, is_start_form, line_at, no_start, own_form, said_of, said_places, said_value, values_places};
+ghost use Rattle.dw_find.specs.TextPlaces.{class_places, indexed_at, line_at, no_start, said_of, said_places, said_value, values_places};
 
-use crate::fields::{InlinePath, PathField, TextBase, TextIndex};
-use crate::found::{Found, SectionTexts, TextTable};
+use crate::fields::{InlinePath, TextBase, TextIndex};
+use crate::found::{FoundTexts, SectionTexts, TextTable};
 use crate::later::later_len;
-use dw_base::dwarf_numbers::{
-    DW_AT_GNU_macros, DW_AT_macros, DW_AT_stmt_list, DW_FORM_data4, DW_FORM_data8,
-    DW_FORM_indirect, DW_FORM_sec_offset,
-};
+use dw_base::dwarf_numbers::DW_AT_stmt_list;
 use dw_base::{
-    DebugSection, Fault, Kind, Refusal, Spec, UnitHeader, Value, ValueClass, is_base, is_path,
-    uleb_at,
+    DebugSection, Fault, Kind, Refusal, Spec, TextField, UnitHeader, Value, ValueClass, is_base,
+    is_macros, is_path, is_start_form, is_start_name, own_form,
 };
 use dw_forms::value_at;
 use std::alloc::AllocError;
@@ -38,7 +37,7 @@ pub(crate) fn entry_texts(
     tag: u64,
     specs: &[Spec],
     from: u64,
-    found: &mut Found,
+    found: &mut FoundTexts,
 ) -> Result<(), Fault>
     requires address { IsTrue (is_address_size unit.now.params.address) }
     requires small { length bytes.now ≤ 2 ^ 31 }
@@ -65,7 +64,7 @@ fn value_text(
     tag: u64,
     spec: &Spec,
     place: u64,
-    found: &mut Found,
+    found: &mut FoundTexts,
 ) -> Result<u64, Fault>
     requires address { IsTrue (is_address_size unit.now.params.address) }
     requires inside { place ≤ length bytes.now }
@@ -98,7 +97,7 @@ fn noted_text(
     tag: u64,
     spec: &Spec,
     place: u64,
-    found: &mut Found,
+    found: &mut FoundTexts,
 ) -> Result<u64, Fault>
     requires address { IsTrue (is_address_size unit.now.params.address) }
     requires small { length bytes.now ≤ 2 ^ 31 }
@@ -137,45 +136,11 @@ fn value_in(unit: &UnitHeader, bytes: &[u8], spec: &Spec, place: u64) -> Result<
     )
 }
 
-/// An attribute of a name that says where a macro unit starts (DWARF 5, 3.1.1).
-fn is_macros(name: u64) -> bool
-    ensures { result ≡ is_macros name }
-{
-    name == DW_AT_macros || name == DW_AT_GNU_macros
-}
-
-/// One that says where a line table or a macro unit starts.
-fn is_start(name: u64) -> bool
-    ensures { result ≡ is_start name }
-{
-    name == DW_AT_stmt_list || is_macros(name)
-}
-
 /// An attribute that says where a line table starts (DWARF 5, 3.1.1).
 fn is_line(spec: &Spec) -> bool
     ensures { result ≡ (spec.now.name == DW_AT_stmt_list) }
 {
     spec.name == DW_AT_stmt_list
-}
-
-/// A form that can say where a line table starts (DWARF 5, 3.1.1); before version 4 it is a number of 4 or 8 bytes.
-pub fn is_start_form(form: u64) -> bool
-    ensures { result ≡ is_start_form form }
-{
-    form == DW_FORM_sec_offset || form == DW_FORM_data4 || form == DW_FORM_data8
-}
-
-/// The form of a value at a place: its attribute's, or the one in front of it (DWARF 5, 7.5.3).
-pub fn own_form(spec: &Spec, bytes: &[u8], place: u64) -> u64
-    ensures { result ≡ own_form spec.now bytes.now place }
-{
-    if spec.form != DW_FORM_indirect {
-        return spec.form;
-    }
-    match uleb_at(bytes, place) {
-        Some((form, _)) => form,
-        None => 0,
-    }
 }
 
 /// A value at a place says where a line table starts.
@@ -191,7 +156,7 @@ fn says_start(spec: &Spec, bytes: &[u8], place: u64) -> bool
 
 /// Notes the field of a value that says where a line table starts.
 #[tactic(auto, using(crate::proofs::EntryTextLaws::start_rules))]
-fn note_start(says: bool, value: &Value, found: &mut Found) -> Result<(), AllocError>
+fn note_start(says: bool, value: &Value, found: &mut FoundTexts) -> Result<(), AllocError>
     requires sized { says ≡ true → (value.now.len ≡ 4) ⊎ (value.now.len ≡ 8) }
     ensures found { OnOk result (found.new ≡ with_places found.old (line_at says value.now)) }
 {
@@ -209,12 +174,12 @@ fn note_said(
     bytes: &[u8],
     place: u64,
     value: &Value,
-    found: &mut Found,
+    found: &mut FoundTexts,
 ) -> Result<(), AllocError>
     requires sized { StartSized (own_form spec.now bytes.now place) value.now.len }
-    ensures found { OnOk result (found.new ≡ with_places found.old (said_places (is_start spec.now.name) (is_macros spec.now.name) (own_form spec.now bytes.now place) place value.now)) }
+    ensures found { OnOk result (found.new ≡ with_places found.old (said_places (is_start_name spec.now.name) (is_macros spec.now.name) (own_form spec.now bytes.now place) place value.now)) }
 {
-    if !is_start(spec.name) {
+    if !is_start_name(spec.name) {
         return Ok(());
     }
     if !is_start_form(own_form(spec, bytes, place)) {
@@ -229,7 +194,7 @@ fn note_said(
 
 /// Notes where the first value begins that is to say a start, and has a form that can't.
 #[tactic(auto, using(crate::proofs::EntryTextLaws::start_rules))]
-fn note_stray(place: u64, found: &mut Found)
+fn note_stray(place: u64, found: &mut FoundTexts)
     ensures found { found.new ≡ with_places found.old (indexed_at place no_start) }
 {
     found.keep_stray(place);
@@ -237,7 +202,7 @@ fn note_stray(place: u64, found: &mut Found)
 
 /// Notes the field of a value that says where a macro unit starts.
 #[tactic(auto, using(crate::proofs::EntryTextLaws::start_rules))]
-fn note_unit(value: &Value, found: &mut Found) -> Result<(), AllocError>
+fn note_unit(value: &Value, found: &mut FoundTexts) -> Result<(), AllocError>
     requires sized { (value.now.len ≡ 4) ⊎ (value.now.len ≡ 8) }
     ensures found { OnOk result (found.new ≡ with_places found.old (said_value true true 0 value.now)) }
 {
@@ -255,7 +220,7 @@ fn note_value(
     value: &Value,
     path: bool,
     base: bool,
-    found: &mut Found,
+    found: &mut FoundTexts,
 ) -> Result<(), Fault>
     requires sized { OffsetSized value.now.class value.now.len }
     requires start { StartSized (own_form spec.now bytes.now place) value.now.len }
@@ -315,11 +280,11 @@ fn text_base(field: bool, value: &Value) -> TextBase
 
 /// The field of a value that is an offset.
 #[tactic(auto, using(crate::proofs::EntryTextLaws::field_rules))]
-fn field_of(value: &Value) -> PathField
+fn field_of(value: &Value) -> TextField
     requires sized { (value.now.len ≡ 4) ⊎ (value.now.len ≡ 8) }
     ensures { result ≡ record { at = value.now.at; size = value.now.len } }
 {
-    PathField {
+    TextField {
         at: value.at,
         size: value.len as u8,
     }

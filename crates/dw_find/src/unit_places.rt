@@ -81,13 +81,13 @@ fn has_key(keys: &[u64], section: u32, place: u64) -> bool
     ensures { result ≡ is_there (unit_number keys.now section place) }
 {
     if place < PLACE_LIMIT {
-        return is_start(keys, place_key(section, place));
+        return has_start(keys, place_key(section, place));
     }
     false
 }
 
 /// One of these starts is this.
-fn is_start(starts: &[u64], start: u64) -> bool
+fn has_start(starts: &[u64], start: u64) -> bool
     requires rises { Rises starts.now }
     ensures { result ≡ is_there (start_number 0 starts.now start) }
 {

@@ -14,7 +14,7 @@ ghost use Rattle.dw_find.specs.EntryTexts.{with_places};
 ghost use Rattle.dw_find.specs.TextPlaces.{entry_places};
 ghost use Rattle.dw_find.specs.UnitTexts.{EntryRefuses, EntryTaken, ScanTaken, UnitRefuses, UnitTaken, tables_of};
 
-use crate::found::{Found, SectionTexts};
+use crate::found::{FoundTexts, SectionTexts};
 use crate::scan_table::ScanTable;
 use crate::texts::entry_texts;
 use dw_base::{Fault, UnitHeader};
@@ -29,7 +29,7 @@ pub(crate) fn unit_texts(
     texts: &SectionTexts,
     unit: &UnitHeader,
     table: &ScanTable,
-    found: &mut Found,
+    found: &mut FoundTexts,
 ) -> Result<(), Fault>
     requires unit { HasUnit (debug_data view.now) (unit_section_at view.now unit.now.section) unit.now }
     requires texts { texts.now ≡ tables_of (debug_data view.now) (unit_section_at view.now unit.now.section) }
@@ -49,7 +49,7 @@ fn scan_texts(
     table: &ScanTable,
     bytes: &[u8],
     scan: CodedScan,
-    found: &mut Found,
+    found: &mut FoundTexts,
 ) -> Result<(), Fault>
     requires start { scan ≡ scan_start unit.now table.now bytes.now }
     requires address { IsTrue (is_address_size unit.now.params.address) }
@@ -77,7 +77,7 @@ fn scanned_texts(
     bytes: &[u8],
     number: u64,
     entry: &Coded,
-    found: &mut Found,
+    found: &mut FoundTexts,
 ) -> Result<(), Fault>
     requires address { IsTrue (is_address_size unit.now.params.address) }
     requires small { length bytes.now ≤ 2 ^ 31 }

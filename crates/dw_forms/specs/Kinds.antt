@@ -1,9 +1,10 @@
 -- The kinds of values as the code has them, and the definition's (DWARF 5, 7.5.5 and 7.5.6).
 use Rattle.std.specs.Prelude.{ℕ, ◌<◌, ◌≤◌, ⊤}
-use Rattle.dw_base.specs.Forms.{ValueKind, in_str, in_line_str, number_of, leb_number, signed_leb, block_of, counted, counted_leb, inline_text, text_offset, present, in_abbreviation, form_in_front, supplementary, unlisted, reference_size, width_size}
+use Rattle.dw_base.specs.Forms.{ValueKind, number_of, leb_number, signed_leb, block_of, counted, counted_leb, inline_text, text_offset, present, in_abbreviation, form_in_front, supplementary, unlisted, reference_size, width_size}
 use Rattle.dw_base.specs.declared.fault.Kind.{Kind}
 use Rattle.dw_base.specs.declared.fault.Kind.TheVariants.{Entry, Form, Supplementary as SupplementaryKind}
 use Rattle.dw_base.specs.declared.shared.Params.{Params}
+use Rattle.dw_base.specs.declared.texts.TextSection.TheVariants.{InStr, InLineStr}
 use Rattle.dw_forms.specs.declared.kinds.FieldSize.{FieldSize}
 use Rattle.dw_forms.specs.declared.kinds.FieldSize.TheVariants.{Bytes, Address, Offset, Reference}
 use Rattle.dw_forms.specs.declared.kinds.FormKind.{FormKind}
@@ -25,8 +26,8 @@ as_kind params (Block n) = block_of n
 as_kind params (Counted n) = counted n
 as_kind params CountedLeb = counted_leb
 as_kind params InlineText = inline_text
-as_kind params StrOffset = text_offset in_str (width_size params.width)
-as_kind params LineStrOffset = text_offset in_line_str (width_size params.width)
+as_kind params StrOffset = text_offset InStr (width_size params.width)
+as_kind params LineStrOffset = text_offset InLineStr (width_size params.width)
 as_kind params Present = present
 as_kind params InAbbreviation = in_abbreviation
 as_kind params FormInFront = form_in_front

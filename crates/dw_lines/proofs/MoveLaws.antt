@@ -10,7 +10,7 @@ use Rattle.elf_relocs.specs.Runs.{RunsRise}
 use Rattle.elf_relocs.specs.declared.runs.Run.{Run}
 use Rattle.elf_relocs.proofs.RunPlaceLaws.{RiseFrom, rise-further, runs-rise}
 use Rattle.dw_lines.specs.TableMoves.{kept_run, new_end, offsets_from, runs_from, stretch_new, stretch_offset, stretch_run}
-use Rattle.dw_lines.specs.declared.moves.FieldOffset.{FieldOffset}
+use Rattle.dw_lines.specs.declared.moves.NewFieldOffset.{NewFieldOffset}
 
 pub runs-append : (old new : ℕ) (xs ys : List Stretch) → runs_from old new (xs ++ ys) ≡ runs_from old new xs ++ runs_from (stretches_end old xs) (new_end new xs) ys
 runs-append old new [] ys = refl
@@ -26,7 +26,7 @@ new-append new (x ∷ xs) ys = new-append (new + stretch_new x) xs ys
 pub offsets-append : (at : ℕ) (xs ys : List Stretch) → offsets_from at (xs ++ ys) ≡ offsets_from at xs ++ offsets_from (stretches_end at xs) ys
 offsets-append at [] ys = refl
 offsets-append at (x ∷ xs) ys =
-    ap (λ (fs : List FieldOffset). stretch_offset at x ++ fs) (offsets-append (at + stretch_size x) xs ys)
+    ap (λ (fs : List NewFieldOffset). stretch_offset at x ++ fs) (offsets-append (at + stretch_size x) xs ys)
     ∙ sym (append_assoc (stretch_offset at x) (offsets_from (at + stretch_size x) xs) (offsets_from (stretches_end (at + stretch_size x) xs) ys))
 
 stretches-behind : (p : ℕ) (xs : List Stretch) → p ≤ stretches_end p xs

@@ -17,7 +17,7 @@ use Rattle.dw_meaning.specs.LineStretches.{PlacedStretch, all_path_stretches, in
 use Rattle.elf_relocs.specs.declared.runs.Run.{Run}
 use Rattle.dw_lines.specs.TableMoves.{InOrder, behind_placed, kept_run, passed, passed_runs, placed_offsets, placed_runs, stretch_offset}
 use Rattle.dw_lines.specs.ViewSources.{view_source}
-use Rattle.dw_lines.specs.declared.moves.FieldOffset.{FieldOffset}
+use Rattle.dw_lines.specs.declared.moves.NewFieldOffset.{NewFieldOffset}
 
 -- runs that are appended one after another
 pub runs-appended : (a b c p n : List Run) → b ≡ a ++ p → c ≡ b ++ n → c ≡ a ++ (p ++ n)
@@ -89,7 +89,7 @@ inline-runs v section m places w x s runs more own e =
     e ∙ ap (λ (rs : List Run). runs ++ rs) (sym (append-nil (kept_run s.old s.new (x.at - s.old)))
     ∙ sym (append-nil (kept_run s.old s.new (x.at - s.old) ++ [])) ∙ ap (passed_runs s) (sym (inline-is v section m places w x own)))
 
-pub inline-offsets : (v : View) (section : ℕ) (m : PathMap) (places : TextPlace → Option ℕ) (w : Width) (x : TextPlace) (offsets : List FieldOffset) → x.section ≡ section
+pub inline-offsets : (v : View) (section : ℕ) (m : PathMap) (places : TextPlace → Option ℕ) (w : Width) (x : TextPlace) (offsets : List NewFieldOffset) → x.section ≡ section
     → offsets ≡ offsets ++ placed_offsets (path_stretches (view_source v section) m places w x)
 inline-offsets v section m places w x offsets own =
     sym (append-nil offsets) ∙ ap (λ (cs : List PlacedStretch). offsets ++ placed_offsets cs) (sym (inline-is v section m places w x own))
@@ -104,7 +104,7 @@ pub none-runs : (v : View) (section : ℕ) (m : PathMap) (places : TextPlace →
 none-runs v section m places w x s runs other is =
     sym (append-nil runs) ∙ ap (λ (cs : List PlacedStretch). runs ++ passed_runs s cs) (sym (offset-is v section m places w x None other is))
 
-pub none-offsets : (v : View) (section : ℕ) (m : PathMap) (places : TextPlace → Option ℕ) (w : Width) (x : TextPlace) (offsets : List FieldOffset) → x.section ≢ section → None ≡ places x
+pub none-offsets : (v : View) (section : ℕ) (m : PathMap) (places : TextPlace → Option ℕ) (w : Width) (x : TextPlace) (offsets : List NewFieldOffset) → x.section ≢ section → None ≡ places x
     → offsets ≡ offsets ++ placed_offsets (path_stretches (view_source v section) m places w x)
 none-offsets v section m places w x offsets other is =
     sym (append-nil offsets) ∙ ap (λ (cs : List PlacedStretch). offsets ++ placed_offsets cs) (sym (offset-is v section m places w x None other is))
@@ -139,11 +139,11 @@ one-offset : (w : Width) (at to : ℕ) → placed_offsets (offset_stretches w at
 one-offset W32 at to = refl
 one-offset W64 at to = refl
 
-pub offset-offsets : (v : View) (section : ℕ) (m : PathMap) (places : TextPlace → Option ℕ) (w : Width) (x : TextPlace) (offsets more : List FieldOffset) (to : ℕ) → x.section ≢ section
+pub offset-offsets : (v : View) (section : ℕ) (m : PathMap) (places : TextPlace → Option ℕ) (w : Width) (x : TextPlace) (offsets more : List NewFieldOffset) (to : ℕ) → x.section ≢ section
     → Some to ≡ places x → more ≡ offsets ++ record { at = x.field; size = width_size w; offset = to } ∷ []
     → more ≡ offsets ++ placed_offsets (path_stretches (view_source v section) m places w x)
 offset-offsets v section m places w x offsets more to other is e =
-    e ∙ ap (λ (fs : List FieldOffset). offsets ++ fs) (sym (one-offset w x.field to) ∙ ap placed_offsets (sym (offset-is v section m places w x (Some to) other is)))
+    e ∙ ap (λ (fs : List NewFieldOffset). offsets ++ fs) (sym (one-offset w x.field to) ∙ ap placed_offsets (sym (offset-is v section m places w x (Some to) other is)))
 
 pub ruleset path_laws = (
   inline-order,
@@ -177,7 +177,7 @@ runs-append s (x ∷ xs) ys =
 pub offsets-append : (xs ys : List PlacedStretch) → placed_offsets (xs ++ ys) ≡ placed_offsets xs ++ placed_offsets ys
 offsets-append [] ys = refl
 offsets-append (x ∷ xs) ys =
-    ap (λ (fs : List FieldOffset). stretch_offset x.at x.stretch ++ fs) (offsets-append xs ys)
+    ap (λ (fs : List NewFieldOffset). stretch_offset x.at x.stretch ++ fs) (offsets-append xs ys)
     ∙ sym (append_assoc (stretch_offset x.at x.stretch) (placed_offsets xs) (placed_offsets ys))
 
 pub passed-behind : (s : Run) (xs : List PlacedStretch) → s.new ≤ (passed s xs).new
@@ -217,24 +217,24 @@ left-step g m places w xs i d lt =
 
 -- what was passed so far, and what is left
 pub record PathsPassed (g : LineSource) (m : PathMap) (places : TextPlace → Option ℕ) (w : Width) (xs : List TextPlace) (start at : Run) (before runs : List Run)
-    (first offsets : List FieldOffset) (i : ℕ) : Type 0 where
+    (first offsets : List NewFieldOffset) (i : ℕ) : Type 0 where
   pub next : passed at (all_path_stretches g m places w (drop i xs)) ≡ passed start (all_path_stretches g m places w xs)
   pub runs_are : runs ++ passed_runs at (all_path_stretches g m places w (drop i xs)) ≡ before ++ passed_runs start (all_path_stretches g m places w xs)
   pub offsets_are : offsets ++ placed_offsets (all_path_stretches g m places w (drop i xs)) ≡ first ++ placed_offsets (all_path_stretches g m places w xs)
   pub order : InOrder at.old (2 ^ 31) (all_path_stretches g m places w (drop i xs))
 
-pub paths-start : (g : LineSource) (m : PathMap) (places : TextPlace → Option ℕ) (w : Width) (xs : List TextPlace) (start : Run) (before : List Run) (first : List FieldOffset)
+pub paths-start : (g : LineSource) (m : PathMap) (places : TextPlace → Option ℕ) (w : Width) (xs : List TextPlace) (start : Run) (before : List Run) (first : List NewFieldOffset)
     → InOrder start.old (2 ^ 31) (all_path_stretches g m places w xs) → PathsPassed g m places w xs start start before before first first 0
 paths-start g m places w xs start before first h = record { next = refl; runs_are = refl; offsets_are = refl; order = h }
 
-pub paths-order : (g : LineSource) (m : PathMap) (places : TextPlace → Option ℕ) (w : Width) (xs : List TextPlace) (start at : Run) (before runs : List Run) (first offsets : List FieldOffset)
+pub paths-order : (g : LineSource) (m : PathMap) (places : TextPlace → Option ℕ) (w : Width) (xs : List TextPlace) (start at : Run) (before runs : List Run) (first offsets : List NewFieldOffset)
     (i : ℕ) (d : TextPlace) → PathsPassed g m places w xs start at before runs first offsets i → i < length xs
     → InOrder at.old (2 ^ 31) (path_stretches g m places w (get_or xs i d))
 paths-order g m places w xs start at before runs first offsets i d so lt =
     order-front at.old (2 ^ 31) at (path_stretches g m places w (get_or xs i d)) (all_path_stretches g m places w (drop (i + 1) xs)) refl
     (subst (InOrder at.old (2 ^ 31)) (left-step g m places w xs i d lt) so.order)
 
-pub paths-fit : (g : LineSource) (m : PathMap) (places : TextPlace → Option ℕ) (w : Width) (xs : List TextPlace) (start at : Run) (before runs : List Run) (first offsets : List FieldOffset)
+pub paths-fit : (g : LineSource) (m : PathMap) (places : TextPlace → Option ℕ) (w : Width) (xs : List TextPlace) (start at : Run) (before runs : List Run) (first offsets : List NewFieldOffset)
     (i : ℕ) (d : TextPlace) → PathsPassed g m places w xs start at before runs first offsets i → i < length xs → (passed start (all_path_stretches g m places w xs)).new < 2 ^ 64
     → (passed at (path_stretches g m places w (get_or xs i d))).new < 2 ^ 64
 paths-fit g m places w xs start at before runs first offsets i d so lt fits =
@@ -246,7 +246,7 @@ paths-fit g m places w xs start at before runs first offsets i d so lt fits =
     omega (arith, more, end, fits)
 
 pub paths-more : (g : LineSource) (m : PathMap) (places : TextPlace → Option ℕ) (w : Width) (xs : List TextPlace) (start at next : Run) (before runs more : List Run)
-    (first offsets fields : List FieldOffset) (i : ℕ) (d : TextPlace) → PathsPassed g m places w xs start at before runs first offsets i → i < length xs
+    (first offsets fields : List NewFieldOffset) (i : ℕ) (d : TextPlace) → PathsPassed g m places w xs start at before runs first offsets i → i < length xs
     → next ≡ passed at (path_stretches g m places w (get_or xs i d)) → more ≡ runs ++ passed_runs at (path_stretches g m places w (get_or xs i d))
     → fields ≡ offsets ++ placed_offsets (path_stretches g m places w (get_or xs i d)) → PathsPassed g m places w xs start next before more first fields (i + 1)
 paths-more g m places w xs start at next before runs more first offsets fields i d so lt n r f =
@@ -261,9 +261,9 @@ paths-more g m places w xs start at next before runs more first offsets fields i
           ∙ ap (λ (rs : List Run). runs ++ rs)
           (sym (runs-append at (path_stretches g m places w (get_or xs i d)) (all_path_stretches g m places w (drop (i + 1) xs))) ∙ ap (passed_runs at) (sym step))
           ∙ so.runs_are;
-      offsets_are = ap (λ (fs : List FieldOffset). fs ++ placed_offsets (all_path_stretches g m places w (drop (i + 1) xs))) f
+      offsets_are = ap (λ (fs : List NewFieldOffset). fs ++ placed_offsets (all_path_stretches g m places w (drop (i + 1) xs))) f
           ∙ append_assoc offsets (placed_offsets (path_stretches g m places w (get_or xs i d))) (placed_offsets (all_path_stretches g m places w (drop (i + 1) xs)))
-          ∙ ap (λ (fs : List FieldOffset). offsets ++ fs)
+          ∙ ap (λ (fs : List NewFieldOffset). offsets ++ fs)
           (sym (offsets-append (path_stretches g m places w (get_or xs i d)) (all_path_stretches g m places w (drop (i + 1) xs))) ∙ ap placed_offsets (sym step))
           ∙ so.offsets_are;
       order = subst (λ (s : Run). InOrder s.old (2 ^ 31) (all_path_stretches g m places w (drop (i + 1) xs))) (sym n)
@@ -274,17 +274,17 @@ paths-more g m places w xs start at next before runs more first offsets fields i
 none-left : (g : LineSource) (m : PathMap) (places : TextPlace → Option ℕ) (w : Width) (xs : List TextPlace) (i : ℕ) → length xs ≤ i → all_path_stretches g m places w (drop i xs) ≡ []
 none-left g m places w xs i le = ap (all_path_stretches g m places w) (drop_all i xs le)
 
-pub paths-next : (g : LineSource) (m : PathMap) (places : TextPlace → Option ℕ) (w : Width) (xs : List TextPlace) (start at : Run) (before runs : List Run) (first offsets : List FieldOffset)
+pub paths-next : (g : LineSource) (m : PathMap) (places : TextPlace → Option ℕ) (w : Width) (xs : List TextPlace) (start at : Run) (before runs : List Run) (first offsets : List NewFieldOffset)
     (i : ℕ) → PathsPassed g m places w xs start at before runs first offsets i → length xs ≤ i → at ≡ passed start (all_path_stretches g m places w xs)
 paths-next g m places w xs start at before runs first offsets i so le = ap (passed at) (sym (none-left g m places w xs i le)) ∙ so.next
 
-pub paths-runs : (g : LineSource) (m : PathMap) (places : TextPlace → Option ℕ) (w : Width) (xs : List TextPlace) (start at : Run) (before runs : List Run) (first offsets : List FieldOffset)
+pub paths-runs : (g : LineSource) (m : PathMap) (places : TextPlace → Option ℕ) (w : Width) (xs : List TextPlace) (start at : Run) (before runs : List Run) (first offsets : List NewFieldOffset)
     (i : ℕ) → PathsPassed g m places w xs start at before runs first offsets i → length xs ≤ i → runs ≡ before ++ passed_runs start (all_path_stretches g m places w xs)
 paths-runs g m places w xs start at before runs first offsets i so le =
     sym (append-nil runs) ∙ ap (λ (cs : List PlacedStretch). runs ++ passed_runs at cs) (sym (none-left g m places w xs i le)) ∙ so.runs_are
 
 pub paths-offsets : (g : LineSource) (m : PathMap) (places : TextPlace → Option ℕ) (w : Width) (xs : List TextPlace) (start at : Run) (before runs : List Run)
-    (first offsets : List FieldOffset) (i : ℕ) → PathsPassed g m places w xs start at before runs first offsets i → length xs ≤ i
+    (first offsets : List NewFieldOffset) (i : ℕ) → PathsPassed g m places w xs start at before runs first offsets i → length xs ≤ i
     → offsets ≡ first ++ placed_offsets (all_path_stretches g m places w xs)
 paths-offsets g m places w xs start at before runs first offsets i so le =
     sym (append-nil offsets) ∙ ap (λ (cs : List PlacedStretch). offsets ++ placed_offsets cs) (sym (none-left g m places w xs i le)) ∙ so.offsets_are

@@ -23,9 +23,9 @@ use Rattle.dw_meaning.proofs.LineLaidLaws.{length-bytes}
 use Rattle.dw_meaning.proofs.LineStretchLaws.{Placed, TextsApart, table-are, table-placed}
 use Rattle.elf_relocs.specs.declared.runs.Run.{Run}
 use Rattle.dw_lines.specs.TableMoves.{InOrder, PathsInOrder, behind_placed, header_runs, header_start, kept_run, new_end, offsets_from, passed, passed_runs, placed_offsets, placed_runs, runs_from, stretch_new, stretch_offset, stretch_run}
-use Rattle.dw_lines.specs.declared.moves.FieldOffset.{FieldOffset}
 use Rattle.dw_lines.proofs.MoveLaws.{new-append, new-length, offsets-append, runs-append}
 use Rattle.dw_lines.proofs.PathMoveLaws.{order-end, passed-behind, runs-appended}
+use Rattle.dw_lines.specs.declared.moves.NewFieldOffset.{NewFieldOffset}
 
 pub ruleset last_laws = (runs-appended)
 
@@ -50,7 +50,7 @@ between-offsets from end (c ∷ cs) h =
     let here = h.0 in
     let at : from + (c.at - from) ≡ c.at = omega (arith, here) in
     ap (λ (i : ℕ). stretch_offset i c.stretch ++ offsets_from (i + stretch_size c.stretch) (stretches_between (c.at + stretch_size c.stretch) end cs)) at
-    ∙ ap (λ (fs : List FieldOffset). stretch_offset c.at c.stretch ++ fs) (between-offsets (c.at + stretch_size c.stretch) end cs h.1)
+    ∙ ap (λ (fs : List NewFieldOffset). stretch_offset c.at c.stretch ++ fs) (between-offsets (c.at + stretch_size c.stretch) end cs h.1)
 
 between-new : (s : Run) (end : ℕ) (cs : List PlacedStretch) → new_end s.new (stretches_between s.old end cs) ≡ (passed s cs).new + (end - (passed s cs).old)
 between-new s end [] = refl
@@ -177,10 +177,10 @@ table-runs g m places h dirs ps files t new runs more e p order is =
     ∙ ap (λ (x : LineTable). runs_from x.start new (table_stretches g m places x)) (sym e))
 
 pub table-offsets : (g : LineSource) (m : PathMap) (places : TextPlace → Option ℕ) (h : LineHeader) (dirs ps : List TextPlace) (files : List FilePlace) (t : LineTable)
-    (offsets more : List FieldOffset) → t ≡ table_with g.number h dirs files t.defined → ps ≡ dirs ++ texts_of files → PathsInOrder g m places t
+    (offsets more : List NewFieldOffset) → t ≡ table_with g.number h dirs files t.defined → ps ≡ dirs ++ texts_of files → PathsInOrder g m places t
     → more ≡ offsets ++ placed_offsets (all_path_stretches g m places h.width ps) → more ≡ offsets ++ offsets_from t.start (table_stretches g m places t)
 table-offsets g m places h dirs ps files t offsets more e p order is =
-    is ∙ ap (λ (fs : List FieldOffset). offsets ++ fs)
+    is ∙ ap (λ (fs : List NewFieldOffset). offsets ++ fs)
     (ap (λ (xs : List TextPlace). placed_offsets (all_path_stretches g m places h.width xs)) p
     ∙ sym (header-offsets g m places h dirs files t.defined (subst (PathsInOrder g m places) e order))
     ∙ ap (λ (x : LineTable). offsets_from x.start (table_stretches g m places x)) (sym e))

@@ -5,16 +5,16 @@ use Rattle.dw_base.specs.declared.debug_sections.DebugSection.{DebugSection}
 use Rattle.dw_base.specs.declared.debug_sections.DebugSection.TheVariants.{LineStr, Str}
 
 -- old places with new ones, of the texts in each table of texts
-pub record NewPlaces : Type 0 where
+pub record KnownTexts : Type 0 where
   pub str : List (ℕ × ℕ)
   pub line_str : List (ℕ × ℕ)
 
 -- those of a section: none where it is no table of texts
-abbrev pub places_in : NewPlaces → DebugSection → List (ℕ × ℕ)
+abbrev pub places_in : KnownTexts → DebugSection → List (ℕ × ℕ)
 places_in p Str = p.str
 places_in p LineStr = p.line_str
 places_in p s = []
 
 -- the new place of the text at an old place of a section, where one is known
-abbrev pub texts_known : NewPlaces → DebugSection → ℕ → Option ℕ
+abbrev pub texts_known : KnownTexts → DebugSection → ℕ → Option ℕ
 texts_known p s = λ o. lookup (nat_eq o) (places_in p s)

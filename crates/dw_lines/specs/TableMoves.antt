@@ -7,9 +7,9 @@ use Rattle.dw_base.specs.Paths.{PathMap}
 use Rattle.dw_base.specs.WrittenLines.{behind_lengths, header_length_place, length_size, paths_of}
 use Rattle.dw_base.specs.declared.line_tables.LineHeader.{LineHeader}
 use Rattle.dw_base.specs.declared.line_tables.TextPlace.{TextPlace}
+use Rattle.dw_lines.specs.declared.moves.NewFieldOffset.{NewFieldOffset}
 use Rattle.dw_meaning.specs.LineStretches.{PlacedStretch, Stretch, all_path_stretches, kept_stretch, offset_stretch, other_stretch, stretch_size}
 use Rattle.elf_relocs.specs.declared.runs.Run.{Run}
-use Rattle.dw_lines.specs.declared.moves.FieldOffset.{FieldOffset}
 
 -- the run of so many bytes at a place, which come to stand at another
 abbrev pub kept_run : ℕ → ℕ → ℕ → List Run
@@ -38,13 +38,13 @@ new_end new [] = new
 new_end new (x ∷ xs) = new_end (new + stretch_new x) xs
 
 -- the fields that say other offsets
-abbrev pub stretch_offset : ℕ → Stretch → List FieldOffset
+abbrev pub stretch_offset : ℕ → Stretch → List NewFieldOffset
 stretch_offset at (kept_stretch n) = []
 stretch_offset at (other_stretch n bytes) = []
 stretch_offset at (offset_stretch zero offset) = []
 stretch_offset at (offset_stretch (suc n) offset) = record { at = at; size = suc n; offset = offset } ∷ []
 
-abbrev pub offsets_from : ℕ → List Stretch → List FieldOffset
+abbrev pub offsets_from : ℕ → List Stretch → List NewFieldOffset
 offsets_from at [] = []
 offsets_from at (x ∷ xs) = stretch_offset at x ++ offsets_from (at + stretch_size x) xs
 
@@ -74,7 +74,7 @@ passed_runs s [] = []
 passed_runs s (c ∷ cs) = placed_runs s c ++ passed_runs (behind_placed s c) cs
 
 -- and the fields that say other offsets
-abbrev pub placed_offsets : List PlacedStretch → List FieldOffset
+abbrev pub placed_offsets : List PlacedStretch → List NewFieldOffset
 placed_offsets [] = []
 placed_offsets (c ∷ cs) = stretch_offset c.at c.stretch ++ placed_offsets cs
 

@@ -43,7 +43,7 @@ mod written;
 pub use dw_base::{Fault, FilePlace, Kind, Refusal, TextPlace, Width};
 pub use elf_relocs::Run;
 pub use fields::HeaderFields;
-pub use moves::FieldOffset;
+pub use moves::NewFieldOffset;
 pub use new_texts::NewTexts;
 pub use table::LineTable;
 pub use view_tables::line_tables;

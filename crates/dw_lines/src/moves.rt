@@ -28,7 +28,7 @@ use std::alloc::{AllocError, Global};
 
 /// A field of a section, and the offset that it is to say.
 #[derive(Clone, Copy, Debug, PartialEq, Eq, Drop)]
-pub struct FieldOffset {
+pub struct NewFieldOffset {
     /// Where it is, in bytes from the section's start.
     pub at: u64,
     /// How many bytes it has.
@@ -77,7 +77,7 @@ fn pass_offset(
     width: Width,
     offset: u64,
     runs: &mut Vec<Run>,
-    offsets: &mut Vec<FieldOffset>,
+    offsets: &mut Vec<NewFieldOffset>,
 ) -> Result<Run, AllocError>
     requires order { at.old ≤ field }
     requires near { field + width_size width ≤ 2 ^ 31 }
@@ -90,7 +90,7 @@ fn pass_offset(
     let kept = field - at.old;
     push_run(runs, at.old, at.new, kept)?;
     push_run(runs, field, at.new + kept, u64::from(size))?;
-    offsets.push(FieldOffset {
+    offsets.push(NewFieldOffset {
         at: field,
         size,
         offset,
@@ -112,7 +112,7 @@ fn pass_path(
     path: &TextPlace,
     at: Run,
     runs: &mut Vec<Run>,
-    offsets: &mut Vec<FieldOffset>,
+    offsets: &mut Vec<NewFieldOffset>,
 ) -> Result<Run, AllocError>
     requires there { section < length view.now.sections }
     requires order { InOrder at.old (2 ^ 31) (path_stretches (view_source view.now section) maps.now (new_place (view_source view.now section) (texts_known texts.now Str) (texts_known texts.now LineStr)) width path.now) }
@@ -144,7 +144,7 @@ fn pass_paths(
     paths: &[TextPlace],
     start: Run,
     runs: &mut Vec<Run>,
-    offsets: &mut Vec<FieldOffset>,
+    offsets: &mut Vec<NewFieldOffset>,
 ) -> Result<Run, AllocError>
     requires there { section < length view.now.sections }
     requires order { InOrder start.old (2 ^ 31) (all_path_stretches (view_source view.now section) maps.now (new_place (view_source view.now section) (texts_known texts.now Str) (texts_known texts.now LineStr)) width paths.now) }
@@ -189,7 +189,7 @@ fn push_header(
     paths: &[TextPlace],
     new: u64,
     runs: &mut Vec<Run>,
-    offsets: &mut Vec<FieldOffset>,
+    offsets: &mut Vec<NewFieldOffset>,
 ) -> Result<(), AllocError>
     requires there { section < length view.now.sections }
     requires small { header.now.start ≤ 2 ^ 31 }
@@ -236,7 +236,7 @@ impl LineTable {
         texts: &NewTexts,
         new: u64,
         runs: &mut Vec<Run>,
-        offsets: &mut Vec<FieldOffset>,
+        offsets: &mut Vec<NewFieldOffset>,
     ) -> Result<(), AllocError>
         requires there { self.now.section < length view.now.sections }
         requires table { IsLineTable (view_source view.now self.now.section) self.now.start self.now }

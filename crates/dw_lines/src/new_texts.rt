@@ -5,7 +5,7 @@
 ghost use Rattle.std.specs.Prelude.{◌≡◌, nat_eq};
 ghost use Rattle.std.specs.HashMap.{get};
 ghost use Rattle.dw_base.specs.declared.debug_sections.DebugSection.TheVariants.{LineStr, Str};
-ghost use Rattle.dw_lines.specs.NewTexts.{NewPlaces, texts_known};
+ghost use Rattle.dw_lines.specs.NewTexts.{KnownTexts, texts_known};
 
 use dw_base::DebugSection;
 use std::collections::HashMap;
@@ -21,7 +21,7 @@ pub struct NewTexts {
 }
 
 impl Model for NewTexts {
-    ghost Value = { NewPlaces };
+    ghost Value = { KnownTexts };
 
     ghost view = { λ n. record { str = n.str.entries; line_str = n.line_str.entries } };
 }

@@ -4,7 +4,7 @@ use Rattle.std.specs.Bool.{⊤}
 use Rattle.std.proofs.lemmas.List.{length-append, append-nil}
 use Rattle.dw_base.specs.Cells.{Cell, Located, bytes_of, located_cells}
 use Rattle.dw_base.specs.DebugData.{DebugData, DataReadings, begins_by, units_in, ReadsAll, EntryPlace, place_by, entry_places, all_places, info_number, info_numbers, Lasting, Around, around_of, indexing_of, line_source, path_slots, table_of}
-use Rattle.dw_base.specs.Forms.{TextSection, in_str, in_line_str, ValueKind, number_of, leb_number, signed_leb, block_of, counted, counted_leb, inline_text, text_offset, present, in_abbreviation, form_in_front, supplementary, unlisted, kind_in}
+use Rattle.dw_base.specs.Forms.{ValueKind, number_of, leb_number, signed_leb, block_of, counted, counted_leb, inline_text, text_offset, present, in_abbreviation, form_in_front, supplementary, unlisted, kind_in}
 use Rattle.dw_base.specs.LineChanges.{line_mentions, line_place}
 use Rattle.dw_base.specs.LineHeaders.{header_with}
 use Rattle.dw_base.specs.LineReadings.{LineReading, ReadsTable, TablesTo, table_starts, starts_from, all_lines}
@@ -20,7 +20,7 @@ use Rattle.dw_base.specs.OffsetPieces.{OffsetState, at_contribution, offsets_at}
 use Rattle.dw_base.specs.Paths.{PathMap, IsPathMap}
 use Rattle.dw_base.specs.Pieces.{Piece, joined, Chain, EachPiece}
 use Rattle.dw_base.specs.Readings.{Readings, EachReading}
-use Rattle.dw_base.specs.Roles.{Use, names_path, names_line_table, names_macro_unit, names_other, use_of, role_of_kind, role_of, role_of_mode}
+use Rattle.dw_base.specs.Roles.{use_of, role_of_kind, role_of, role_of_mode}
 use Rattle.dw_base.specs.SectionTexts.{slot_role, name_role, macro_role, mentions_with, macro_mentions, file_mentions, NameTexts}
 use Rattle.dw_base.specs.SlotTexts.{contributions_in, slot_texts, name_parts}
 use Rattle.dw_base.specs.StringTables.{Mention, texts_after, new_table}
@@ -41,6 +41,10 @@ use Rattle.dw_base.proofs.PieceFrameLaws.{chain-changed}
 use Rattle.dw_base.proofs.PlainCellLaws.{IsPlain, plain-parts}
 use Rattle.dw_base.proofs.UnitEditLaws.{Shift, Becomes, UnitChange, UnitsChanged, length-becomes, length-bytes_of, units_preserve}
 use Rattle.dw_base.specs.declared.debug_sections.DebugSection.TheVariants.{Info, Str, LineStr, StrOffsets, Line, Macro, Names}
+use Rattle.dw_base.specs.declared.texts.TextSection.{TextSection}
+use Rattle.dw_base.specs.declared.texts.TextSection.TheVariants.{InStr, InLineStr}
+use Rattle.dw_base.specs.declared.values.AttributeUse.{AttributeUse}
+use Rattle.dw_base.specs.declared.values.AttributeUse.TheVariants.{NamesPath, NamesLineTable, NamesMacroUnit, NamesOther}
 use Rattle.dw_meaning.specs.DataOutput.{DataReads, DataFits, EachWritable, table_change, new_lines, changes_of, offsets_after, macros_after, names_after}
 use Rattle.dw_meaning.proofs.IndexTextLaws.{IsApart, texts-apart, slots-move}
 use Rattle.dw_meaning.specs.LineCells.{all_written_cells}
@@ -135,32 +139,32 @@ AllReadingsChanged c (x ∷ xs) (y ∷ ys) = (y.number ≡ x.number) × UnitsCha
 
 -- the text law, for all sections
 readings-edited : (lc : List Cell) (base : UnitBase) (c : TableChanges) (around : Around) (ts us : List (List ℕ)) (first : ℕ) (zs : List UnitSection) (rs : Readings) (ms ns : List Mention)
-    → TablesMove c around → TextsAre c ts us (all_mentions in_str around rs ++ ms) (all_mentions in_line_str around rs ++ ns) → ReadsAll base first zs rs
+    → TablesMove c around → TextsAre c ts us (all_mentions InStr around rs ++ ms) (all_mentions InLineStr around rs ++ ns) → ReadsAll base first zs rs
     → EachReading (Moves c around) rs → EachReading (NamesText around) rs → EachReading (InlineFits c.map) rs → EachReading (SlotMoves (shift_of c around lc)) rs
     → AllReadingsChanged (shift_of c around lc) rs (edited_readings c around rs)
 readings-edited lc base c around ts us first zs [] ms ns t all reads moves names fits slots = tt
 readings-edited lc base c around ts us first [] (r ∷ rs) ms ns t all reads moves names fits slots = absurd reads
 readings-edited lc base c around ts us first (z ∷ zs) (r ∷ rs) ms ns t all reads moves names fits slots =
-    let heres : List Mention = mentions_of in_str around r.pieces in
-    let lines : List Mention = mentions_of in_line_str around r.pieces in
-    let rest : TextsAre c ts us (heres ++ (all_mentions in_str around rs ++ ms)) (lines ++ (all_mentions in_line_str around rs ++ ns)) =
+    let heres : List Mention = mentions_of InStr around r.pieces in
+    let lines : List Mention = mentions_of InLineStr around r.pieces in
+    let rest : TextsAre c ts us (heres ++ (all_mentions InStr around rs ++ ms)) (lines ++ (all_mentions InLineStr around rs ++ ns)) =
     record {
-      str = all.str ∙ ap (texts_after (c.new Str).plan c.map ts) (append_assoc heres (all_mentions in_str around rs) ms);
-      line_str = all.line_str ∙ ap (texts_after (c.new LineStr).plan c.map us) (append_assoc lines (all_mentions in_line_str around rs) ns);
+      str = all.str ∙ ap (texts_after (c.new Str).plan c.map ts) (append_assoc heres (all_mentions InStr around rs) ms);
+      line_str = all.line_str ∙ ap (texts_after (c.new LineStr).plan c.map us) (append_assoc lines (all_mentions InLineStr around rs) ns);
     } in (
       refl,
-      edited-changed lc base c around ts us (before_unit z.number z.kind (length z.contents) 0 first) r.pieces (all_mentions in_str around rs ++ ms)
-          (all_mentions in_line_str around rs ++ ns) t rest reads.1.chain moves.0 names.0 fits.0 slots.0,
+      edited-changed lc base c around ts us (before_unit z.number z.kind (length z.contents) 0 first) r.pieces (all_mentions InStr around rs ++ ms)
+          (all_mentions InLineStr around rs ++ ns) t rest reads.1.chain moves.0 names.0 fits.0 slots.0,
       readings-edited lc base c around (texts_after (c.new Str).plan c.map ts heres) (texts_after (c.new LineStr).plan c.map us lines) (first + units_in r.pieces) zs rs ms ns t
-          (behind_piece c ts us heres lines (all_mentions in_str around rs ++ ms) (all_mentions in_line_str around rs ++ ns) rest)
+          (behind_piece c ts us heres lines (all_mentions InStr around rs ++ ms) (all_mentions InLineStr around rs ++ ns) rest)
           reads.2 moves.1 names.1 fits.1 slots.1,
     )
 
 -- the texts behind the mentions of all unit sections
 behind_units : (c : TableChanges) (around : Around) (ts us : List (List ℕ)) (rs : Readings) (ms ns : List Mention)
-    → TextsAre c ts us (all_mentions in_str around rs ++ ms) (all_mentions in_line_str around rs ++ ns)
-    → TextsAre c (texts_after (c.new Str).plan c.map ts (all_mentions in_str around rs)) (texts_after (c.new LineStr).plan c.map us (all_mentions in_line_str around rs)) ms ns
-behind_units c around ts us rs ms ns all = behind_piece c ts us (all_mentions in_str around rs) (all_mentions in_line_str around rs) ms ns all
+    → TextsAre c ts us (all_mentions InStr around rs ++ ms) (all_mentions InLineStr around rs ++ ns)
+    → TextsAre c (texts_after (c.new Str).plan c.map ts (all_mentions InStr around rs)) (texts_after (c.new LineStr).plan c.map us (all_mentions InLineStr around rs)) ms ns
+behind_units c around ts us rs ms ns all = behind_piece c ts us (all_mentions InStr around rs) (all_mentions InLineStr around rs) ms ns all
 
 -- all sections are pieces after the change
 all-changed : (base : UnitBase) (c : Shift) (first : ℕ) (zs : List UnitSection) (rs qs : Readings) → AllReadingsChanged c rs qs → ReadsAll base first zs rs
@@ -264,8 +268,8 @@ pub record DataMoves (m : PathMap) (d : DebugData) (r : DataReadings) : Type 0 w
   pub map : IsPathMap m
   pub reads : DataReads d r
   pub fits : DataFits m d r
-  pub str : length (new_table (table_change m in_str (around_of d r) r).plan (table_change m in_str (around_of d r) r).texts) ≤ 2 ^ 32
-  pub line_str : length (new_table (table_change m in_line_str (around_of d r) r).plan (table_change m in_line_str (around_of d r) r).texts) ≤ 2 ^ 32
+  pub str : length (new_table (table_change m InStr (around_of d r) r).plan (table_change m InStr (around_of d r) r).texts) ≤ 2 ^ 32
+  pub line_str : length (new_table (table_change m InLineStr (around_of d r) r).plan (table_change m InLineStr (around_of d r) r).texts) ≤ 2 ^ 32
   pub lines : length (all_lines (new_lines m (around_of d r) r)) ≤ 2 ^ 32
   pub lines_clear : EachClear (line_source d) r.lines
   pub apart : TablesApart (line_source d) r.lines
@@ -308,33 +312,33 @@ abbrev macros_texts : PathMap → TextSection → DebugData → DataReadings →
 macros_texts m table d r = texts_after (change_of (changes_of m (around_of d r) r) table).plan m (lines_texts m table d r) (macros_in table d r)
 
 texts-are : (m : PathMap) (d : DebugData) (r : DataReadings)
-    → TextsAre (changes_of m (around_of d r) r) [] [] (file_mentions in_str (around_of d r) r) (file_mentions in_line_str (around_of d r) r)
+    → TextsAre (changes_of m (around_of d r) r) [] [] (file_mentions InStr (around_of d r) r) (file_mentions InLineStr (around_of d r) r)
 unfolding table_change
 texts-are m d r = record { str = refl; line_str = refl }
 
 behind-units : (m : PathMap) (d : DebugData) (r : DataReadings)
-    → TextsAre (changes_of m (around_of d r) r) (units_texts m in_str d r) (units_texts m in_line_str d r) (behind_units_in in_str d r) (behind_units_in in_line_str d r)
+    → TextsAre (changes_of m (around_of d r) r) (units_texts m InStr d r) (units_texts m InLineStr d r) (behind_units_in InStr d r) (behind_units_in InLineStr d r)
 behind-units m d r =
-    behind_units (changes_of m (around_of d r) r) (around_of d r) [] [] r.units (behind_units_in in_str d r) (behind_units_in in_line_str d r) (texts-are m d r)
+    behind_units (changes_of m (around_of d r) r) (around_of d r) [] [] r.units (behind_units_in InStr d r) (behind_units_in InLineStr d r) (texts-are m d r)
 
 behind-slots : (m : PathMap) (d : DebugData) (r : DataReadings)
-    → TextsAre (changes_of m (around_of d r) r) (slots_texts m in_str d r) (slots_texts m in_line_str d r) (behind_slots_in in_str d r)
-    (behind_slots_in in_line_str d r)
+    → TextsAre (changes_of m (around_of d r) r) (slots_texts m InStr d r) (slots_texts m InLineStr d r) (behind_slots_in InStr d r)
+    (behind_slots_in InLineStr d r)
 behind-slots m d r =
-    behind_piece (changes_of m (around_of d r) r) (units_texts m in_str d r) (units_texts m in_line_str d r) (slots_in in_str d r) (slots_in in_line_str d r)
-    (behind_slots_in in_str d r) (behind_slots_in in_line_str d r) (behind-units m d r)
+    behind_piece (changes_of m (around_of d r) r) (units_texts m InStr d r) (units_texts m InLineStr d r) (slots_in InStr d r) (slots_in InLineStr d r)
+    (behind_slots_in InStr d r) (behind_slots_in InLineStr d r) (behind-units m d r)
 
 behind-lines : (m : PathMap) (d : DebugData) (r : DataReadings)
-    → TextsAre (changes_of m (around_of d r) r) (lines_texts m in_str d r) (lines_texts m in_line_str d r) (behind_lines_in in_str d r) (behind_lines_in in_line_str d r)
+    → TextsAre (changes_of m (around_of d r) r) (lines_texts m InStr d r) (lines_texts m InLineStr d r) (behind_lines_in InStr d r) (behind_lines_in InLineStr d r)
 behind-lines m d r =
-    behind_piece (changes_of m (around_of d r) r) (slots_texts m in_str d r) (slots_texts m in_line_str d r) (lines_in in_str d r) (lines_in in_line_str d r)
-    (behind_lines_in in_str d r) (behind_lines_in in_line_str d r) (behind-slots m d r)
+    behind_piece (changes_of m (around_of d r) r) (slots_texts m InStr d r) (slots_texts m InLineStr d r) (lines_in InStr d r) (lines_in InLineStr d r)
+    (behind_lines_in InStr d r) (behind_lines_in InLineStr d r) (behind-slots m d r)
 
 behind-macros : (m : PathMap) (d : DebugData) (r : DataReadings)
-    → TextsAre (changes_of m (around_of d r) r) (macros_texts m in_str d r) (macros_texts m in_line_str d r) (names_in in_str d r) (names_in in_line_str d r)
+    → TextsAre (changes_of m (around_of d r) r) (macros_texts m InStr d r) (macros_texts m InLineStr d r) (names_in InStr d r) (names_in InLineStr d r)
 behind-macros m d r =
-    behind_piece (changes_of m (around_of d r) r) (lines_texts m in_str d r) (lines_texts m in_line_str d r) (macros_in in_str d r) (macros_in in_line_str d r)
-    (names_in in_str d r) (names_in in_line_str d r) (behind-lines m d r)
+    behind_piece (changes_of m (around_of d r) r) (lines_texts m InStr d r) (lines_texts m InLineStr d r) (macros_in InStr d r) (macros_in InLineStr d r)
+    (names_in InStr d r) (names_in InLineStr d r) (behind-lines m d r)
 
 -- line tables, changed
 both-move : (m : PathMap) (d : DebugData) (r : DataReadings) → DataMoves m d r → BothMove (changes_of m (around_of d r) r) (line_source d)
@@ -369,8 +373,8 @@ lines-data m d r w =
     let l : List ℕ = new_table (c.new LineStr).plan (c.new LineStr).texts in
     subst (λ (bs : List ℕ). LinesMoved (line_source d) (edited_with (line_source d) bs (new_line_cells (changes_of m (around_of d r) r) d r) s l) m 0 (length (all_lines (new_lines m (around_of d r) r))) (new_lines m (around_of d r) r) r.lines)
     (sym (new-line-bytes m d r))
-    (section-moved (changes_of m (around_of d r) r) (line_source d) (slots_texts m in_str d r) (slots_texts m in_line_str d r) (behind_lines_in in_str d r) (behind_lines_in in_line_str d r) r.lines
-    refl refl w.lines_clear (makes-take (line_source d) (line_place m ((changes_of m (around_of d r) r).new Str) ((changes_of m (around_of d r) r).new LineStr) (line_source d)) r.lines w.fits.addends.lines) (both-move m d r w) (table-grows m in_str d r) (table-grows m in_line_str d r) w.apart w.tables w.reads.lines
+    (section-moved (changes_of m (around_of d r) r) (line_source d) (slots_texts m InStr d r) (slots_texts m InLineStr d r) (behind_lines_in InStr d r) (behind_lines_in InLineStr d r) r.lines
+    refl refl w.lines_clear (makes-take (line_source d) (line_place m ((changes_of m (around_of d r) r).new Str) ((changes_of m (around_of d r) r).new LineStr) (line_source d)) r.lines w.fits.addends.lines) (both-move m d r w) (table-grows m InStr d r) (table-grows m InLineStr d r) w.apart w.tables w.reads.lines
     (each-can m (changes_of m (around_of d r) r) d r r.lines w.fits.lines) (behind-slots m d r))
 
 -- line tables start in their section
@@ -428,8 +432,8 @@ pub units-changed-all : (m : PathMap) (d : DebugData) (r : DataReadings) → Dat
     → AllReadingsChanged (data_shift m d r) r.units (edited_readings (changes_of m (around_of d r) r) (around_of d r) r.units)
 units-changed-all m d r w =
     readings-edited (new_line_cells (changes_of m (around_of d r) r) d r) d.base (changes_of m (around_of d r) r) (around_of d r) [] [] 0 (d.found Info) r.units
-    (behind_units_in in_str d r)
-    (behind_units_in in_line_str d r)
+    (behind_units_in InStr d r)
+    (behind_units_in InLineStr d r)
     (tables-move m d r w) (texts-are m d r) w.reads.units w.fits.addends.units w.reads.texts w.fits.inline
     (slots-move (new_line_cells (changes_of m (around_of d r) r) d r) (changes_of m (around_of d r) r) (around_of d r) r.units (mapped_path-none m w.map) (data-apart m d r w) refl)
 
@@ -438,7 +442,7 @@ offsets-changed : (m : PathMap) (d : DebugData) (r : DataReadings) → DataMoves
     → RolesChanged (slot_role (path_slots (around_of d r))) (data_shift m d r) r.offsets (offsets_after (changes_of m (around_of d r) r) (around_of d r) r)
 offsets-changed m d r w =
     roles-changed (new_line_cells (changes_of m (around_of d r) r) d r) (slot_role (path_slots (around_of d r))) (changes_of m (around_of d r) r) (around_of d r)
-    (units_texts m in_str d r) (units_texts m in_line_str d r) r.offsets (behind_slots_in in_str d r) (behind_slots_in in_line_str d r)
+    (units_texts m InStr d r) (units_texts m InLineStr d r) r.offsets (behind_slots_in InStr d r) (behind_slots_in InLineStr d r)
     (tables-move m d r w) (behind-units m d r)
     (offsets-can (path_slots (around_of d r)) (changes_of m (around_of d r) r) (around_of d r) d.base.order (offsets_at (length (d.found StrOffsets).contents) 0 0 at_contribution) r.offsets
     w.reads.offsets.chain w.fits.addends.slots)
@@ -448,11 +452,11 @@ names-changed-all : (m : PathMap) (d : DebugData) (r : DataReadings) → DataMov
     → RolesChanged name_role (data_shift m d r) r.names (names_after (changes_of m (around_of d r) r) (around_of d r) r)
 names-changed-all m d r w =
     let all = behind-macros m d r in
-    roles-changed (new_line_cells (changes_of m (around_of d r) r) d r) name_role (changes_of m (around_of d r) r) (around_of d r) (macros_texts m in_str d r) (macros_texts m in_line_str d r)
+    roles-changed (new_line_cells (changes_of m (around_of d r) r) d r) name_role (changes_of m (around_of d r) r) (around_of d r) (macros_texts m InStr d r) (macros_texts m InLineStr d r)
     r.names [] [] (tables-move m d r w)
     (record {
-      str = all.str ∙ ap (texts_after ((changes_of m (around_of d r) r).new Str).plan m (macros_texts m in_str d r)) (sym (append-nil (names_in in_str d r)));
-      line_str = all.line_str ∙ ap (texts_after ((changes_of m (around_of d r) r).new LineStr).plan m (macros_texts m in_line_str d r)) (sym (append-nil (names_in in_line_str d r)));
+      str = all.str ∙ ap (texts_after ((changes_of m (around_of d r) r).new Str).plan m (macros_texts m InStr d r)) (sym (append-nil (names_in InStr d r)));
+      line_str = all.line_str ∙ ap (texts_after ((changes_of m (around_of d r) r).new LineStr).plan m (macros_texts m InLineStr d r)) (sym (append-nil (names_in InLineStr d r)));
     })
     (names-can (changes_of m (around_of d r) r) (around_of d r) d.base.order (names_at (length (d.found Names).contents) 0 at_table) r.names w.reads.names.chain w.fits.addends.names)
     w.reads.name_texts
@@ -461,8 +465,8 @@ names-changed-all m d r w =
 pub macros-changed-all : (m : PathMap) (d : DebugData) (r : DataReadings) → DataMoves m d r
     → AllMacrosChanged (data_shift m d r) r.macros (macros_after (changes_of m (around_of d r) r) (around_of d r) r)
 macros-changed-all m d r w =
-    macros-edited (new_line_cells (changes_of m (around_of d r) r) d r) d.base.order (changes_of m (around_of d r) r) (around_of d r) (lines_texts m in_str d r) (lines_texts m in_line_str d r) (d.found Macro) r.macros
-    (names_in in_str d r) (names_in in_line_str d r) (tables-move m d r w) (behind-lines m d r) w.reads.macros
+    macros-edited (new_line_cells (changes_of m (around_of d r) r) d r) d.base.order (changes_of m (around_of d r) r) (around_of d r) (lines_texts m InStr d r) (lines_texts m InLineStr d r) (d.found Macro) r.macros
+    (names_in InStr d r) (names_in InLineStr d r) (tables-move m d r w) (behind-lines m d r) w.reads.macros
     (all-macros-can (changes_of m (around_of d r) r) (around_of d r) d.base.order (d.found Macro) r.macros w.reads.macros w.fits.addends.macros) w.reads.macro_texts
 
 -- which slots values by index name is as it was
@@ -569,12 +573,12 @@ all-forms c around [] h = tt
 all-forms c around (r ∷ rs) h = (forms-kept c around r.pieces h.0, all-forms c around rs h.1)
 
 -- and values that say where macro units start stay
-kind-value : (k : ValueKind) (u : Use) (c : TableChanges) (around : Around) (g : Lasting) (p : List Cell) → NamesUnitIf (macro_value_by k u) g p
+kind-value : (k : ValueKind) (u : AttributeUse) (c : TableChanges) (around : Around) (g : Lasting) (p : List Cell) → NamesUnitIf (macro_value_by k u) g p
     → NamesUnitIf (macro_value_by k u) g (edited_by (role_of_kind k u) c around p)
-kind-value (number_of class n) names_macro_unit c around g p h = h
-kind-value (number_of class n) names_path c around g p h = tt
-kind-value (number_of class n) names_line_table c around g p h = tt
-kind-value (number_of class n) names_other c around g p h = tt
+kind-value (number_of class n) NamesMacroUnit c around g p h = h
+kind-value (number_of class n) NamesPath c around g p h = tt
+kind-value (number_of class n) NamesLineTable c around g p h = tt
+kind-value (number_of class n) NamesOther c around g p h = tt
 kind-value (leb_number class) u c around g p h = tt
 kind-value signed_leb u c around g p h = tt
 kind-value (block_of n) u c around g p h = tt

@@ -14,7 +14,6 @@ use Rattle.dw_base.specs.Elf.{e_shoff, e_type, nth_section, section_count, secti
 use Rattle.dw_meaning.specs.FileMeanings.{file_data, file_body, FileReads, new_body}
 use Rattle.dw_meaning.specs.RelocatedBodies.{new_cells, relocated_body}
 use Rattle.dw_base.specs.FileViews.{view_of, section_named, section_after}
-use Rattle.dw_base.specs.Forms.{TextSection, in_str, in_line_str}
 use Rattle.dw_base.specs.LayoutReads.{ReadsBack}
 use Rattle.dw_base.specs.Paths.{PathMap, IsPathMap}
 use Rattle.dw_base.specs.StringTables.{new_table}
@@ -36,6 +35,8 @@ use Rattle.dw_meaning.proofs.SectionKeptLaws.{edited-size, units-skip}
 use Rattle.dw_base.proofs.TextLaws.{ends_in-inside}
 use Rattle.dw_base.proofs.ViewCellLaws.{bytes-cells, number-cells}
 use Rattle.dw_base.proofs.UnitEditLaws.{length-bytes_of}
+use Rattle.dw_base.specs.declared.texts.TextSection.{TextSection}
+use Rattle.dw_base.specs.declared.texts.TextSection.TheVariants.{InStr, InLineStr}
 use Rattle.dw_meaning.proofs.LineColumnLaws.{texts_in}
 use Rattle.dw_meaning.proofs.LinePathLaws.{lines-none}
 use Rattle.dw_meaning.proofs.LineSectionLaws.{TablesApart, no-tables}
@@ -57,10 +58,10 @@ changes_file m b r = changes_of m (around_of (file_data b) r) r
 
 -- the new bytes of the two tables
 abbrev pub new_str : PathMap → List ℕ → DataReadings → List ℕ
-new_str m b r = new_table (table_change m in_str (around_of (file_data b) r) r).plan (table_change m in_str (around_of (file_data b) r) r).texts
+new_str m b r = new_table (table_change m InStr (around_of (file_data b) r) r).plan (table_change m InStr (around_of (file_data b) r) r).texts
 
 abbrev pub new_line_str : PathMap → List ℕ → DataReadings → List ℕ
-new_line_str m b r = new_table (table_change m in_line_str (around_of (file_data b) r) r).plan (table_change m in_line_str (around_of (file_data b) r) r).texts
+new_line_str m b r = new_table (table_change m InLineStr (around_of (file_data b) r) r).plan (table_change m InLineStr (around_of (file_data b) r) r).texts
 
 -- the new cells of string offsets and of name tables
 abbrev pub new_offsets : PathMap → List ℕ → DataReadings → List Cell
@@ -183,14 +184,14 @@ lines_no m table b r w none =
 
 -- a table that isn't there has no new bytes
 pub str-none : (m : PathMap) (b : List ℕ) (r : DataReadings) → CanMap m b r → ((file_data b).found Str).bytes ≡ [] → new_str m b r ≡ []
-str-none m b r w none = new_table-none m in_str (around_of (file_data b) r) r none w.reads.data_reads.texts w.reads.data_reads.slot_texts w.reads.data_reads.name_texts
+str-none m b r w none = new_table-none m InStr (around_of (file_data b) r) r none w.reads.data_reads.texts w.reads.data_reads.slot_texts w.reads.data_reads.name_texts
     w.reads.data_reads.macro_texts
-    (lines_no m in_str b r w none)
+    (lines_no m InStr b r w none)
 
 pub line-none : (m : PathMap) (b : List ℕ) (r : DataReadings) → CanMap m b r → ((file_data b).found LineStr).bytes ≡ [] → new_line_str m b r ≡ []
-line-none m b r w none = new_table-none m in_line_str (around_of (file_data b) r) r none w.reads.data_reads.texts w.reads.data_reads.slot_texts w.reads.data_reads.name_texts
+line-none m b r w none = new_table-none m InLineStr (around_of (file_data b) r) r none w.reads.data_reads.texts w.reads.data_reads.slot_texts w.reads.data_reads.name_texts
     w.reads.data_reads.macro_texts
-    (lines_no m in_line_str b r w none)
+    (lines_no m InLineStr b r w none)
 
 -- nor have string offsets and name tables: their pieces are as long as they were
 length-none : (p : List Cell) → length p ≡ 0 → p ≡ []
@@ -235,7 +236,7 @@ line-bytes b = bytes-cells (view_of b) (section_named (view_of b) (name_of Line)
 
 pub tables-none : (m : PathMap) (b : List ℕ) (r : DataReadings) → CanMap m b r → (located (view_of b) Line).bytes ≡ [] → new_line_tables m b r ≡ []
 tables-none m b r w none =
-    ap (λ (rs : List LineReading). all_lines (lines_after m (table_change m in_str (around_file b r) r) (table_change m in_line_str (around_file b r) r) (line_source (file_data b)) rs))
+    ap (λ (rs : List LineReading). all_lines (lines_after m (table_change m InStr (around_file b r) r) (table_change m InLineStr (around_file b r) r) (line_source (file_data b)) rs))
     (no-tables (line_source (file_data b)) r.lines (line-bytes b ∙ none) w.reads.data_reads.lines)
 
 -- section 0 has no bytes

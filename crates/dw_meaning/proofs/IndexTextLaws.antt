@@ -8,7 +8,7 @@ use Rattle.dw_base.specs.OffsetPieces.{OffsetMode, at_contribution, at_slot, no_
 use Rattle.dw_base.specs.Paths.{PathMap, mapped_path}
 use Rattle.dw_base.specs.Pieces.{Piece, Chain, EachPiece}
 use Rattle.dw_base.specs.Readings.{Readings, EachReading}
-use Rattle.dw_base.specs.Roles.{names_path, names_line_table, names_macro_unit, names_other, is_path, is_path_use, use_of}
+use Rattle.dw_base.specs.Roles.{is_path, is_path_use, use_of}
 use Rattle.dw_base.specs.SlotTexts.{slot_text, slot_texts}
 use Rattle.dw_base.specs.TextChanges.{TableChanges}
 use Rattle.dw_base.specs.TextIndexes.{IndexUse, index_value, use_by, uses_by, uses_in, index_uses, slot_of, listed_slot, slots_named, EachUse, holds_number}
@@ -21,13 +21,14 @@ use Rattle.std.proofs.lemmas.Bool.{eq-eqb}
 use Rattle.dw_base.proofs.OffsetChangeLaws.{slot-before, slot-header, slot-text}
 use Rattle.dw_base.proofs.UnitEditLaws.{Shift, SlotBecomes, IndexBecomes, PieceSlot}
 use Rattle.dw_base.specs.declared.debug_sections.DebugSection.TheVariants.{Str, StrOffsets}
+use Rattle.dw_base.specs.declared.values.AttributeUse.TheVariants.{NamesPath, NamesLineTable, NamesMacroUnit, NamesOther}
 use Rattle.dw_meaning.proofs.TextEditLaws.{shift_of, SlotMoves}
 
 -- an attribute says a path where it is a path's
 pub use-path : (n tag name : ℕ) → is_path n tag name ≡ is_path_use (use_of n tag name)
 use-path n tag name = by_path (is_path n tag name) (name == DW_AT_stmt_list) (name == DW_AT_macros || name == DW_AT_GNU_macros)
   where
-    by_path : (a b c : Bool) → a ≡ is_path_use (if a then names_path else (if b then names_line_table else (if c then names_macro_unit else names_other)))
+    by_path : (a b c : Bool) → a ≡ is_path_use (if a then NamesPath else (if b then NamesLineTable else (if c then NamesMacroUnit else NamesOther)))
     by_path true b c = refl
     by_path false true c = refl
     by_path false false true = refl

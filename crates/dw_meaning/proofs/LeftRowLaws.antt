@@ -12,7 +12,7 @@ use Rattle.dw_base.specs.Lebs.{initial_length_at}
 use Rattle.dw_base.specs.Numbers.{number_at, spelled}
 use Rattle.dw_base.specs.Pieces.{EachPiece, Piece, joined}
 use Rattle.dw_base.specs.Readings.{EachReading, Readings}
-use Rattle.dw_base.specs.RelocationRows.{FieldPlace, HeaderOffsetsRead, IsField, OffsetReads, field_place, header_field, is_start, kind_field, offset_field, unit_field, unit_fields}
+use Rattle.dw_base.specs.RelocationRows.{FieldPlace, HeaderOffsetsRead, IsField, OffsetReads, field_place, header_field, kind_field, offset_field, unit_field, unit_fields, is_section_offset}
 use Rattle.dw_base.specs.UnitFails.{bytes_from}
 use Rattle.dw_base.specs.UnitHeaders.{HeaderPlaces, SectionKind, UnitBase, UnitSection, header_of_length, header_of_version, header_places, unit_header}
 use Rattle.dw_base.specs.UnitPieces.{unit_grammar}
@@ -87,13 +87,13 @@ field-at supplementary order bytes at i v start e = refl
 field-at unlisted order bytes at i v start e = refl
 
 met-field : (d : DebugData) (z : UnitSection) (h : UnitHeader) (number : ℕ) (a : Abbreviation) (x : Spec) (place : ℕ) (v : Value) (f : FieldPlace)
-    → (w : MetValue d.base z h number a x place v (Reads d z)) → kind_field (kind_there h.params x (bytes_up_to z h) place) v.at (is_start number a.tag x.name) ≡ f ∷ []
+    → (w : MetValue d.base z h number a x place v (Reads d z)) → kind_field (kind_there h.params x (bytes_up_to z h) place) v.at (is_section_offset number a.tag x.name) ≡ f ∷ []
     → unit_field w.piece.last.state.mode d.base.order w.piece.last.state w.piece.last.cells ≡ f ∷ []
 met-field d z h number a x place v f w is =
     w.piece.fields d.base.order
-    ∙ sym (field-at w.piece.kind h.params.order (bytes_up_to z h) w.piece.field x.implicit w.piece.value (is_start number a.tag x.name) w.piece.is)
-    ∙ ap (λ (p : ℕ). kind_field w.piece.kind p (is_start number a.tag x.name)) w.piece.at
-    ∙ ap (λ (k : ValueKind). kind_field k v.at (is_start number a.tag x.name)) w.piece.kind_is ∙ is
+    ∙ sym (field-at w.piece.kind h.params.order (bytes_up_to z h) w.piece.field x.implicit w.piece.value (is_section_offset number a.tag x.name) w.piece.is)
+    ∙ ap (λ (p : ℕ). kind_field w.piece.kind p (is_section_offset number a.tag x.name)) w.piece.at
+    ∙ ap (λ (k : ValueKind). kind_field k v.at (is_section_offset number a.tag x.name)) w.piece.kind_is ∙ is
 
 pub values-left : (d : DebugData) (rs : DataReadings) (moving : List ℕ) → DataReads d rs → LeftRelocationsRead d moving → ValueRelocationsRead d
 values-left d rs moving reads left = record {

@@ -4,7 +4,7 @@ use Rattle.std.proofs.Common.{Bool, true, false, ◌≡◌, ◌≢◌, ℕ, zero
 use Rattle.std.specs.Prelude.{⊤, Result, Ok, Err}
 use Rattle.std.proofs.lemmas.Bool.{eq-eqb, ne_eqb}
 use Rattle.dw_base.specs.Cells.{Cell, Relocation}
-use Rattle.dw_base.specs.Forms.{TextSection, in_str, in_line_str, width_size}
+use Rattle.dw_base.specs.Forms.{width_size}
 use Rattle.dw_base.specs.Lebs.{uleb_at}
 use Rattle.dw_base.specs.LineEntries.{column_at, columns, entry_at, entries_at, with_column}
 use Rattle.dw_base.specs.LineFields.{column_field, entries_fields, entry_fields, fields_behind, fields_counted, fields_formed, fields_there, list_fields, table_fields}
@@ -24,6 +24,8 @@ use Rattle.dw_base.specs.declared.line_tables.Entry.{Entry}
 use Rattle.dw_base.specs.declared.line_tables.FilePlace.{FilePlace}
 use Rattle.dw_base.specs.declared.line_tables.LineHeader.{LineHeader}
 use Rattle.dw_base.specs.declared.line_tables.TextPlace.{TextPlace}
+use Rattle.dw_base.specs.declared.texts.TextSection.{TextSection}
+use Rattle.dw_base.specs.declared.texts.TextSection.TheVariants.{InStr, InLineStr}
 use Rattle.dw_base.specs.declared.values.Spec.{Spec}
 use Rattle.dw_meaning.proofs.ClearLaws.{Clear, ColumnsClear, EntriesClear, ListClear, ListsClear, NoneOver, clear-part, clear_from}
 use Rattle.dw_meaning.proofs.FieldPutLaws.{width-some}
@@ -115,8 +117,8 @@ field-from h spec p = by_form (is_named spec)
     by_form false = tt
 
 pub offset-named : (spec : Spec) (z : TextSection) → spec.form ≡ offset_form z → is_named spec ≡ true
-offset-named spec in_str e = rw e refl
-offset-named spec in_line_str e = rw e refl
+offset-named spec InStr e = rw e refl
+offset-named spec InLineStr e = rw e refl
 
 pub inline-unnamed : (spec : Spec) → spec.form ≡ DW_FORM_string → is_named spec ≡ false
 inline-unnamed spec e = rw e refl

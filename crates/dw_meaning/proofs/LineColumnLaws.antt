@@ -3,7 +3,7 @@ use Rattle.std.proofs.Common.{Bool, true, false, ◌≡◌, ◌≢◌, ℕ, ◌+
 use Rattle.std.specs.Prelude.{nat_le, Result, Ok, Err, ⊤}
 use Rattle.std.proofs.lemmas.Bool.{eqb-true, eq-eqb, ne_eqb, leb-true}
 use Rattle.dw_base.specs.Cells.{Cell, Located, bytes_of, offset_into}
-use Rattle.dw_base.specs.Forms.{TextSection, in_str, in_line_str, width_size}
+use Rattle.dw_base.specs.Forms.{width_size}
 use Rattle.dw_base.specs.LineEntries.{column_params, inline_column, text_column, offset_column, value_column, column_at}
 use Rattle.dw_base.specs.LineMeanings.{section_in, place_text}
 use Rattle.dw_base.specs.LineSources.{LineSource, line_field}
@@ -26,6 +26,8 @@ use Rattle.dw_base.specs.declared.shared.Width.{Width}
 use Rattle.dw_base.specs.declared.values.Spec.{Spec}
 use Rattle.dw_base.specs.declared.values.Value.{Value}
 use Rattle.dw_base.proofs.TextLaws.{ends_in-append, text_in-append, ends_in-inside, take-text}
+use Rattle.dw_base.specs.declared.texts.TextSection.{TextSection}
+use Rattle.dw_base.specs.declared.texts.TextSection.TheVariants.{InStr, InLineStr}
 use Rattle.dw_meaning.proofs.FieldCellLaws.{TakesAt}
 use Rattle.dw_meaning.proofs.LineReadLaws.{inline-inside}
 
@@ -77,43 +79,43 @@ PathMoves g m s l width places x = MovesIn g m s l width x (places x) (x.section
 
 -- the tables of texts by their names, before and after
 abbrev pub texts_in : LineSource → TextSection → Located
-texts_in g in_str = g.str
-texts_in g in_line_str = g.line_str
+texts_in g InStr = g.str
+texts_in g InLineStr = g.line_str
 
 abbrev pub new_texts_in : LineSource → List ℕ → List ℕ → TextSection → Located
-new_texts_in g s l in_str = record { number = g.str.number; bytes = s }
-new_texts_in g s l in_line_str = record { number = g.line_str.number; bytes = l }
+new_texts_in g s l InStr = record { number = g.str.number; bytes = s }
+new_texts_in g s l InLineStr = record { number = g.line_str.number; bytes = l }
 
 pub texts-grow : (g : LineSource) (m : PathMap) (s l : List ℕ) (z : TextSection) → SourceMoves g m s l → Grows (texts_in g z).bytes (new_texts_in g s l z).bytes
-texts-grow g m s l in_str w = w.str
-texts-grow g m s l in_line_str w = w.line_str
+texts-grow g m s l InStr w = w.str
+texts-grow g m s l InLineStr w = w.line_str
 
 -- the section of a text that an offset names
 pub section-not : (g : LineSource) (m : PathMap) (s l : List ℕ) (z : TextSection) → SourceMoves g m s l → ((texts_in g z).number == g.number) ≡ false
-section-not g m s l in_str w = ne_eqb g.str.number g.number (λ e. w.apart_str (sym e))
-section-not g m s l in_line_str w = ne_eqb g.line_str.number g.number (λ e. w.apart_line (sym e))
+section-not g m s l InStr w = ne_eqb g.str.number g.number (λ e. w.apart_str (sym e))
+section-not g m s l InLineStr w = ne_eqb g.line_str.number g.number (λ e. w.apart_line (sym e))
 
 in-section : (g : LineSource) (m : PathMap) (s l : List ℕ) (z : TextSection) (at : ℕ) → SourceMoves g m s l → ends_in (texts_in g z).bytes at ≡ true
     → section_in g (texts_in g z).number ≡ (texts_in g z).bytes
-in-section g m s l in_str at w e = rw (section-not g m s l in_str w, eq-eqb g.str.number g.str.number refl) refl
-in-section g m s l in_line_str at w e = rw (section-not g m s l in_line_str w, ne_eqb g.line_str.number g.str.number (w.tables at e)) refl
+in-section g m s l InStr at w e = rw (section-not g m s l InStr w, eq-eqb g.str.number g.str.number refl) refl
+in-section g m s l InLineStr at w e = rw (section-not g m s l InLineStr w, ne_eqb g.line_str.number g.str.number (w.tables at e)) refl
 
 new-section : (g : LineSource) (m : PathMap) (bytes : List ℕ) (cells : List Cell) (s l : List ℕ) (z : TextSection) (at : ℕ) → SourceMoves g m s l → ends_in (texts_in g z).bytes at ≡ true
     → section_in (edited_with g bytes cells s l) (texts_in g z).number ≡ (new_texts_in g s l z).bytes
-new-section g m bytes cells s l in_str at w e = rw (section-not g m s l in_str w, eq-eqb g.str.number g.str.number refl) refl
-new-section g m bytes cells s l in_line_str at w e = rw (section-not g m s l in_line_str w, ne_eqb g.line_str.number g.str.number (w.tables at e)) refl
+new-section g m bytes cells s l InStr at w e = rw (section-not g m s l InStr w, eq-eqb g.str.number g.str.number refl) refl
+new-section g m bytes cells s l InLineStr at w e = rw (section-not g m s l InLineStr w, ne_eqb g.line_str.number g.str.number (w.tables at e)) refl
 
 -- what is said of its move
 pub offset-says : (g : LineSource) (m : PathMap) (s l : List ℕ) (width : Width) (places : TextPlace → Option ℕ) (z : TextSection) (at field : ℕ) → SourceMoves g m s l
     → ends_in (texts_in g z).bytes at ≡ true → PathMoves g m s l width places (text_of (texts_in g z) at field)
     → OffsetMoves m width (texts_in g z).bytes (new_texts_in g s l z).bytes at (places (text_of (texts_in g z) at field))
     × TakesPlace g width field (places (text_of (texts_in g z) at field))
-offset-says g m s l width places in_str at field w e moves =
+offset-says g m s l width places InStr at field w e moves =
     subst (λ (b : Bool). MovesIn g m s l width (text_of g.str at field) (places (text_of g.str at field)) false b) (eq-eqb g.str.number g.str.number refl)
-    (subst (λ (b : Bool). MovesIn g m s l width (text_of g.str at field) (places (text_of g.str at field)) b (g.str.number == g.str.number)) (section-not g m s l in_str w) moves)
-offset-says g m s l width places in_line_str at field w e moves =
+    (subst (λ (b : Bool). MovesIn g m s l width (text_of g.str at field) (places (text_of g.str at field)) b (g.str.number == g.str.number)) (section-not g m s l InStr w) moves)
+offset-says g m s l width places InLineStr at field w e moves =
     subst (λ (b : Bool). MovesIn g m s l width (text_of g.line_str at field) (places (text_of g.line_str at field)) false b) (ne_eqb g.line_str.number g.str.number (w.tables at e))
-    (subst (λ (b : Bool). MovesIn g m s l width (text_of g.line_str at field) (places (text_of g.line_str at field)) b (g.line_str.number == g.str.number)) (section-not g m s l in_line_str w) moves)
+    (subst (λ (b : Bool). MovesIn g m s l width (text_of g.line_str at field) (places (text_of g.line_str at field)) b (g.line_str.number == g.str.number)) (section-not g m s l InLineStr w) moves)
 
 -- the text at the place of one in a table of texts
 placed-in : (bytes : List ℕ) (at : ℕ) → ends_in bytes at ≡ true → take (length (text_in bytes at)) (drop at bytes) ≡ text_in bytes at
@@ -144,8 +146,8 @@ inline-placed g table p front e =
 
 -- what a column is
 abbrev pub offset_form : TextSection → ℕ
-offset_form in_str = DW_FORM_strp
-offset_form in_line_str = DW_FORM_line_strp
+offset_form InStr = DW_FORM_strp
+offset_form InLineStr = DW_FORM_line_strp
 
 pub data ColumnIs (g : LineSource) (h : LineHeader) (table : List ℕ) (spec : Spec) (p : ℕ) : Column → Type 0 where
   inline_is : spec.form ≡ DW_FORM_string → ends_in table p ≡ true
@@ -229,6 +231,6 @@ column-is g h table spec p c e = by_form (spec.form == DW_FORM_string) (spec.for
         else value_column g.number h p (value_at (column_params g.order h) spec table p)))) ≡ Ok c
         → ColumnIs g h table spec p c
     by_form true b d x y z e = inline-is g h table spec p c (Rattle.dw_base.specs.LineTexts.inline_text g.number table p) (eqb-true spec.form DW_FORM_string x) refl e
-    by_form false true d x y z e = offset-is g h table spec p c in_str (eqb-true spec.form DW_FORM_strp y) e
-    by_form false false true x y z e = offset-is g h table spec p c in_line_str (eqb-true spec.form DW_FORM_line_strp z) e
+    by_form false true d x y z e = offset-is g h table spec p c InStr (eqb-true spec.form DW_FORM_strp y) e
+    by_form false false true x y z e = offset-is g h table spec p c InLineStr (eqb-true spec.form DW_FORM_line_strp z) e
     by_form false false false x y z e = value-is g h table spec p c (value_at (column_params g.order h) spec table p) x y z refl e

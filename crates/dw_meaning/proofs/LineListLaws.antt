@@ -21,6 +21,7 @@ use Rattle.dw_base.specs.declared.line_tables.TextPlace.{TextPlace}
 use Rattle.dw_base.specs.declared.shared.Width.{Width}
 use Rattle.dw_base.specs.declared.values.Spec.{Spec}
 use Rattle.dw_base.proofs.ContributionBackLaws.{StandsAt}
+use Rattle.dw_base.proofs.LebLaws.{uleb-inside}
 use Rattle.dw_meaning.specs.LineCells.{CellChange, all_path_cells, path_cells}
 use Rattle.dw_meaning.proofs.CellRestLaws.{CellRest, cells-copied, clear-none, same-from}
 use Rattle.dw_meaning.proofs.ClearLaws.{Clear, ColumnsClear, EntriesClear, ListClear, whole-clear}
@@ -31,7 +32,6 @@ use Rattle.dw_meaning.proofs.LineEntryLaws.{pending, pending_cells, MovedText, M
 use Rattle.dw_meaning.proofs.LineMoveLaws.{LinePlaces, moved_header, Sides}
 use Rattle.dw_meaning.proofs.LineReadLaws.{Both, both-behind, uleb-both, bound, made, if-some, some-same}
 use Rattle.dw_meaning.proofs.LineWalkLaws.{NewFiles, bound-ok, entries-read, entries-run}
-use Rattle.dw_meaning.proofs.ValueCutLaws.{uleb-inside}
 
 -- an entry by its columns
 pub record EntryIs (g : LineSource) (h : LineHeader) (table : List ℕ) (specs : List Spec) (p : ℕ) (f : FilePlace) (next : ℕ) : Type 0 where

@@ -5,7 +5,7 @@ use Rattle.std.proofs.lemmas.Bool.{eq-eqb, le-leb}
 use Rattle.std.proofs.lemmas.List.{length-append, length-drop, length-take-le}
 use Rattle.dw_base.proofs.PlainCellLaws.{plain_cells-plain}
 use Rattle.dw_base.specs.Cells.{Cell, Relocation, bytes_of, cells_at, offset_of, plain_cells}
-use Rattle.dw_base.specs.Forms.{TextSection, in_str, in_line_str, width_size}
+use Rattle.dw_base.specs.Forms.{width_size}
 use Rattle.dw_base.specs.LineEntries.{column_params, offset_column, column_at}
 use Rattle.dw_base.specs.LineFormats.{is_column}
 use Rattle.dw_base.specs.LineMeanings.{place_text}
@@ -28,6 +28,8 @@ use Rattle.dw_base.proofs.PathLaws.{has_nul-mapped_path}
 use Rattle.dw_base.proofs.RelocationFieldLaws.{bytes_of-drop, bytes_of-take, length-cells_at, relocation_at-plain}
 use Rattle.dw_base.proofs.UnitEditLaws.{length-bytes_of}
 use Rattle.dw_base.proofs.TextLaws.{ends_in-append, text_in-append, ends_in-inside, has_nul-text_in}
+use Rattle.dw_base.specs.declared.texts.TextSection.{TextSection}
+use Rattle.dw_base.specs.declared.texts.TextSection.TheVariants.{InStr, InLineStr}
 use Rattle.dw_meaning.specs.LineCells.{CellChange, changed_cells, inline_cells, offset_cells, path_cells}
 use Rattle.dw_meaning.proofs.CellRestLaws.{CellRest, cells-changed, cells-copied, clear-none, plain-none, plain-size, same-from}
 use Rattle.dw_meaning.proofs.ClearLaws.{Clear, NoneOver, clear-join, clear-part, clear_from, front-clear, tail-clear, whole-clear}
@@ -88,8 +90,8 @@ read-field g m bytes cells s l old new h z p n w sides room reads =
 
 -- a column by an offset that is there
 same-number : (g : LineSource) (s l : List ℕ) (z : TextSection) → (new_texts_in g s l z).number ≡ (texts_in g z).number
-same-number g s l in_str = refl
-same-number g s l in_line_str = refl
+same-number g s l InStr = refl
+same-number g s l InLineStr = refl
 
 offset-column : (g : LineSource) (bytes : List ℕ) (cells : List Cell) (s l new : List ℕ) (h : LineHeader) (spec : Spec) (z : TextSection) (q n : ℕ) → spec.form ≡ offset_form z
     → q + width_size h.width ≤ length new
@@ -97,8 +99,8 @@ offset-column : (g : LineSource) (bytes : List ℕ) (cells : List Cell) (s l new
     → column_at (edited_with g bytes cells s l) h new spec q
     ≡ Ok (record { text = Some (record { section = (texts_in g z).number; at = n; len = length (text_in (new_texts_in g s l z).bytes n); field = q }); number = 0; next = q + width_size h.width })
 unfolding column_at offset_column
-offset-column g bytes cells s l new h spec in_str q n form room named = rw (form, le-leb (q + width_size h.width) (length new) room, named) refl
-offset-column g bytes cells s l new h spec in_line_str q n form room named = rw (form, le-leb (q + width_size h.width) (length new) room, named) refl
+offset-column g bytes cells s l new h spec InStr q n form room named = rw (form, le-leb (q + width_size h.width) (length new) room, named) refl
+offset-column g bytes cells s l new h spec InLineStr q n form room named = rw (form, le-leb (q + width_size h.width) (length new) room, named) refl
 
 inline-column : (g : LineSource) (bytes : List ℕ) (cells : List Cell) (s l new : List ℕ) (h : LineHeader) (spec : Spec) (q : ℕ) → spec.form ≡ DW_FORM_string → ends_in new q ≡ true
     → column_at (edited_with g bytes cells s l) h new spec q
@@ -120,8 +122,8 @@ clear-value : (spec : Spec) (p : ℕ) → (spec.form == DW_FORM_strp) ≡ false 
 clear-value spec p a b = rw (a, b) refl
 
 clear-offset : (spec : Spec) (z : TextSection) (p : ℕ) → spec.form ≡ offset_form z → clear_from spec p ≡ suc p
-clear-offset spec in_str p e = rw e refl
-clear-offset spec in_line_str p e = rw e refl
+clear-offset spec InStr p e = rw e refl
+clear-offset spec InLineStr p e = rw e refl
 
 -- what a column takes
 pub column-place : (g : LineSource) (h : LineHeader) (table : List ℕ) (spec : Spec) (p : ℕ) (c : Column) → is_column spec ≡ true → ColumnIs g h table spec p c

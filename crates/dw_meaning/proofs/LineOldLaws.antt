@@ -1,4 +1,5 @@
 -- The lists of directories and files before version 5 under an edit.
+use Rattle.dw_base.proofs.LebLaws.{uleb-inside}
 use Rattle.std.proofs.Common.{Bool, true, false, ◌≡◌, ◌≢◌, ℕ, zero, suc, ◌+◌, ◌-◌, ◌<◌, ◌≤◌, List, [], ◌∷◌, ◌++◌, length, drop, map, Option, Some, refl, sym, ap, ◌∙◌, subst, arith, if◌then◌else◌, append_assoc}
 use Rattle.std.specs.Prelude.{⊤, option_and_then, option_map}
 use Rattle.std.proofs.lemmas.List.{length-append, length-drop}
@@ -27,7 +28,6 @@ use Rattle.dw_meaning.proofs.LineListLaws.{MovedFiles}
 use Rattle.dw_meaning.proofs.LineMoveLaws.{Sides, inline-changes, text-cells, text-moved}
 use Rattle.dw_meaning.proofs.LineReadLaws.{Both, both-behind, uleb-both, text-both, inline-here, inline-inside, bound, made, some-same, skip-behind, file_numbers-both}
 use Rattle.dw_meaning.proofs.LineWalkLaws.{OldDirs, OldFile, OldFiles}
-use Rattle.dw_meaning.proofs.ValueCutLaws.{uleb-inside}
 
 -- a path that isn't empty is mapped to one that isn't
 mapped-some : (m : PathMap) (t : List ℕ) → IsPathMap m → length t ≢ 0 → length (mapped_path m t) ≢ 0

@@ -5,7 +5,7 @@ use Rattle.std.specs.Prelude.{⊤, Ok}
 use Rattle.std.proofs.lemmas.Bool.{eq-eqb, ne_eqb}
 use Rattle.std.proofs.lemmas.List.{length-append}
 use Rattle.dw_base.specs.Cells.{Located}
-use Rattle.dw_base.specs.Forms.{TextSection, in_str, in_line_str, width_size}
+use Rattle.dw_base.specs.Forms.{width_size}
 use Rattle.dw_base.specs.LineChanges.{path_in, mention_in, paths_mentions, line_mentions, asked_place, line_place}
 use Rattle.dw_base.specs.LineEntries.{first_of, with_column, columns}
 use Rattle.dw_base.specs.LineReadings.{LineReading, TablesTo}
@@ -29,6 +29,8 @@ use Rattle.dw_base.proofs.TableLaws.{is_in-texts_after, is_in-with_mention}
 use Rattle.dw_base.proofs.TextLaws.{has_nul-text_in, ends_in-inside, text_in-place_in, ends_in-place_in, place_in-lt}
 use Rattle.dw_base.specs.RelocationFields.{relocation_at}
 use Rattle.dw_base.specs.declared.debug_sections.DebugSection.TheVariants.{Str, LineStr}
+use Rattle.dw_base.specs.declared.texts.TextSection.{TextSection}
+use Rattle.dw_base.specs.declared.texts.TextSection.TheVariants.{InStr, InLineStr}
 use Rattle.dw_meaning.specs.NewAddends.{EachPathMakes, EachTableMakes, MakesPath}
 use Rattle.dw_meaning.proofs.FieldCellLaws.{makes-takes}
 use Rattle.dw_meaning.proofs.LineColumnLaws.{texts_in, OffsetMoves, MovesIn, PathMoves, TakesPlace, ColumnIs, inline_is, offset_is, value_is, column-is}
@@ -110,8 +112,8 @@ pub path-none : (g : LineSource) (table : TextSection) (x : TextPlace) → ((at 
 path-none g table x apart none (stands_there y is) = by_table table
   where
     by_table : (z : TextSection) → mention_in g z x ≡ []
-    by_table in_str = rw (eq-eqb x.section g.number is) refl
-    by_table in_line_str = rw (eq-eqb x.section g.number is) refl
+    by_table InStr = rw (eq-eqb x.section g.number is) refl
+    by_table InLineStr = rw (eq-eqb x.section g.number is) refl
 path-none g table x apart none (named_there z at field e) = by_own table none z e (((texts_in g z).number) == g.number)
   where
     clash : (bytes : List ℕ) → bytes ≡ [] → ends_in bytes at ≡ true → ⊥
@@ -121,18 +123,18 @@ path-none g table x apart none (named_there z at field e) = by_own table none z 
 
     by_own : (table : TextSection) → (texts_in g table).bytes ≡ [] → (z : TextSection) → ends_in (texts_in g z).bytes at ≡ true → (own : Bool)
         → mention_in g table (text_of (texts_in g z) at field) ≡ []
-    by_own in_str none in_str e own = absurd (clash g.str.bytes none e)
-    by_own in_str none in_line_str e own = by (g.line_str.number == g.number)
+    by_own InStr none InStr e own = absurd (clash g.str.bytes none e)
+    by_own InStr none InLineStr e own = by (g.line_str.number == g.number)
       where
         by : (b : Bool) → (if b then [] else (if g.line_str.number == g.str.number then path_in g.str.bytes (text_of g.line_str at field) ∷ [] else [])) ≡ []
         by true = refl
         by false = ap (λ (c : Bool). if c then path_in g.str.bytes (text_of g.line_str at field) ∷ [] else []) (ne_eqb g.line_str.number g.str.number (apart at e))
-    by_own in_line_str none in_str e own = by (g.str.number == g.number)
+    by_own InLineStr none InStr e own = by (g.str.number == g.number)
       where
         by : (b : Bool) → (if b then [] else (if g.str.number == g.str.number then [] else path_in g.line_str.bytes (text_of g.str at field) ∷ [])) ≡ []
         by true = refl
         by false = ap (λ (c : Bool). if c then [] else path_in g.line_str.bytes (text_of g.str at field) ∷ []) (eq-eqb g.str.number g.str.number refl)
-    by_own in_line_str none in_line_str e own = absurd (clash g.line_str.bytes none e)
+    by_own InLineStr none InLineStr e own = absurd (clash g.line_str.bytes none e)
 
 paths-none : (g : LineSource) (table : TextSection) (xs : List TextPlace) → ((at : ℕ) → ends_in g.line_str.bytes at ≡ true → g.line_str.number ≢ g.str.number)
     → (texts_in g table).bytes ≡ [] → EachPath g xs → paths_mentions g table xs ≡ []
@@ -189,7 +191,7 @@ AllTake g places [] = ⊤
 AllTake g places (r ∷ rs) = EachTakes g places r.header.width (r.dirs ++ texts_of r.files) × AllTake g places rs
 
 path-moves : (c : TableChanges) (g : LineSource) (w : Width) (ts us : List (List ℕ)) (ms ns : List Mention) (x : TextPlace) → BothMove c g
-    → TextsAre c ts us (mention_in g in_str x ++ ms) (mention_in g in_line_str x ++ ns)
+    → TextsAre c ts us (mention_in g InStr x ++ ms) (mention_in g InLineStr x ++ ns)
     → TakesIn g w x.field (line_place c.map (c.new Str) (c.new LineStr) g x) (x.section == g.number)
     → PathMoves g c.map (new_table (c.new Str).plan (c.new Str).texts) (new_table (c.new LineStr).plan (c.new LineStr).texts) w (line_place c.map (c.new Str) (c.new LineStr) g) x
 path-moves c g w ts us ms ns x both all takes = by_section (x.section == g.number) (x.section == g.str.number) all takes
@@ -216,17 +218,17 @@ path-moves c g w ts us ms ns x both all takes = by_section (x.section == g.numbe
     )
 
 pub paths-move : (c : TableChanges) (g : LineSource) (w : Width) (ts us : List (List ℕ)) (ms ns : List Mention) (xs : List TextPlace) → BothMove c g
-    → TextsAre c ts us (paths_mentions g in_str xs ++ ms) (paths_mentions g in_line_str xs ++ ns) → EachTakes g (line_place c.map (c.new Str) (c.new LineStr) g) w xs
+    → TextsAre c ts us (paths_mentions g InStr xs ++ ms) (paths_mentions g InLineStr xs ++ ns) → EachTakes g (line_place c.map (c.new Str) (c.new LineStr) g) w xs
     → EachMoves g c.map (new_table (c.new Str).plan (c.new Str).texts) (new_table (c.new LineStr).plan (c.new LineStr).texts) w (line_place c.map (c.new Str) (c.new LineStr) g) xs
 paths-move c g w ts us ms ns [] both all takes = tt
 paths-move c g w ts us ms ns (x ∷ xs) both all takes =
-    let here : TextsAre c ts us (mention_in g in_str x ++ (paths_mentions g in_str xs ++ ms)) (mention_in g in_line_str x ++ (paths_mentions g in_line_str xs ++ ns)) = record {
-      str = all.str ∙ ap (texts_after (c.new Str).plan c.map ts) (append_assoc (mention_in g in_str x) (paths_mentions g in_str xs) ms);
-      line_str = all.line_str ∙ ap (texts_after (c.new LineStr).plan c.map us) (append_assoc (mention_in g in_line_str x) (paths_mentions g in_line_str xs) ns);
+    let here : TextsAre c ts us (mention_in g InStr x ++ (paths_mentions g InStr xs ++ ms)) (mention_in g InLineStr x ++ (paths_mentions g InLineStr xs ++ ns)) = record {
+      str = all.str ∙ ap (texts_after (c.new Str).plan c.map ts) (append_assoc (mention_in g InStr x) (paths_mentions g InStr xs) ms);
+      line_str = all.line_str ∙ ap (texts_after (c.new LineStr).plan c.map us) (append_assoc (mention_in g InLineStr x) (paths_mentions g InLineStr xs) ns);
     } in (
-      path-moves c g w ts us (paths_mentions g in_str xs ++ ms) (paths_mentions g in_line_str xs ++ ns) x both here takes.0,
-      paths-move c g w (texts_after (c.new Str).plan c.map ts (mention_in g in_str x)) (texts_after (c.new LineStr).plan c.map us (mention_in g in_line_str x)) ms ns xs both
-          (behind_piece c ts us (mention_in g in_str x) (mention_in g in_line_str x) (paths_mentions g in_str xs ++ ms) (paths_mentions g in_line_str xs ++ ns) here) takes.1,
+      path-moves c g w ts us (paths_mentions g InStr xs ++ ms) (paths_mentions g InLineStr xs ++ ns) x both here takes.0,
+      paths-move c g w (texts_after (c.new Str).plan c.map ts (mention_in g InStr x)) (texts_after (c.new LineStr).plan c.map us (mention_in g InLineStr x)) ms ns xs both
+          (behind_piece c ts us (mention_in g InStr x) (mention_in g InLineStr x) (paths_mentions g InStr xs ++ ms) (paths_mentions g InLineStr xs ++ ns) here) takes.1,
     )
 
 -- where addends make the new places

@@ -18,6 +18,7 @@ use Rattle.dw_base.specs.declared.line_tables.LineHeader.{LineHeader}
 use Rattle.dw_base.specs.declared.line_tables.Opcode.{Opcode}
 use Rattle.dw_base.specs.declared.line_tables.TextPlace.{TextPlace}
 use Rattle.dw_base.proofs.ContributionBackLaws.{StandsAt}
+use Rattle.dw_base.proofs.LebLaws.{uleb-inside}
 use Rattle.dw_meaning.proofs.LineChangeLaws.{part-cut, text-part, text-room}
 use Rattle.dw_meaning.proofs.LineColumnLaws.{edited_with, Grows, inline-placed}
 use Rattle.dw_meaning.proofs.LineListLaws.{byte-both}
@@ -25,7 +26,7 @@ use Rattle.dw_meaning.proofs.LineMoveLaws.{LinePlaces, moved_header, Sides}
 use Rattle.dw_meaning.proofs.LineOldLaws.{numbers-inside, skips-inside}
 use Rattle.dw_meaning.proofs.LineReadLaws.{Both, both-behind, uleb-both, sleb-both, text-both, inline-here, inline-inside, bound, made, if-some, some-same, skip-both, file_numbers-both}
 use Rattle.dw_meaning.proofs.LineWalkLaws.{file_first, Opcodes, program_over, one_opcode}
-use Rattle.dw_meaning.proofs.ValueCutLaws.{uleb-inside, sleb-inside}
+use Rattle.dw_meaning.proofs.ValueCutLaws.{sleb-inside}
 
 -- the same bytes follow two places, up to the ends of both lists
 pub record Same (old new : List ℕ) (p q : ℕ) : Type 0 where

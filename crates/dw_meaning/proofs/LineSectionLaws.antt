@@ -3,7 +3,6 @@ use Rattle.std.proofs.Common.{true, ◌≡◌, ◌≢◌, ℕ, suc, ◌+◌, ◌
 use Rattle.std.specs.Prelude.{⊤}
 use Rattle.std.proofs.lemmas.List.{length-append, append-nil}
 use Rattle.dw_base.specs.Cells.{Cell, bytes_of}
-use Rattle.dw_base.specs.Forms.{in_str, in_line_str}
 use Rattle.dw_base.specs.LineChanges.{paths_mentions, line_mentions, line_place, lines_after}
 use Rattle.dw_base.specs.LineMeanings.{LineMeaning, line_meaning, line_meanings, mapped_line, mapped_lines}
 use Rattle.dw_base.specs.LineReadings.{LineReading, ReadsTable, TablesTo, table_read, table_starts, starts_from, all_lines}
@@ -20,6 +19,7 @@ use Rattle.dw_base.specs.declared.shared.Width.TheVariants.{W32, W64}
 use Rattle.dw_base.proofs.ContributionBackLaws.{StandsAt}
 use Rattle.dw_base.proofs.UnitEditLaws.{length-bytes_of}
 use Rattle.dw_base.specs.declared.debug_sections.DebugSection.TheVariants.{Str, LineStr}
+use Rattle.dw_base.specs.declared.texts.TextSection.TheVariants.{InStr, InLineStr}
 use Rattle.dw_meaning.specs.LineCells.{all_written_cells, written_cells}
 use Rattle.dw_meaning.proofs.CellLaidLaws.{stand-behind}
 use Rattle.dw_meaning.proofs.ClearLaws.{NoneOver, over-start}
@@ -87,7 +87,7 @@ pub record LinesMoved (g k : LineSource) (m : PathMap) (q e : ℕ) (ts : List (L
 
 pub lines-moved : (c : TableChanges) (g : LineSource) (bytes : List ℕ) (cells more_cells : List Cell) (ts us : List (List ℕ)) (ms ns : List Mention) (p e q : ℕ) (rs : List LineReading)
     → SourceMoves g c.map (new_table (c.new Str).plan (c.new Str).texts) (new_table (c.new LineStr).plan (c.new LineStr).texts) → BothMove c g → TablesTo g p rs e → EachCan g c.map c rs
-    → TextsAre c ts us (line_mentions g in_str rs ++ ms) (line_mentions g in_line_str rs ++ ns)
+    → TextsAre c ts us (line_mentions g InStr rs ++ ms) (line_mentions g InLineStr rs ++ ns)
     → StandsAt bytes (all_lines (lines_after c.map (c.new Str) (c.new LineStr) g rs)) q → bytes_of cells ≡ bytes
     → drop q cells ≡ all_written_cells g c.map (line_place c.map (c.new Str) (c.new LineStr) g) rs ++ more_cells → OverIf cells q rs → EachClear g rs
     → AllTake g (line_place c.map (c.new Str) (c.new LineStr) g) rs
@@ -101,11 +101,11 @@ lines-moved c g bytes cells more_cells ts us ms ns p e q (r ∷ rs) w both reads
     let xs : List TextPlace = r.dirs ++ Rattle.dw_base.specs.LineTables.texts_of r.files in
     let t : List ℕ = written_table g c.map (line_place c.map (c.new Str) (c.new LineStr) g) (table_read g r) in
     let rest : List (List ℕ) = lines_after c.map (c.new Str) (c.new LineStr) g rs in
-    let here : TextsAre c ts us (paths_mentions g in_str xs ++ (line_mentions g in_str rs ++ ms)) (paths_mentions g in_line_str xs ++ (line_mentions g in_line_str rs ++ ns)) = record {
-      str = all.str ∙ ap (texts_after (c.new Str).plan c.map ts) (append_assoc (paths_mentions g in_str xs) (line_mentions g in_str rs) ms);
-      line_str = all.line_str ∙ ap (texts_after (c.new LineStr).plan c.map us) (append_assoc (paths_mentions g in_line_str xs) (line_mentions g in_line_str rs) ns);
+    let here : TextsAre c ts us (paths_mentions g InStr xs ++ (line_mentions g InStr rs ++ ms)) (paths_mentions g InLineStr xs ++ (line_mentions g InLineStr rs ++ ns)) = record {
+      str = all.str ∙ ap (texts_after (c.new Str).plan c.map ts) (append_assoc (paths_mentions g InStr xs) (line_mentions g InStr rs) ms);
+      line_str = all.line_str ∙ ap (texts_after (c.new LineStr).plan c.map us) (append_assoc (paths_mentions g InLineStr xs) (line_mentions g InLineStr rs) ns);
     } in
-    let moves = paths-move c g r.header.width ts us (line_mentions g in_str rs ++ ms) (line_mentions g in_line_str rs ++ ns) xs both here takes.0 in
+    let moves = paths-move c g r.header.width ts us (line_mentions g InStr rs ++ ms) (line_mentions g InLineStr rs ++ ns) xs both here takes.0 in
     let here_cells : drop q cells ≡ written_cells g c.map (line_place c.map (c.new Str) (c.new LineStr) g) (table_read g r)
     ++ (all_written_cells g c.map (line_place c.map (c.new Str) (c.new LineStr) g) rs ++ more_cells) =
     there ∙ append_assoc (written_cells g c.map (line_place c.map (c.new Str) (c.new LineStr) g) (table_read g r)) (all_written_cells g c.map (line_place c.map (c.new Str) (c.new LineStr) g) rs) more_cells in
@@ -118,9 +118,9 @@ lines-moved c g bytes cells more_cells ts us ms ns p e q (r ∷ rs) w both reads
     ∙ stand-behind cells (written_cells g c.map (line_place c.map (c.new Str) (c.new LineStr) g) (table_read g r)) (all_written_cells g c.map (line_place c.map (c.new Str) (c.new LineStr) g) rs ++ more_cells) q here_cells in
     let one = table-moved g c.map (line_place c.map (c.new Str) (c.new LineStr) g) bytes cells (all_written_cells g c.map (line_place c.map (c.new Str) (c.new LineStr) g) rs ++ more_cells) s l p q r w reads.0
     (record { table = can.0.table; header = can.0.header }) moves can.0.defined (stands-first bytes t (all_lines rest) q st) own here_cells over clear.0 in
-    let more = lines-moved c g bytes cells more_cells (texts_after (c.new Str).plan c.map ts (paths_mentions g in_str xs)) (texts_after (c.new LineStr).plan c.map us (paths_mentions g in_line_str xs)) ms ns
+    let more = lines-moved c g bytes cells more_cells (texts_after (c.new Str).plan c.map ts (paths_mentions g InStr xs)) (texts_after (c.new LineStr).plan c.map us (paths_mentions g InLineStr xs)) ms ns
     r.header.end e (q + length t) rs w both reads.1 can.1
-    (behind_piece c ts us (paths_mentions g in_str xs) (paths_mentions g in_line_str xs) (line_mentions g in_str rs ++ ms) (line_mentions g in_line_str rs ++ ns) here)
+    (behind_piece c ts us (paths_mentions g InStr xs) (paths_mentions g InLineStr xs) (line_mentions g InStr rs ++ ms) (line_mentions g InLineStr rs ++ ns) here)
     (stands-next bytes t (all_lines rest) q st) own behind_cells (over-if g cells (q + length t) e r.header.end rs clear.1 reads.1 one.over) clear.1 takes.1 in
     let k : LineSource = edited_with g bytes cells s l in
     let end : q + length t + length (all_lines rest) ≡ q + length (t ++ all_lines rest) = omega (arith, length-append t (all_lines rest)) in
@@ -174,7 +174,7 @@ no-tables g (r ∷ rs) none reads =
 pub section-moved : (c : TableChanges) (g : LineSource) (ts us : List (List ℕ)) (ms ns : List Mention) (rs : List LineReading) → g.is_read ≡ true → bytes_of g.cells ≡ g.bytes
     → EachClear g rs → AllTake g (line_place c.map (c.new Str) (c.new LineStr) g) rs → BothMove c g → Grows g.str.bytes (new_table (c.new Str).plan (c.new Str).texts) → Grows g.line_str.bytes (new_table (c.new LineStr).plan (c.new LineStr).texts)
     → TablesApart g rs → ((at : ℕ) → ends_in g.line_str.bytes at ≡ true → g.line_str.number ≢ g.str.number) → TablesTo g 0 rs (length g.bytes) → EachCan g c.map c rs
-    → TextsAre c ts us (line_mentions g in_str rs ++ ms) (line_mentions g in_line_str rs ++ ns)
+    → TextsAre c ts us (line_mentions g InStr rs ++ ms) (line_mentions g InLineStr rs ++ ns)
     → LinesMoved g (edited_with g (all_lines (lines_after c.map (c.new Str) (c.new LineStr) g rs)) (all_written_cells g c.map (line_place c.map (c.new Str) (c.new LineStr) g) rs)
     (new_table (c.new Str).plan (c.new Str).texts) (new_table (c.new LineStr).plan (c.new LineStr).texts)) c.map 0 (length (all_lines (lines_after c.map (c.new Str) (c.new LineStr) g rs)))
     (lines_after c.map (c.new Str) (c.new LineStr) g rs) rs

@@ -5,7 +5,7 @@ use Rattle.std.specs.Prelude.{Ok}
 use Rattle.std.proofs.lemmas.Bool.{eq-eqb, ne_eqb}
 use Rattle.std.proofs.lemmas.List.{append-nil}
 use Rattle.dw_base.specs.Cells.{Cell, bytes_of, cells_at, plain_cells}
-use Rattle.dw_base.specs.Forms.{TextSection, in_str, in_line_str, width_size}
+use Rattle.dw_base.specs.Forms.{width_size}
 use Rattle.dw_base.specs.LineEntries.{columns, entries_at, entry_at, with_column}
 use Rattle.dw_base.specs.LineMeanings.{list_end, place_behind}
 use Rattle.dw_base.specs.LineReadings.{AreTables, LineReading, ReadsTable, TablesTo, table_read}
@@ -27,6 +27,8 @@ use Rattle.dw_base.specs.declared.shared.Width.{Width}
 use Rattle.dw_base.specs.declared.values.Spec.{Spec}
 use Rattle.dw_base.proofs.RelocationFieldLaws.{length-cells_at}
 use Rattle.dw_base.proofs.UnitEditLaws.{length-bytes_of}
+use Rattle.dw_base.specs.declared.texts.TextSection.{TextSection}
+use Rattle.dw_base.specs.declared.texts.TextSection.TheVariants.{InStr, InLineStr}
 use Rattle.dw_meaning.specs.LineCells.{CellChange, all_path_cells, all_written_cells, changed_cells, header_cells, inline_cells, offset_cells, path_cells, rest_cells, written_cells}
 use Rattle.dw_meaning.specs.LineStretches.{PlacedStretch, Stretch, all_path_stretches, inline_stretch, kept_stretch, line_stretches, offset_stretch, offset_stretches, other_stretch, path_stretches, stretch_after, stretch_size, stretches_after, stretches_between, stretches_end, table_stretches}
 use Rattle.dw_meaning.proofs.ClearLaws.{Clear, ColumnsClear, EntriesClear, ListClear, clear-part, clear_from}
@@ -359,8 +361,8 @@ pub texts-apart : (g : LineSource) (r : LineReading) (rs : List LineReading) →
 texts-apart g r rs h = record { other = by_section }
   where
     by_section : (z : TextSection) → ((texts_in g z).number == g.number) ≡ false
-    by_section in_str = ne_eqb g.str.number g.number (λ e. h.0 (sym e))
-    by_section in_line_str = ne_eqb g.line_str.number g.number (λ e. h.1 (sym e))
+    by_section InStr = ne_eqb g.str.number g.number (λ e. h.0 (sym e))
+    by_section InLineStr = ne_eqb g.line_str.number g.number (λ e. h.1 (sym e))
 
 -- the paths of a table stand in their order behind its lengths, and those of the table have no relocations
 pub table-placed : (g : LineSource) (m : PathMap) (places : TextPlace → Option ℕ) (p : ℕ) (r : LineReading) → TextsApart g → TableClear g r → ReadsTable g p r

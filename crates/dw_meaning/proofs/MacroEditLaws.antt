@@ -4,7 +4,7 @@ use Rattle.std.specs.Bool.{⊤}
 use Rattle.std.specs.Prelude.{◌==◌, ◌||◌}
 use Rattle.dw_base.specs.Cells.{Cell, CellSection, bytes_of}
 use Rattle.dw_base.specs.DebugData.{Lasting, Around, macro_unit}
-use Rattle.dw_base.specs.Forms.{in_str, in_line_str, width_size}
+use Rattle.dw_base.specs.Forms.{width_size}
 use Rattle.dw_base.specs.MacroMeanings.{brought, MacroMark, begins_unit, has_line, has_event, text_event, front_mark, macro_mark_by, MacrosBehind, with_macro_mark, macros_behind, MacroMeaning, macro_meanings}
 use Rattle.dw_base.specs.MacroPieces.{of_text, of_unit, MacroMode, at_unit, at_line, at_operation, at_offset, no_macros, MacroState, macros_at, IsUnitFront, IsOperationFront, FitsMacros, mode_behind, macro_grammar, ReadsMacros}
 use Rattle.dw_base.specs.MacroReadings.{MacroReading, ReadsAllMacros, EachMacro, MacroStart, started_by, starts_in, macro_starts, first_macros}
@@ -21,6 +21,7 @@ use Rattle.dw_base.proofs.PieceFrameLaws.{Preserves, chain-changed}
 use Rattle.dw_base.proofs.PlainCellLaws.{IsPlain}
 use Rattle.dw_base.proofs.UnitEditLaws.{Shift, Becomes, length-becomes}
 use Rattle.dw_base.specs.declared.debug_sections.DebugSection.TheVariants.{Str, LineStr}
+use Rattle.dw_base.specs.declared.texts.TextSection.TheVariants.{InStr, InLineStr}
 use Rattle.dw_meaning.specs.NewAddends.{MakesRole}
 use Rattle.dw_meaning.proofs.OffsetMoveLaws.{RolesChanged, roles-named}
 use Rattle.dw_meaning.proofs.TextEditLaws.{CanMove, TablesMove, TextsAre, behind_piece, roles-changed, shift_of}
@@ -210,23 +211,23 @@ all-macros-can c around order (z ∷ zs) (r ∷ rs) reads makes = (
 
 -- the text law, for all sections
 pub macros-edited : (lc : List Cell) (order : Order) (c : TableChanges) (around : Around) (ts us : List (List ℕ)) (zs : List CellSection) (rs : List MacroReading) (ms ns : List Mention)
-    → TablesMove c around → TextsAre c ts us (macro_mentions in_str around rs ++ ms) (macro_mentions in_line_str around rs ++ ns) → ReadsAllMacros order zs rs
+    → TablesMove c around → TextsAre c ts us (macro_mentions InStr around rs ++ ms) (macro_mentions InLineStr around rs ++ ns) → ReadsAllMacros order zs rs
     → EachMacro (λ x. CanMove (macro_role x.state) c around x.cells) rs → EachMacro (λ x. NamesTextBy (macro_role x.state) around x.cells) rs
     → AllMacrosChanged (shift_of c around lc) rs (edited_macros c around rs)
 macros-edited lc order c around ts us zs [] ms ns t all reads moves names = tt
 macros-edited lc order c around ts us [] (r ∷ rs) ms ns t all reads moves names = absurd reads
 macros-edited lc order c around ts us (z ∷ zs) (r ∷ rs) ms ns t all reads moves names =
-    let heres : List Mention = mentions_with macro_role in_str around r.pieces in
-    let lines : List Mention = mentions_with macro_role in_line_str around r.pieces in
-    let rest : TextsAre c ts us (heres ++ (macro_mentions in_str around rs ++ ms)) (lines ++ (macro_mentions in_line_str around rs ++ ns)) =
+    let heres : List Mention = mentions_with macro_role InStr around r.pieces in
+    let lines : List Mention = mentions_with macro_role InLineStr around r.pieces in
+    let rest : TextsAre c ts us (heres ++ (macro_mentions InStr around rs ++ ms)) (lines ++ (macro_mentions InLineStr around rs ++ ns)) =
     record {
-      str = all.str ∙ ap (texts_after (c.new Str).plan c.map ts) (append_assoc heres (macro_mentions in_str around rs) ms);
-      line_str = all.line_str ∙ ap (texts_after (c.new LineStr).plan c.map us) (append_assoc lines (macro_mentions in_line_str around rs) ns);
+      str = all.str ∙ ap (texts_after (c.new Str).plan c.map ts) (append_assoc heres (macro_mentions InStr around rs) ms);
+      line_str = all.line_str ∙ ap (texts_after (c.new LineStr).plan c.map us) (append_assoc lines (macro_mentions InLineStr around rs) ns);
     } in (
       refl,
-      roles-changed lc macro_role c around ts us r.pieces (macro_mentions in_str around rs ++ ms) (macro_mentions in_line_str around rs ++ ns) t rest
+      roles-changed lc macro_role c around ts us r.pieces (macro_mentions InStr around rs ++ ms) (macro_mentions InLineStr around rs ++ ns) t rest
           moves.0 names.0,
       macros-edited lc order c around (texts_after (c.new Str).plan c.map ts heres) (texts_after (c.new LineStr).plan c.map us lines) zs rs ms ns t
-          (behind_piece c ts us heres lines (macro_mentions in_str around rs ++ ms) (macro_mentions in_line_str around rs ++ ns) rest)
+          (behind_piece c ts us heres lines (macro_mentions InStr around rs ++ ms) (macro_mentions InLineStr around rs ++ ns) rest)
           reads.2 moves.1 names.1,
     )

@@ -9,7 +9,7 @@ use Rattle.dw_base.specs.MappedSlots.{path_slot, forest_slots, unit_slots}
 use Rattle.dw_base.specs.Numbers.{spelled}
 use Rattle.dw_base.specs.Pieces.{Piece}
 use Rattle.dw_base.specs.Readings.{Readings}
-use Rattle.dw_base.specs.Roles.{Use, names_macro_unit, is_line_start, is_macro_start, is_path, is_path_use, use_of}
+use Rattle.dw_base.specs.Roles.{is_line_start, is_macro_start, is_path, is_path_use, use_of}
 use Rattle.dw_base.specs.TextIndexes.{Indexing, IndexUse, index_value, use_by, uses_by, uses_in, index_uses, slot_of, listed_slot, slots_named, holds_number}
 use Rattle.dw_base.specs.UnitHeaders.{UnitBase, UnitSection}
 use Rattle.dw_base.specs.UnitMeanings.{UnitMeaning, head_mark, entry_mark, code_mark, value_mark, mark_by, mark_of, unit_meanings, units_read}
@@ -25,6 +25,8 @@ use Rattle.dw_base.specs.declared.view_fields.Field.TheVariants.{Num, Into, Sym}
 use Rattle.dw_base.proofs.IndexKeptLaws.{start-no-index}
 use Rattle.dw_base.proofs.PathSlotLaws.{mark_slots, marks_slots, marks_slots-append, forest-slots}
 use Rattle.dw_base.specs.declared.debug_sections.DebugSection.TheVariants.{Info, StrOffsets, Line}
+use Rattle.dw_base.specs.declared.values.AttributeUse.{AttributeUse}
+use Rattle.dw_base.specs.declared.values.AttributeUse.TheVariants.{NamesMacroUnit}
 use Rattle.dw_meaning.specs.SpelledUnits.{marks_of, SpelledUnits, no_units, more_units}
 use Rattle.dw_meaning.proofs.IndexTextLaws.{use-path}
 use Rattle.dw_meaning.proofs.SpelledLaws.{section-spelled}
@@ -74,7 +76,7 @@ indexed-slot texts o false true p e = absurd cc
 abbrev named_by : Around → UnitState → ℕ → Bool → Option ℕ → List ℕ
 named_by around s place path o = slots_named true (around.lasting.kept StrOffsets) (use_by s place path o)
 
-number-slot : (class : ValueClass) (n : ℕ) (around : Around) (s : UnitState) (u : Use) (path : Bool) (place : ℕ) (p : List Cell) → path ≡ is_path_use u
+number-slot : (class : ValueClass) (n : ℕ) (around : Around) (s : UnitState) (u : AttributeUse) (path : Bool) (place : ℕ) (p : List Cell) → path ≡ is_path_use u
     → path_slot (number_meaning around s u class p) ≡ named_by around s place path (index_value around.lasting.base.order (number_of class n) p)
 number-slot StrIndex n around s u path place p e =
     indexed-slot (around.stands StrOffsets) (slot_of (around.lasting.kept StrOffsets) s.unit (spelled around.lasting.base.order (bytes_of p) 0 (length p))) (is_path_use u) path p e
@@ -83,7 +85,7 @@ number-slot LocalRef n around s u path place p e = local-none around.lasting s (
 number-slot GlobalRef n around s u path place p e = global-none around.lasting (field_of around.lasting.base.order p)
 number-slot class n around s u path place p e = refl
 
-leb-slot : (class : ValueClass) (around : Around) (s : UnitState) (u : Use) (path : Bool) (place : ℕ) (p : List Cell) → path ≡ is_path_use u
+leb-slot : (class : ValueClass) (around : Around) (s : UnitState) (u : AttributeUse) (path : Bool) (place : ℕ) (p : List Cell) → path ≡ is_path_use u
     → path_slot (leb_meaning around s u class p) ≡ named_by around s place path (index_value around.lasting.base.order (leb_number class) p)
 leb-slot StrIndex around s u path place p e =
     indexed-slot (around.stands StrOffsets) (slot_of (around.lasting.kept StrOffsets) s.unit (code_value p)) (is_path_use u) path p e
@@ -100,12 +102,12 @@ unit-none : (o : Option ℕ) (f : Field) → path_slot (unit_meant o f) ≡ []
 unit-none None f = refl
 unit-none (Some k) f = refl
 
-unit-no-index : (u : Use) (class : ValueClass) (n : ℕ) (order : Order) (p : List Cell) → is_macro_start u class n ≡ true → index_value order (number_of class n) p ≡ None
-unit-no-index names_macro_unit SecOffset n order p e = refl
-unit-no-index names_macro_unit Number n order p e = refl
+unit-no-index : (u : AttributeUse) (class : ValueClass) (n : ℕ) (order : Order) (p : List Cell) → is_macro_start u class n ≡ true → index_value order (number_of class n) p ≡ None
+unit-no-index NamesMacroUnit SecOffset n order p e = refl
+unit-no-index NamesMacroUnit Number n order p e = refl
 unit-no-index u class n order p e = absurd cc
 
-plain-slot : (class : ValueClass) (n : ℕ) (around : Around) (s : UnitState) (u : Use) (path : Bool) (place : ℕ) (p : List Cell) → path ≡ is_path_use u
+plain-slot : (class : ValueClass) (n : ℕ) (around : Around) (s : UnitState) (u : AttributeUse) (path : Bool) (place : ℕ) (p : List Cell) → path ≡ is_path_use u
     → path_slot (plain_meaning around s u class n p) ≡ named_by around s place path (index_value around.lasting.base.order (number_of class n) p)
 plain-slot class n around s u path place p e = by_unit (is_macro_start u class n) refl
   where
@@ -117,7 +119,7 @@ plain-slot class n around s u path place p e = by_unit (is_macro_start u class n
     by_unit false is = number-slot class n around s u path place p e
 
 -- what a value names: a further form is a clause here
-value-slot : (k : ValueKind) (around : Around) (s : UnitState) (u : Use) (x : Spec) (path : Bool) (place : ℕ) (p : List Cell) → path ≡ is_path_use u
+value-slot : (k : ValueKind) (around : Around) (s : UnitState) (u : AttributeUse) (x : Spec) (path : Bool) (place : ℕ) (p : List Cell) → path ≡ is_path_use u
     → path_slot (meaning_of_value around s u x k p) ≡ named_by around s place path (index_value around.lasting.base.order k p)
 value-slot (number_of class n) around s u x path place p e = by_start (is_line_start u class n) refl
   where

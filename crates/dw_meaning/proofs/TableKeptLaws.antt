@@ -11,7 +11,6 @@ use Rattle.dw_base.specs.Readings.{Readings, EachReading}
 use Rattle.dw_base.specs.DebugSections.{name_of}
 use Rattle.dw_base.specs.Elf.{section_count, section_name, contents_of}
 use Rattle.dw_base.specs.FileViews.{ViewSection, view_section, view_of, is_filled, first_filled, section_named, section_after}
-use Rattle.dw_base.specs.Forms.{TextSection, in_str, in_line_str}
 use Rattle.dw_base.specs.Paths.{PathMap}
 use Rattle.dw_base.specs.Pieces.{Piece, EachPiece}
 use Rattle.dw_base.specs.Roles.{Role, fixed, offset, inline_path, line_start, role_of}
@@ -26,6 +25,8 @@ use Rattle.dw_meaning.proofs.FileBackLaws.{AllAt, SectionBack, tabulate-at}
 use Rattle.dw_base.proofs.FileViewLaws.{section_bytes-view_of}
 use Rattle.dw_base.proofs.SectionRelocationLaws.{relocations_of-loaded}
 use Rattle.dw_base.proofs.TextLaws.{same_text-true, ends_in-inside}
+use Rattle.dw_base.specs.declared.texts.TextSection.{TextSection}
+use Rattle.dw_base.specs.declared.texts.TextSection.TheVariants.{InStr, InLineStr}
 
 -- a section that was found by its name has it
 filled-name : (name : List ℕ) (s : ViewSection) → is_filled name s ≡ true → s.name ≡ name
@@ -124,10 +125,10 @@ role-none r u around p none names = by_role r u none names
     by_role fixed u empty text = refl
     by_role inline_path u empty text = refl
     by_role line_start u empty text = refl
-    by_role (offset in_str path) in_str empty text = absurd (clash in_str empty text)
-    by_role (offset in_str path) in_line_str empty text = refl
-    by_role (offset in_line_str path) in_str empty text = refl
-    by_role (offset in_line_str path) in_line_str empty text = absurd (clash in_line_str empty text)
+    by_role (offset InStr path) InStr empty text = absurd (clash InStr empty text)
+    by_role (offset InStr path) InLineStr empty text = refl
+    by_role (offset InLineStr path) InStr empty text = refl
+    by_role (offset InLineStr path) InLineStr empty text = absurd (clash InLineStr empty text)
 
 mentions-none : (table : TextSection) (around : Around) (xs : List (Piece UnitState)) → (table_of around table).bytes ≡ [] → EachPiece (NamesText around) xs
     → mentions_of table around xs ≡ []

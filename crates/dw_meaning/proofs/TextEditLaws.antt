@@ -5,13 +5,13 @@ use Rattle.std.specs.Bool.{⊤}
 use Rattle.std.proofs.lemmas.List.{length-append, drop_all}
 use Rattle.dw_base.specs.Cells.{Cell, Located, Relocation, bytes_of, first_relocation, with_bytes, offset_of}
 use Rattle.dw_base.specs.DebugData.{Around, line_table, path_slots, start_number}
-use Rattle.dw_base.specs.Forms.{TextSection, in_str, in_line_str, ValueKind, number_of, leb_number, signed_leb, block_of, counted, counted_leb, inline_text, text_offset, present, in_abbreviation, form_in_front, supplementary, unlisted, kind_in, width_size}
+use Rattle.dw_base.specs.Forms.{ValueKind, number_of, leb_number, signed_leb, block_of, counted, counted_leb, inline_text, text_offset, present, in_abbreviation, form_in_front, supplementary, unlisted, kind_in, width_size}
 use Rattle.dw_base.specs.InlinePaths.{mapped_inline}
 use Rattle.dw_base.specs.MappedSlots.{mapped_slots}
 use Rattle.dw_base.specs.SectionTexts.{mentions_with, edited_with}
 use Rattle.dw_base.specs.Paths.{PathMap, IsPathMap, mapped_path}
 use Rattle.dw_base.specs.Pieces.{Piece, Chain, EachPiece}
-use Rattle.dw_base.specs.Roles.{Role, fixed, offset, inline_path, line_start, names_line_table, is_line_start, role_of_kind, role_of_mode, role_of, Use, is_path_use, use_of}
+use Rattle.dw_base.specs.Roles.{Role, fixed, offset, inline_path, line_start, is_line_start, role_of_kind, role_of_mode, role_of, is_path_use, use_of}
 use Rattle.dw_base.specs.StringTables.{Mention, Plan, new_text, appending, with_mention, texts_after, place_in, new_table, new_place}
 use Rattle.dw_base.specs.NewOffsets.{with_offset}
 use Rattle.dw_base.specs.TextChanges.{mention_at, mentions_by, mentions_of, TableChange, TableChanges, change_of, moved_field, moved_start, edited_by, edited_all, NamesTextBy, NamesText, InlineFitsBy, InlineFits}
@@ -42,6 +42,10 @@ use Rattle.dw_base.proofs.TableLaws.{is_in-texts_after, is_in-with_mention}
 use Rattle.dw_base.proofs.TextLaws.{has_nul-append, text-append_nul, has_nul-text, drop-text, has_nul-text_in, same_text-true, text_in-append, ends_in-append, ends_in-inside, text_in-place_in, ends_in-place_in, place_in-lt}
 use Rattle.dw_base.proofs.UnitEditLaws.{Shift, Restarted, Rewritten, Becomes, PieceSlot, UnitsChanged, length-bytes_of, number-there}
 use Rattle.dw_base.specs.declared.debug_sections.DebugSection.TheVariants.{Str, LineStr, StrOffsets, Line}
+use Rattle.dw_base.specs.declared.texts.TextSection.{TextSection}
+use Rattle.dw_base.specs.declared.texts.TextSection.TheVariants.{InStr, InLineStr}
+use Rattle.dw_base.specs.declared.values.AttributeUse.{AttributeUse}
+use Rattle.dw_base.specs.declared.values.AttributeUse.TheVariants.{NamesLineTable}
 use Rattle.dw_meaning.proofs.DataParts.{stands_with}
 
 -- a plan under which a mention that asks for no place keeps its text, which stays where it is
@@ -200,7 +204,7 @@ asked-makes false n p h e = absurd cc
 offset-moves : {lc : List Cell} (table : TextSection) (path : Bool) (c : TableChanges) (around : Around) (p : List Cell) (w : Width) → TablesMove c around
     → MakesRole (offset table path) c around p → length p ≡ width_size w → NamesTextBy (offset table path) around p → Provided (offset table path) c around p
     → Becomes (offset table path) (shift_of c around lc) p (edited_by (offset table path) c around p)
-offset-moves in_str path c around p w t place size names there =
+offset-moves InStr path c around p w t place size names there =
     let f = field-moves c.map around.lasting.base.order (c.new Str) (around.stands Str) path p
     (record {
       map = t.map;
@@ -213,7 +217,7 @@ offset-moves in_str path c around p w t place size names there =
           (new_place (c.new Str).plan c.map (c.new Str).texts (mention_in around.lasting.base.order (around.stands Str) path p)) p place;
     }) in
     record { size = f.size; says = f.says; ends = f.ends }
-offset-moves in_line_str path c around p w t place size names there =
+offset-moves InLineStr path c around p w t place size names there =
     let f = field-moves c.map around.lasting.base.order (c.new LineStr) (around.stands LineStr) path p
     (record {
       map = t.map;
@@ -331,12 +335,12 @@ start-moves {lc} c around p t makes_it size names = by_table (line_table around 
         }
 
 -- a number that says where a line table starts has 4 or 8 bytes
-start-size : (u : Use) (class : ValueClass) (n : ℕ) → is_line_start u class n ≡ true → is_offset_sized (number_of class n) ≡ true → (n == 4 || n == 8) ≡ true
-start-size names_line_table SecOffset n e sized = sized
-start-size names_line_table Number n e sized = e
+start-size : (u : AttributeUse) (class : ValueClass) (n : ℕ) → is_line_start u class n ≡ true → is_offset_sized (number_of class n) ≡ true → (n == 4 || n == 8) ≡ true
+start-size NamesLineTable SecOffset n e sized = sized
+start-size NamesLineTable Number n e sized = e
 start-size u class n e sized = absurd cc
 
-number-moves : (lc : List Cell) (b : Bool) (u : Use) (class : ValueClass) (n : ℕ) (c : TableChanges) (around : Around) (s : UnitState) (x : Spec) (p : List Cell) → is_line_start u class n ≡ b
+number-moves : (lc : List Cell) (b : Bool) (u : AttributeUse) (class : ValueClass) (n : ℕ) (c : TableChanges) (around : Around) (s : UnitState) (x : Spec) (p : List Cell) → is_line_start u class n ≡ b
     → TablesMove c around → MakesRole (if b then line_start else fixed) c around p → is_offset_sized (number_of class n) ≡ true → IsValue s x (number_of class n) p → NamesTextBy (if b then line_start else fixed) around p
     → Becomes (if b then line_start else fixed) (shift_of c around lc) p (edited_by (if b then line_start else fixed) c around p)
 unfolding value_of
@@ -358,7 +362,7 @@ inline-role lc true c around s x p is_map f fits = inline-moves c around s x p i
 inline-role lc false c around s x p is_map f fits = refl
 
 -- cells of a value
-value-moves : (lc : List Cell) (k : ValueKind) (u : Use) (c : TableChanges) (around : Around) (s : UnitState) (x : Spec) (p : List Cell) → TablesMove c around → MakesRole (role_of_kind k u) c around p
+value-moves : (lc : List Cell) (k : ValueKind) (u : AttributeUse) (c : TableChanges) (around : Around) (s : UnitState) (x : Spec) (p : List Cell) → TablesMove c around → MakesRole (role_of_kind k u) c around p
     → is_sized s.header.params.width k ≡ true → is_offset_sized k ≡ true → FitsKind k s x p → NamesTextBy (role_of_kind k u) around p → InlineFitsBy (role_of_kind k u) c.map p
     → Provided (role_of_kind k u) c around p → Becomes (role_of_kind k u) (shift_of c around lc) p (edited_by (role_of_kind k u) c around p)
 value-moves lc (number_of class n) u c around s x p t place sized offsets f names fits there =
@@ -417,16 +421,16 @@ pub record TextsAre (c : TableChanges) (ts us : List (List ℕ)) (ms ns : List M
 
 -- each text that is asked for is among those after all mentions
 provided : (r : Role) (c : TableChanges) (around : Around) (ts us : List (List ℕ)) (p : List Cell) (ms ns : List Mention)
-    → TextsAre c ts us (mentions_by r in_str around p ++ ms) (mentions_by r in_line_str around p ++ ns) → Provided r c around p
+    → TextsAre c ts us (mentions_by r InStr around p ++ ms) (mentions_by r InLineStr around p ++ ns) → Provided r c around p
 provided fixed c around ts us p ms ns all = tt
 provided inline_path c around ts us p ms ns all = tt
 provided line_start c around ts us p ms ns all = tt
-provided (offset in_str path) c around ts us p ms ns all = λ asks.
-    let x : Mention = mention_at around in_str path p in
+provided (offset InStr path) c around ts us p ms ns all = λ asks.
+    let x : Mention = mention_at around InStr path p in
     subst (λ (vs : List (List ℕ)). is_in vs (new_text c.map x) ≡ true) (sym all.str)
     (is_in-texts_after (c.new Str).plan c.map (with_mention (c.new Str).plan c.map ts x) ms (new_text c.map x) (is_in-with_mention (c.new Str).plan c.map ts x asks))
-provided (offset in_line_str path) c around ts us p ms ns all = λ asks.
-    let x : Mention = mention_at around in_line_str path p in
+provided (offset InLineStr path) c around ts us p ms ns all = λ asks.
+    let x : Mention = mention_at around InLineStr path p in
     subst (λ (vs : List (List ℕ)). is_in vs (new_text c.map x) ≡ true) (sym all.line_str)
     (is_in-texts_after (c.new LineStr).plan c.map (with_mention (c.new LineStr).plan c.map us x) ns (new_text c.map x) (is_in-with_mention (c.new LineStr).plan c.map us x asks))
 
@@ -463,24 +467,24 @@ SlotMoves c x = PieceSlot x.state.mode c x.state x.cells
 
 -- the text law, for the pieces of a section
 pub edited-changed : (lc : List Cell) (base : UnitBase) (c : TableChanges) (around : Around) (ts us : List (List ℕ)) (s : UnitState) (xs : List (Piece UnitState))
-    (ms ns : List Mention) → TablesMove c around → TextsAre c ts us (mentions_of in_str around xs ++ ms) (mentions_of in_line_str around xs ++ ns)
+    (ms ns : List Mention) → TablesMove c around → TextsAre c ts us (mentions_of InStr around xs ++ ms) (mentions_of InLineStr around xs ++ ns)
     → Chain (unit_grammar base) s xs → EachPiece (Moves c around) xs → EachPiece (NamesText around) xs → EachPiece (InlineFits c.map) xs
     → EachPiece (SlotMoves (shift_of c around lc)) xs → UnitsChanged (shift_of c around lc) xs (edited_all c around xs)
 unfolding role_of
 edited-changed lc base c around ts us s [] ms ns t all chain moves names fits slots = tt
 edited-changed lc base c around ts us s (x ∷ xs) ms ns t all chain moves names fits slots =
-    let heres : List Mention = mentions_by (role_of x) in_str around x.cells in
-    let lines : List Mention = mentions_by (role_of x) in_line_str around x.cells in
-    let rest : TextsAre c ts us (heres ++ (mentions_of in_str around xs ++ ms)) (lines ++ (mentions_of in_line_str around xs ++ ns)) =
+    let heres : List Mention = mentions_by (role_of x) InStr around x.cells in
+    let lines : List Mention = mentions_by (role_of x) InLineStr around x.cells in
+    let rest : TextsAre c ts us (heres ++ (mentions_of InStr around xs ++ ms)) (lines ++ (mentions_of InLineStr around xs ++ ns)) =
     record {
-      str = all.str ∙ ap (texts_after (c.new Str).plan c.map ts) (append_assoc heres (mentions_of in_str around xs) ms);
-      line_str = all.line_str ∙ ap (texts_after (c.new LineStr).plan c.map us) (append_assoc lines (mentions_of in_line_str around xs) ns);
+      str = all.str ∙ ap (texts_after (c.new Str).plan c.map ts) (append_assoc heres (mentions_of InStr around xs) ms);
+      line_str = all.line_str ∙ ap (texts_after (c.new LineStr).plan c.map us) (append_assoc lines (mentions_of InLineStr around xs) ns);
     } in
-    let there = provided (role_of x) c around ts us x.cells (mentions_of in_str around xs ++ ms) (mentions_of in_line_str around xs ++ ns) rest in (
+    let there = provided (role_of x) c around ts us x.cells (mentions_of InStr around xs ++ ms) (mentions_of InLineStr around xs ++ ns) rest in (
       record { state = refl; cells = (mode-moves lc x.state.mode base x.state c around x.cells t moves.0 chain.1 names.0 fits.0 there, slots.0) },
       edited-changed lc base c around (texts_after (c.new Str).plan c.map ts heres) (texts_after (c.new LineStr).plan c.map us lines)
           ((unit_grammar base).next x.state x.cells) xs ms ns t
-          (behind_piece c ts us heres lines (mentions_of in_str around xs ++ ms) (mentions_of in_line_str around xs ++ ns) rest)
+          (behind_piece c ts us heres lines (mentions_of InStr around xs ++ ms) (mentions_of InLineStr around xs ++ ns) rest)
           chain.2 moves.1 names.1 fits.1 slots.1,
     )
 
@@ -510,21 +514,21 @@ role-moves lc line_start c around p t can names there = start-moves c around p t
 
 -- the text law, for pieces of roles
 pub roles-changed : {S : Type 0} (lc : List Cell) (role : S → Role) (c : TableChanges) (around : Around) (ts us : List (List ℕ)) (xs : List (Piece S)) (ms ns : List Mention)
-    → TablesMove c around → TextsAre c ts us (mentions_with role in_str around xs ++ ms) (mentions_with role in_line_str around xs ++ ns)
+    → TablesMove c around → TextsAre c ts us (mentions_with role InStr around xs ++ ms) (mentions_with role InLineStr around xs ++ ns)
     → EachPiece (λ x. CanMove (role x.state) c around x.cells) xs → EachPiece (λ x. NamesTextBy (role x.state) around x.cells) xs
     → AllChanged S (λ s p q. Becomes (role s) (shift_of c around lc) p q) xs (edited_with role c around xs)
 roles-changed lc role c around ts us [] ms ns t all can names = tt
 roles-changed lc role c around ts us (x ∷ xs) ms ns t all can names =
-    let heres : List Mention = mentions_by (role x.state) in_str around x.cells in
-    let lines : List Mention = mentions_by (role x.state) in_line_str around x.cells in
-    let rest : TextsAre c ts us (heres ++ (mentions_with role in_str around xs ++ ms)) (lines ++ (mentions_with role in_line_str around xs ++ ns)) =
+    let heres : List Mention = mentions_by (role x.state) InStr around x.cells in
+    let lines : List Mention = mentions_by (role x.state) InLineStr around x.cells in
+    let rest : TextsAre c ts us (heres ++ (mentions_with role InStr around xs ++ ms)) (lines ++ (mentions_with role InLineStr around xs ++ ns)) =
     record {
-      str = all.str ∙ ap (texts_after (c.new Str).plan c.map ts) (append_assoc heres (mentions_with role in_str around xs) ms);
-      line_str = all.line_str ∙ ap (texts_after (c.new LineStr).plan c.map us) (append_assoc lines (mentions_with role in_line_str around xs) ns);
+      str = all.str ∙ ap (texts_after (c.new Str).plan c.map ts) (append_assoc heres (mentions_with role InStr around xs) ms);
+      line_str = all.line_str ∙ ap (texts_after (c.new LineStr).plan c.map us) (append_assoc lines (mentions_with role InLineStr around xs) ns);
     } in
-    let there = provided (role x.state) c around ts us x.cells (mentions_with role in_str around xs ++ ms) (mentions_with role in_line_str around xs ++ ns) rest in (
+    let there = provided (role x.state) c around ts us x.cells (mentions_with role InStr around xs ++ ms) (mentions_with role InLineStr around xs ++ ns) rest in (
       record { state = refl; cells = role-moves lc (role x.state) c around x.cells t can.0 names.0 there },
       roles-changed lc role c around (texts_after (c.new Str).plan c.map ts heres) (texts_after (c.new LineStr).plan c.map us lines) xs ms ns t
-          (behind_piece c ts us heres lines (mentions_with role in_str around xs ++ ms) (mentions_with role in_line_str around xs ++ ns) rest)
+          (behind_piece c ts us heres lines (mentions_with role InStr around xs ++ ms) (mentions_with role InLineStr around xs ++ ns) rest)
           can.1 names.1,
     )

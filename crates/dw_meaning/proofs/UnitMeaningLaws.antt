@@ -10,7 +10,7 @@ use Rattle.dw_base.specs.Forms.{ValueKind, number_of, leb_number, inline_text, t
 use Rattle.dw_base.specs.MappedUnits.{mapped_value, mapped_attribute, mapped_attributes, mapped_forest, mapped_units}
 use Rattle.dw_base.specs.Paths.{PathMap}
 use Rattle.dw_base.specs.Pieces.{Piece}
-use Rattle.dw_base.specs.Roles.{fixed, inline_path, line_start, is_line_start, is_macro_start, role_of_kind, role_of_mode, Use, is_path_use, use_of}
+use Rattle.dw_base.specs.Roles.{fixed, inline_path, line_start, is_line_start, is_macro_start, role_of_kind, role_of_mode, is_path_use, use_of}
 use Rattle.dw_base.specs.StringTables.{new_text}
 use Rattle.dw_base.specs.TextChanges.{offset_in}
 use Rattle.dw_base.specs.Numbers.{spelled}
@@ -28,6 +28,7 @@ use Rattle.dw_base.specs.declared.view_fields.Field.{Field}
 use Rattle.dw_base.specs.declared.view_fields.Field.TheVariants.{Num, Into, Sym}
 use Rattle.dw_base.proofs.UnitEditLaws.{Shift, Restarted, Becomes, SlotBecomes, ValueSlot, PieceSlot, UnitsChanged}
 use Rattle.dw_base.specs.declared.debug_sections.DebugSection.TheVariants.{Info, StrOffsets, Line}
+use Rattle.dw_base.specs.declared.values.AttributeUse.{AttributeUse}
 
 abbrev mapped_mark : PathMap → Mark → Mark
 mapped_mark m (attribute a) = attribute (mapped_attribute m a)
@@ -98,7 +99,7 @@ indexed-changed None path c p i = refl
 indexed-changed (Some n) true c p i = ap (string true (by_slot n)) i
 indexed-changed (Some n) false c p i = ap (string false (by_slot n)) i
 
-number-means : (class : ValueClass) (n : ℕ) (u : Use) (c : Shift) (s : UnitState) (p q : List Cell) → q ≡ p → ValueSlot (number_of class n) (is_path_use u) c s.unit p
+number-means : (class : ValueClass) (n : ℕ) (u : AttributeUse) (c : Shift) (s : UnitState) (p q : List Cell) → q ≡ p → ValueSlot (number_of class n) (is_path_use u) c s.unit p
     → number_meaning c.new s u class q ≡ mapped_value c.map (number_meaning c.old s u class p)
 number-means StrIndex n u c s p q h i =
     ap (λ (g : Lasting). indexed (c.new.stands StrOffsets) (is_path_use u) (slot_of (g.kept StrOffsets) s.unit (spelled g.base.order (bytes_of q) 0 (length q))) q) c.lasting
@@ -106,7 +107,7 @@ number-means StrIndex n u c s p q h i =
     ∙ indexed-changed (slot_of (c.old.lasting.kept StrOffsets) s.unit (spelled c.old.lasting.base.order (bytes_of p) 0 (length p))) (is_path_use u) c p i
 number-means class n u c s p q h i = number-changed c s class p q h
 
-leb-means : (class : ValueClass) (u : Use) (c : Shift) (s : UnitState) (p q : List Cell) → q ≡ p → ValueSlot (leb_number class) (is_path_use u) c s.unit p
+leb-means : (class : ValueClass) (u : AttributeUse) (c : Shift) (s : UnitState) (p q : List Cell) → q ≡ p → ValueSlot (leb_number class) (is_path_use u) c s.unit p
     → leb_meaning c.new s u class q ≡ mapped_value c.map (leb_meaning c.old s u class p)
 leb-means StrIndex u c s p q h i =
     ap (λ (g : Lasting). indexed (c.new.stands StrOffsets) (is_path_use u) (slot_of (g.kept StrOffsets) s.unit (code_value q)) q) c.lasting
@@ -129,7 +130,7 @@ unit-mapped : (m : PathMap) (o : Option ℕ) (f : Field) → unit_meant o f ≡ 
 unit-mapped m None f = refl
 unit-mapped m (Some k) f = refl
 
-plain-means : (class : ValueClass) (n : ℕ) (u : Use) (c : Shift) (s : UnitState) (p q : List Cell) → q ≡ p → ValueSlot (number_of class n) (is_path_use u) c s.unit p
+plain-means : (class : ValueClass) (n : ℕ) (u : AttributeUse) (c : Shift) (s : UnitState) (p q : List Cell) → q ≡ p → ValueSlot (number_of class n) (is_path_use u) c s.unit p
     → plain_meaning c.new s u class n q ≡ mapped_value c.map (plain_meaning c.old s u class n p)
 plain-means class n u c s p q h i = by_unit (is_macro_start u class n)
   where
@@ -141,7 +142,7 @@ plain-means class n u c s p q h i = by_unit (is_macro_start u class n)
     by_unit false = number-means class n u c s p q h i
 
 -- what a value means after the change: a further form is a clause here
-value-changed : (k : ValueKind) (u : Use) (x : Spec) (c : Shift) (s : UnitState) (p q : List Cell) → Becomes (role_of_kind k u) c p q
+value-changed : (k : ValueKind) (u : AttributeUse) (x : Spec) (c : Shift) (s : UnitState) (p q : List Cell) → Becomes (role_of_kind k u) c p q
     → ValueSlot k (is_path_use u) c s.unit p → meaning_of_value c.new s u x k q ≡ mapped_value c.map (meaning_of_value c.old s u x k p)
 value-changed (text_offset table n) u x c s p q h i =
     text-meaning c.map (is_path_use u) (text_in (table_of c.old table).bytes (offset_in c.old table p))

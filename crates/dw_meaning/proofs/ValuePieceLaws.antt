@@ -3,7 +3,7 @@ use Rattle.std.proofs.Common.{true, ◌≡◌, ◌⊎◌, inl, inr, ℕ, ◌+◌
 use Rattle.dw_base.specs.Cells.{Cell}
 use Rattle.dw_base.specs.Forms.{ValueKind, number_of, leb_number, signed_leb, block_of, counted, counted_leb, inline_text, text_offset, present, in_abbreviation, form_in_front, supplementary, unlisted, kind_in}
 use Rattle.dw_base.specs.Pieces.{Piece, joined, Leads}
-use Rattle.dw_base.specs.RelocationRows.{is_start, kind_field, unit_field}
+use Rattle.dw_base.specs.RelocationRows.{kind_field, unit_field, is_section_offset}
 use Rattle.dw_base.specs.Roles.{role_of, role_of_kind, use_of}
 use Rattle.dw_base.specs.UnitHeaders.{UnitBase}
 use Rattle.dw_base.specs.UnitPieces.{unit_grammar}
@@ -51,7 +51,7 @@ pub record ValuePiece (base : UnitBase) (cells : List Cell) (s : UnitState) (pla
   pub at : value.at ≡ v.at
   pub len : value.len ≡ v.len
   pub kind_is : kind ≡ behind_front (kind_in s.header.params x.form) s.header.params (unit_bytes s cells) place
-  pub fields : (order : Order) → unit_field last.state.mode order last.state last.cells ≡ kind_field kind field (is_start n tag x.name)
+  pub fields : (order : Order) → unit_field last.state.mode order last.state last.cells ≡ kind_field kind field (is_section_offset n tag x.name)
 
 pub value-pieces : (base : UnitBase) (cells : List Cell) (s : UnitState) (place e d n tag : ℕ) (x : Spec) (xs : List Spec) (v : Value)
     → value_at s.header.params x (unit_bytes s cells) place ≡ Some v → ValuePiece base cells s place e d n tag x xs v

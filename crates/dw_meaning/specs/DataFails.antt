@@ -2,7 +2,7 @@
 -- offset of a text, or an index of one, that names none; and a path that stands in its value and would grow.
 use Rattle.std.specs.Prelude.{true, false, ◌≡◌, ◌<◌, ℕ, length, List, ◌∷◌, ◌++◌, Option, Some, None}
 use Rattle.dw_base.specs.AbbreviationTables.{Abbreviation}
-use Rattle.dw_base.specs.Cells.{Located, cells_at, offset_of}
+use Rattle.dw_base.specs.Cells.{Located, cells_at, field_of, is_placed, offset_of}
 use Rattle.dw_base.specs.DebugData.{DebugData, DataReadings, ReadsAll, around_of, indexing_of, line_source}
 use Rattle.dw_base.specs.EntryScans.{EntryFails}
 use Rattle.dw_base.specs.EntryValues.{HasUnit, HasTable, HasValue, bytes_up_to}
@@ -47,11 +47,12 @@ pub data DataFails (d : DebugData) : Refusal → Type 0 where
   entries : (z : UnitSection) (h : UnitHeader) (list : List Abbreviation) {r : Refusal} → HasTable d z h list
       → EntryFails h list (bytes_up_to z h) r → DataFails d r
 
--- the row of texts, at the field of the offset
+-- the row of texts, at the field of the offset; a symbol without a place is no offset
 pub data TextFails (d : DebugData) : Refusal → Type 0 where
   no_text : (z : UnitSection) (h : UnitHeader) (list : List Abbreviation) (number : ℕ) (a : Abbreviation) (x : Spec) (place : ℕ)
       (v : Value) (table : Located) → HasTable d z h list → HasValue h list (bytes_up_to z h) number a x place v
-      → text_table d v.class ≡ Some table → ends_in table.bytes (value_offset d z v table) ≡ false
+      → text_table d v.class ≡ Some table → is_placed (field_of d.base.order (cells_at z.contents v.at v.len)) ≡ true
+      → ends_in table.bytes (value_offset d z v table) ≡ false
       → TextFails d (at StringOffset z.number v.at)
 
 -- the units and the string offsets can be read: they are these pieces

@@ -3,7 +3,6 @@
 use Rattle.std.specs.Prelude.{ℕ, ◌==◌, if◌then◌else◌, List, [], ◌∷◌, ◌++◌, ⊤}
 use Rattle.dw_base.specs.Cells.{Cell, Located, bytes_of}
 use Rattle.dw_base.specs.DebugData.{DebugData, DataReadings, Around, around_of, indexing_of, line_source, path_slots, source_around, table_of, ReadsAll}
-use Rattle.dw_base.specs.Forms.{TextSection, in_str, in_line_str}
 use Rattle.dw_base.specs.IndexFails.{SlotFits}
 use Rattle.dw_base.specs.LineChanges.{line_place, lines_after}
 use Rattle.dw_base.specs.LineReadings.{LineReading, AreTables, all_lines, table_read}
@@ -22,6 +21,8 @@ use Rattle.dw_base.specs.TextChanges.{Changed, TableChange, TableChanges, edited
 use Rattle.dw_base.specs.TextIndexes.{EachUse, NamesSlot, index_uses}
 use Rattle.dw_base.specs.declared.debug_sections.DebugSection.{DebugSection}
 use Rattle.dw_base.specs.declared.debug_sections.DebugSection.TheVariants.{Info, Types, Abbrev, Str, LineStr, StrOffsets, Line, Macro, Names}
+use Rattle.dw_base.specs.declared.texts.TextSection.{TextSection}
+use Rattle.dw_base.specs.declared.texts.TextSection.TheVariants.{InStr, InLineStr}
 
 -- debug data can be read: units, string offsets, macro units and name tables are these pieces, line tables fill their section, each offset
 -- names a text that ends, each value by index a slot, each value that is to say where a line table or a macro unit starts says it, and so
@@ -49,15 +50,15 @@ table_change m table around r =
 
 -- the new line tables
 abbrev pub new_lines : PathMap → Around → DataReadings → List (List ℕ)
-new_lines m around r = lines_after m (table_change m in_str around r) (table_change m in_line_str around r) (source_around around) r.lines
+new_lines m around r = lines_after m (table_change m InStr around r) (table_change m InLineStr around r) (source_around around) r.lines
 
 -- what is new in the sections of a kind
 abbrev pub changed_by : PathMap → Around → DataReadings → (s : DebugSection) → Changed s
 changed_by m around r Info = tt
 changed_by m around r Types = tt
 changed_by m around r Abbrev = tt
-changed_by m around r Str = table_change m in_str around r
-changed_by m around r LineStr = table_change m in_line_str around r
+changed_by m around r Str = table_change m InStr around r
+changed_by m around r LineStr = table_change m InLineStr around r
 changed_by m around r StrOffsets = tt
 changed_by m around r Line = new_lines m around r
 changed_by m around r Macro = tt

@@ -21,7 +21,7 @@ use Rattle.dw_base.specs.NamePieces.{NameState, ReadsNames}
 use Rattle.dw_base.specs.NameTables.{IsNameTable, names_of}
 use Rattle.dw_base.specs.OffsetPieces.{OffsetState, ReadsOffsets}
 use Rattle.dw_base.specs.Pieces.{Piece}
-use Rattle.dw_base.specs.RelocationRows.{FieldPlace, FieldsFail, FieldsRead, HeaderFails, HeaderOffsetFails, HeaderOffsetsRead, HeaderReads, OffsetFails, OffsetReads, is_start, kind_field, macro_fields, moving_sections, name_fields, offset_field, slot_fields, unit_fields}
+use Rattle.dw_base.specs.RelocationRows.{FieldPlace, FieldsFail, FieldsRead, HeaderFails, HeaderOffsetFails, HeaderOffsetsRead, HeaderReads, OffsetFails, OffsetReads, kind_field, macro_fields, moving_sections, name_fields, offset_field, slot_fields, unit_fields, is_section_offset}
 use Rattle.dw_base.specs.RelocationSectionFails.{RelocationSectionsFail, RelocationSectionsRead, relocates_read}
 use Rattle.dw_base.specs.UnitHeaders.{UnitSection}
 use Rattle.dw_base.specs.UnitPieces.{ReadsUnits}
@@ -48,14 +48,14 @@ kind_there params x bytes place = behind_front (kind_in params x.form) params by
 pub data ValueRelocationFails (d : DebugData) : Refusal → Type 0 where
   value : (z : UnitSection) (h : UnitHeader) (list : List Abbreviation) (number : ℕ) (a : Abbreviation) (x : Spec) (place : ℕ) (v : Value)
       (f : FieldPlace) {r : Refusal} → HasTable d z h list → HasValue h list (bytes_up_to z h) number a x place v
-      → kind_field (kind_there h.params x (bytes_up_to z h) place) v.at (is_start number a.tag x.name) ≡ f ∷ [] → f.use_is ≡ offset_field
+      → kind_field (kind_there h.params x (bytes_up_to z h) place) v.at (is_section_offset number a.tag x.name) ≡ f ∷ [] → f.use_is ≡ offset_field
       → OffsetFails d.base.order z.number z.contents f r → ValueRelocationFails d r
 
 -- and what holds where there is none
 pub record ValueRelocationsRead (d : DebugData) : Type 0 where
   pub all : (z : UnitSection) (h : UnitHeader) (list : List Abbreviation) (number : ℕ) (a : Abbreviation) (x : Spec) (place : ℕ) (v : Value)
       (f : FieldPlace) → HasTable d z h list → HasValue h list (bytes_up_to z h) number a x place v
-      → kind_field (kind_there h.params x (bytes_up_to z h) place) v.at (is_start number a.tag x.name) ≡ f ∷ [] → f.use_is ≡ offset_field
+      → kind_field (kind_there h.params x (bytes_up_to z h) place) v.at (is_section_offset number a.tag x.name) ≡ f ∷ [] → f.use_is ≡ offset_field
       → OffsetReads d.base.order z.contents f
 
 -- the rows of relocations that are left where a section is read: of units, string offsets, line tables, macro units and name tables, each by the

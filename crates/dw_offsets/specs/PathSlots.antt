@@ -18,8 +18,8 @@ use Rattle.dw_base.specs.declared.fault.Kind.TheVariants.{StringOffset, SharedIn
 use Rattle.dw_base.specs.declared.fault.Refusal.{Refusal}
 use Rattle.dw_base.specs.declared.shared.Order.{Order}
 use Rattle.dw_base.specs.declared.string_offsets.Contribution.{Contribution}
+use Rattle.dw_base.specs.declared.texts.TextField.{TextField}
 use Rattle.dw_offsets.specs.SlotMarks.{marked}
-use Rattle.dw_offsets.specs.declared.slot_fields.PathSlot.{PathSlot}
 
 -- the section of string offsets, and the texts that its offsets name: the byte order, the section's number and contents, and .debug_str
 pub record SlotTable : Type 0 where
@@ -62,15 +62,15 @@ EachSlot P [] = ⊤
 EachSlot P (s ∷ ss) = P s × EachSlot P ss
 
 -- the fields of the slots that paths name
-abbrev pub field_of : List ℕ → Slot → List PathSlot
+abbrev pub field_of : List ℕ → Slot → List TextField
 field_of marks s = if marked true marks s.place then record { at = s.place; size = s.size } ∷ [] else []
 
-abbrev pub fields_of : List ℕ → List Slot → List PathSlot
+abbrev pub fields_of : List ℕ → List Slot → List TextField
 fields_of marks [] = []
 fields_of marks (s ∷ ss) = field_of marks s ++ fields_of marks ss
 
 -- slots were taken, and their fields stand behind those of others
-pub record SlotsTaken (m : PathMap) (t : SlotTable) (marks : List ℕ) (slots : List Slot) (old new : List PathSlot) : Type 0 where
+pub record SlotsTaken (m : PathMap) (t : SlotTable) (marks : List ℕ) (slots : List Slot) (old new : List TextField) : Type 0 where
   pub taken : EachSlot (SlotTaken m t marks) slots
   pub fields : new ≡ old ++ fields_of marks slots
 
@@ -103,10 +103,10 @@ pub record AllLieIn (size : ℕ) (list : List Contribution) : Type 0 where
   pub each : (i : ℕ) (c d : Contribution) → i < length list → c ≡ get_or list i d → LiesIn size c
 
 -- the fields of the slots that paths name, among pieces
-abbrev pub slot_field : List ℕ → OffsetMode → ℕ → ℕ → ℕ → List PathSlot
+abbrev pub slot_field : List ℕ → OffsetMode → ℕ → ℕ → ℕ → List TextField
 slot_field paths (at_slot width end) n place size = if holds_number paths n then record { at = place; size = size } ∷ [] else []
 slot_field paths m n place size = []
 
-abbrev pub slot_fields : List ℕ → List (Piece OffsetState) → List PathSlot
+abbrev pub slot_fields : List ℕ → List (Piece OffsetState) → List TextField
 slot_fields paths [] = []
 slot_fields paths (x ∷ xs) = slot_field paths x.state.mode x.state.slot x.state.place (length x.cells) ++ slot_fields paths xs

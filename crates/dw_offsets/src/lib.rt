@@ -31,7 +31,7 @@ mod widths;
 
 pub use dw_base::{Contribution, Fault, Kind, NameTable, Refusal, Width};
 pub use name_lists::{NameTableList, name_tables};
-pub use slot_fields::{PathSlot, first_bytes, path_slots};
+pub use slot_fields::{first_bytes, path_slots};
 pub use slot_marks::SlotMarks;
 pub use slots::{slot_place, with_base};
 pub use string_offsets::{ContributionList, contributions};

@@ -23,21 +23,14 @@ ghost use Rattle.dw_offsets.specs.SlotTables.{TableFits};
 use crate::name_texts::{Texts, names_text, text_start, texts_of};
 use crate::slot_marks::SlotMarks;
 use crate::string_offsets::ContributionList;
-use dw_base::{Contribution, DebugSection, Fault, Field, Kind, NoMemory, Refusal, Width};
+use dw_base::{
+    Contribution, DebugSection, Fault, Field, Kind, NoMemory, Refusal, TextField, Width,
+};
 use dw_paths::{Maps, map_path};
 use dw_strings::text_at;
 use dw_view::View;
 use std::alloc::Global;
 use std::marker::Model;
-
-/// The field of a slot that a path names.
-#[derive(Clone, Copy, Debug, PartialEq, Eq, Drop)]
-pub struct PathSlot {
-    /// Where it stands, in bytes from the section's start.
-    pub at: u64,
-    /// How many bytes it has: 4 or 8.
-    pub size: u8,
-}
 
 /// The section of string offsets, and the texts that they name.
 #[derive(Drop)]
@@ -72,7 +65,7 @@ pub fn path_slots(
     maps: &Maps,
     list: &ContributionList,
     marks: &SlotMarks,
-) -> Result<Vec<PathSlot>, Fault>
+) -> Result<Vec<TextField>, Fault>
     requires contributions { AreContributions view.now.order (string_offsets view.now) list.now }
     ensures taken { IfOk result (λ fields. SlotsTaken maps.now (slots_in view.now) marks.now (slots_of list.now) [] fields.items) }
     ensures refused { IfErr result (Blames (SlotsRefuse maps.now (slots_in view.now) marks.now (slots_of list.now))) }
@@ -119,7 +112,7 @@ fn all_fields(
     maps: &Maps,
     list: &[Contribution],
     marks: &SlotMarks,
-) -> Result<Vec<PathSlot>, Fault>
+) -> Result<Vec<TextField>, Fault>
     requires inside { AllLieIn (length table.now.cells) list.now }
     ensures taken { IfOk result (λ fields. SlotsTaken maps.now table.now marks.now (slots_of list.now) [] fields.items) }
     ensures refused { IfErr result (Blames (SlotsRefuse maps.now table.now marks.now (slots_of list.now))) }
@@ -139,7 +132,7 @@ fn push_fields(
     maps: &Maps,
     contribution: Contribution,
     marks: &SlotMarks,
-    fields: &mut Vec<PathSlot>,
+    fields: &mut Vec<TextField>,
 ) -> Result<(), Fault>
     requires inside { LiesIn (length table.now.cells) contribution }
     ensures taken { OnOk result (SlotsTaken maps.now table.now marks.now (tabulate (slot_at contribution) (slot_total contribution)) fields.old.items fields.new.items) }
@@ -189,7 +182,7 @@ fn push_field(
     at: u64,
     size: u8,
     marks: &SlotMarks,
-    fields: &mut Vec<PathSlot>,
+    fields: &mut Vec<TextField>,
 ) -> Result<(), Fault>
     requires some { 0 < size }
     requires wide { size ≤ 8 }
@@ -199,7 +192,7 @@ fn push_field(
 {
     check_slot(alloc, table, maps, at, size, marks)?;
     if marks.is_marked(at, true) {
-        fields.push(PathSlot { at, size })?;
+        fields.push(TextField { at, size })?;
     }
     Ok(())
 }

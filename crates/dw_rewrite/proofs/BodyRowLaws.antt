@@ -4,7 +4,6 @@ use Rattle.std.proofs.Common.{◌≡◌, ◌≢◌, ◌⊎◌, inl, inr, ℕ, �
 use Rattle.dw_base.specs.DebugData.{around_of, line_source}
 use Rattle.dw_base.specs.DebugSections.{name_of}
 use Rattle.dw_base.specs.FileViews.{View, section_named, view_of}
-use Rattle.dw_base.specs.Forms.{TextSection, in_str, in_line_str}
 use Rattle.dw_base.specs.Layout.{output_limit}
 use Rattle.dw_base.specs.LineReadings.{all_lines}
 use Rattle.dw_base.specs.LineSources.{LineSource}
@@ -20,7 +19,9 @@ use Rattle.dw_base.specs.declared.fault.Fault.TheVariants.{NoMemory, Refused}
 use Rattle.dw_base.specs.declared.fault.Kind.TheVariants.{TooLarge}
 use Rattle.dw_base.specs.declared.fault.Refusal.{Refusal}
 use Rattle.dw_base.proofs.FileViewLaws.{section_after-within}
-use Rattle.dw_lines.specs.NewTexts.{NewPlaces}
+use Rattle.dw_base.specs.declared.texts.TextSection.{TextSection}
+use Rattle.dw_base.specs.declared.texts.TextSection.TheVariants.{InStr, InLineStr}
+use Rattle.dw_lines.specs.NewTexts.{KnownTexts}
 use Rattle.dw_lines.specs.ViewTables.{tables_read}
 use Rattle.dw_lines.proofs.ReadingLaws.{source-is}
 use Rattle.dw_meaning.specs.DataOutput.{PathsFit, table_change}
@@ -31,7 +32,7 @@ use Rattle.dw_rewrite.specs.LineOffsets.{OffsetMisses, line_offsets}
 use Rattle.dw_rewrite.specs.NewStarts.{StartChange, known_starts}
 use Rattle.dw_rewrite.specs.OffsetAddends.{AllMiss}
 use Rattle.dw_rewrite.specs.NewTables.{LongTable, TableMade, all_texts_at, long_table}
-use Rattle.dw_find.specs.UnitPaths.{UnitPaths}
+use Rattle.dw_find.specs.SectionFields.{SectionFields}
 use Rattle.dw_find.specs.ViewLines.{starts_of}
 use Rattle.dw_rewrite.specs.NewLines.{LinesRefuse, LinesWritten, lines_known, table_fails}
 use Rattle.dw_rewrite.proofs.LineKnownLaws.{TableRefused, table-refused}
@@ -41,44 +42,44 @@ use Rattle.dw_rewrite.proofs.MadeBodyLaws.{change_of_table, known-lines, known-s
 use Rattle.dw_rewrite.proofs.TableTextLaws.{lines-none, table-texts}
 
 -- a table that would be too long is a row
-paths-fit : (m : PathMap) (v : View) (us : List UnitPaths) (ts : List LineTable) (f : PathsFound m v us ts) → PathsFit m (debug_data v) f.readings
+paths-fit : (m : PathMap) (v : View) (us : List SectionFields) (ts : List LineTable) (f : PathsFound m v us ts) → PathsFit m (debug_data v) f.readings
 paths-fit m v us ts f = record { inline = f.inline; slots = f.slots }
 
-long-row : (m : PathMap) (v : View) (table : TextSection) (us : List UnitPaths) (ts : List LineTable) (r : Refusal) → PathsFound m v us ts → LongTable m v table us r
+long-row : (m : PathMap) (v : View) (table : TextSection) (us : List SectionFields) (ts : List LineTable) (r : Refusal) → PathsFound m v us ts → LongTable m v table us r
     → BodiesRefuse m (debug_data v) r
 unfolding table_change
-long-row m v in_str us ts r f (long_table there over) =
-    let texts_are : (table_change m in_str (around_of (debug_data v) f.readings) f.readings).texts ≡ all_texts_at m v in_str [] us =
-    table-texts m v f.readings ts in_str f.reads.units f.reads.offsets f.reads.lines f.tables ∙ ap (all_texts_at m v in_str []) (sym f.is) in
-    long_table_of in_str f.readings f.reads (paths-fit m v us ts f) there
+long-row m v InStr us ts r f (long_table there over) =
+    let texts_are : (table_change m InStr (around_of (debug_data v) f.readings) f.readings).texts ≡ all_texts_at m v InStr [] us =
+    table-texts m v f.readings ts InStr f.reads.units f.reads.offsets f.reads.lines f.tables ∙ ap (all_texts_at m v InStr []) (sym f.is) in
+    long_table_of InStr f.readings f.reads (paths-fit m v us ts f) there
     (subst (λ (xs : List (List ℕ)). output_limit < length (((debug_data v).found Str).bytes ++ laid_texts xs)) (sym texts_are) over)
-long-row m v in_line_str us ts r f (long_table there over) =
-    let texts_are : (table_change m in_line_str (around_of (debug_data v) f.readings) f.readings).texts ≡ all_texts_at m v in_line_str [] us =
-    table-texts m v f.readings ts in_line_str f.reads.units f.reads.offsets f.reads.lines f.tables ∙ ap (all_texts_at m v in_line_str []) (sym f.is) in
-    long_table_of in_line_str f.readings f.reads (paths-fit m v us ts f) there
+long-row m v InLineStr us ts r f (long_table there over) =
+    let texts_are : (table_change m InLineStr (around_of (debug_data v) f.readings) f.readings).texts ≡ all_texts_at m v InLineStr [] us =
+    table-texts m v f.readings ts InLineStr f.reads.units f.reads.offsets f.reads.lines f.tables ∙ ap (all_texts_at m v InLineStr []) (sym f.is) in
+    long_table_of InLineStr f.readings f.reads (paths-fit m v us ts f) there
     (subst (λ (xs : List (List ℕ)). output_limit < length (((debug_data v).found LineStr).bytes ++ laid_texts xs)) (sym texts_are) over)
 
-pub long-fault : (m : PathMap) (v : View) (table : TextSection) (us : List UnitPaths) (ts : List LineTable) (f : Fault) → PathsFound m v us ts → Blames (LongTable m v table us) f
+pub long-fault : (m : PathMap) (v : View) (table : TextSection) (us : List SectionFields) (ts : List LineTable) (f : Fault) → PathsFound m v us ts → Blames (LongTable m v table us) f
     → Blames (BodiesRefuse m (debug_data v)) f
 long-fault m v table us ts NoMemory found b = tt
 long-fault m v table us ts (Refused r) found b = long-row m v table us ts r found b
 
 -- so is a line table that can't be written,
-lines-row : (m : PathMap) (v : View) (us : List UnitPaths) (ts : List LineTable) (ps pl : TextTable) (ks kl : ℕ → Option ℕ) (r : Refusal) (f : PathsFound m v us ts)
-    → TableMade m v in_str us ps ks → TableMade m v in_line_str us pl kl → LinesRefuse m (line_source (debug_data v)) ks kl ts r → BodiesRefuse m (debug_data v) r
+lines-row : (m : PathMap) (v : View) (us : List SectionFields) (ts : List LineTable) (ps pl : TextTable) (ks kl : ℕ → Option ℕ) (r : Refusal) (f : PathsFound m v us ts)
+    → TableMade m v InStr us ps ks → TableMade m v InLineStr us pl kl → LinesRefuse m (line_source (debug_data v)) ks kl ts r → BodiesRefuse m (debug_data v) r
 lines-row m v us ts ps pl ks kl r f s l (table_fails before behind t split fails) =
-    let x : TableRefused (line_source (debug_data v)) m (change_of_table m v f.readings in_str) (change_of_table m v f.readings in_line_str) f.readings.lines r =
-    table-refused (line_source (debug_data v)) m (change_of_table m v f.readings in_str) (change_of_table m v f.readings in_line_str) ks kl f.readings.lines before behind t r
+    let x : TableRefused (line_source (debug_data v)) m (change_of_table m v f.readings InStr) (change_of_table m v f.readings InLineStr) f.readings.lines r =
+    table-refused (line_source (debug_data v)) m (change_of_table m v f.readings InStr) (change_of_table m v f.readings InLineStr) ks kl f.readings.lines before behind t r
     (lines-agree m v us ts ps pl ks kl f s l) (sym f.tables ∙ split) fails in
     line_table_of f.readings x.before x.behind x.table f.reads x.split x.fails
 
-pub lines-fault : (m : PathMap) (v : View) (us : List UnitPaths) (ts : List LineTable) (ps pl : TextTable) (ks kl : ℕ → Option ℕ) (f : Fault) → PathsFound m v us ts
-    → TableMade m v in_str us ps ks → TableMade m v in_line_str us pl kl → Blames (LinesRefuse m (line_source (debug_data v)) ks kl ts) f → Blames (BodiesRefuse m (debug_data v)) f
+pub lines-fault : (m : PathMap) (v : View) (us : List SectionFields) (ts : List LineTable) (ps pl : TextTable) (ks kl : ℕ → Option ℕ) (f : Fault) → PathsFound m v us ts
+    → TableMade m v InStr us ps ks → TableMade m v InLineStr us pl kl → Blames (LinesRefuse m (line_source (debug_data v)) ks kl ts) f → Blames (BodiesRefuse m (debug_data v)) f
 lines-fault m v us ts ps pl ks kl NoMemory found s l b = tt
 lines-fault m v us ts ps pl ks kl (Refused r) found s l b = lines-row m v us ts ps pl ks kl r found s l b
 
 -- and line tables that would be too long
-some-number : (m : PathMap) (v : View) (ks kl : ℕ → Option ℕ) (us : List UnitPaths) (ts : List LineTable) (bs : List ℕ) → PathsFound m v us ts → bs ≡ all_lines (lines_known m (line_source (debug_data v)) ks kl ts)
+some-number : (m : PathMap) (v : View) (ks kl : ℕ → Option ℕ) (us : List SectionFields) (ts : List LineTable) (bs : List ℕ) → PathsFound m v us ts → bs ≡ all_lines (lines_known m (line_source (debug_data v)) ks kl ts)
     → 0 < length bs → ((debug_data v).found Line).number ≢ 0
 unfolding section_named
 some-number m v ks kl us ts bs f is some zero_ = by (section_named v (name_of Line)) refl
@@ -93,8 +94,8 @@ some-number m v ks kl us ts bs f is some zero_ = by (section_named v (name_of Li
         let number : i ≡ (line_source (debug_data v)).number = ap (λ (g : LineSource). g.number) (sym (source-is v i e)) in
         omega (arith, above, number, zero_)
 
-pub long-lines : (m : PathMap) (v : View) (us : List UnitPaths) (ts : List LineTable) (ps pl : TextTable) (ks kl : ℕ → Option ℕ) (bs ns : List ℕ) (r : Refusal) → PathsFound m v us ts
-    → TableMade m v in_str us ps ks → TableMade m v in_line_str us pl kl → LinesWritten m (line_source (debug_data v)) ks kl ts bs ns → output_limit < length bs
+pub long-lines : (m : PathMap) (v : View) (us : List SectionFields) (ts : List LineTable) (ps pl : TextTable) (ks kl : ℕ → Option ℕ) (bs ns : List ℕ) (r : Refusal) → PathsFound m v us ts
+    → TableMade m v InStr us ps ks → TableMade m v InLineStr us pl kl → LinesWritten m (line_source (debug_data v)) ks kl ts bs ns → output_limit < length bs
     → r ≡ at TooLarge ((debug_data v).found Line).number 0 → BodiesRefuse m (debug_data v) r
 long-lines m v us ts ps pl ks kl bs ns r f s l w over is =
     subst (BodiesRefuse m (debug_data v)) (sym is)
@@ -102,16 +103,16 @@ long-lines m v us ts ps pl ks kl bs ns r f s l w over is =
     (subst (λ (x : List ℕ). output_limit < length x) (w.bytes ∙ ap all_lines (known-lines m v us ts ps pl ks kl f s l)) over))
 
 -- and addends that can't make the offsets of their fields: of sections that say something of paths,
-at-starts : (v : View) (us part : List UnitPaths) (ts : List LineTable) (ks kl : ℕ → Option ℕ) (ns old : List ℕ) (starts : StartChange) (r : Refusal) → old ≡ starts_of ts
+at-starts : (v : View) (us part : List SectionFields) (ts : List LineTable) (ks kl : ℕ → Option ℕ) (ns old : List ℕ) (starts : StartChange) (r : Refusal) → old ≡ starts_of ts
     → starts ≡ record { old = old; new = ns } → part ≡ without_lines v us → AllMiss v ks kl (λ o. known_starts starts o) part r
     → AllMiss v ks kl (start_known (starts_of ts) ns) (without_lines v us) r
 at-starts v us part ts ks kl ns old starts r old_is starts_are part_is misses =
     let same : starts ≡ record { old = starts_of ts; new = ns } = starts_are ∙ ap (λ (xs : List ℕ). record { old = xs; new = ns }) old_is in
     subst (λ (x : StartChange). AllMiss v ks kl (λ o. known_starts x o) (without_lines v us) r) same
-    (subst (λ (xs : List UnitPaths). AllMiss v ks kl (λ o. known_starts starts o) xs r) part_is misses)
+    (subst (λ (xs : List SectionFields). AllMiss v ks kl (λ o. known_starts starts o) xs r) part_is misses)
 
-records-fault : (m : PathMap) (v : View) (us part : List UnitPaths) (ts : List LineTable) (ps pl : TextTable) (ks kl : ℕ → Option ℕ) (bs ns old : List ℕ) (starts : StartChange) (f : Fault)
-    → PathsFound m v us ts → TableMade m v in_str us ps ks → TableMade m v in_line_str us pl kl → LinesWritten m (line_source (debug_data v)) ks kl ts bs ns → old ≡ starts_of ts
+records-fault : (m : PathMap) (v : View) (us part : List SectionFields) (ts : List LineTable) (ps pl : TextTable) (ks kl : ℕ → Option ℕ) (bs ns old : List ℕ) (starts : StartChange) (f : Fault)
+    → PathsFound m v us ts → TableMade m v InStr us ps ks → TableMade m v InLineStr us pl kl → LinesWritten m (line_source (debug_data v)) ks kl ts bs ns → old ≡ starts_of ts
     → starts ≡ record { old = old; new = ns } → part ≡ without_lines v us → Blames (AllMiss v ks kl (λ o. known_starts starts o) part) f → Blames (BodiesRefuse m (debug_data v)) f
 records-fault m v us part ts ps pl ks kl bs ns old starts NoMemory found s l w old_is starts_are part_is b = tt
 records-fault m v us part ts ps pl ks kl bs ns old starts (Refused r) found s l w old_is starts_are part_is b =
@@ -120,8 +121,8 @@ records-fault m v us part ts ps pl ks kl bs ns old starts (Refused r) found s l 
     (at-starts v us part ts ks kl ns old starts r old_is starts_are part_is b))
 
 -- and of line tables
-line-record-fault : (m : PathMap) (b : List ℕ) (v : View) (us : List UnitPaths) (ts : List LineTable) (ps pl : TextTable) (ks kl : ℕ → Option ℕ) (f : Fault) → v ≡ view_of b
-    → PathsFound m v us ts → TableMade m v in_str us ps ks → TableMade m v in_line_str us pl kl
+line-record-fault : (m : PathMap) (b : List ℕ) (v : View) (us : List SectionFields) (ts : List LineTable) (ps pl : TextTable) (ks kl : ℕ → Option ℕ) (f : Fault) → v ≡ view_of b
+    → PathsFound m v us ts → TableMade m v InStr us ps ks → TableMade m v InLineStr us pl kl
     → Blames (OffsetMisses (line_source (debug_data v)).number (line_source (debug_data v)).cells (line_offsets m (line_source (debug_data v)) ks kl ts)) f
     → Blames (BodiesRefuse m (debug_data v)) f
 line-record-fault m b v us ts ps pl ks kl NoMemory v_is found s l h = tt
@@ -129,8 +130,8 @@ line-record-fault m b v us ts ps pl ks kl (Refused r) v_is found s l h =
     addend_of found.readings found.reads (paths-fit m v us ts found) (lines-fail m b v us ts ps pl ks kl r v_is found s l h)
 
 -- of both
-pub relocations-fault : (m : PathMap) (b : List ℕ) (v : View) (us part : List UnitPaths) (ts : List LineTable) (ps pl : TextTable) (ks kl : ℕ → Option ℕ) (bs ns old : List ℕ) (starts : StartChange)
-    (f : Fault) → v ≡ view_of b → PathsFound m v us ts → TableMade m v in_str us ps ks → TableMade m v in_line_str us pl kl → LinesWritten m (line_source (debug_data v)) ks kl ts bs ns
+pub relocations-fault : (m : PathMap) (b : List ℕ) (v : View) (us part : List SectionFields) (ts : List LineTable) (ps pl : TextTable) (ks kl : ℕ → Option ℕ) (bs ns old : List ℕ) (starts : StartChange)
+    (f : Fault) → v ≡ view_of b → PathsFound m v us ts → TableMade m v InStr us ps ks → TableMade m v InLineStr us pl kl → LinesWritten m (line_source (debug_data v)) ks kl ts bs ns
     → old ≡ starts_of ts → starts ≡ record { old = old; new = ns } → part ≡ without_lines v us
     → Blames (λ (r : Refusal). AllMiss v ks kl (λ o. known_starts starts o) part r
     ⊎ OffsetMisses (line_source (debug_data v)).number (line_source (debug_data v)).cells (line_offsets m (line_source (debug_data v)) ks kl ts) r) f → Blames (BodiesRefuse m (debug_data v)) f
@@ -150,5 +151,5 @@ either-second A B NoMemory h = tt
 either-second A B (Refused r) h = inr h
 
 -- the second, of the new places of texts that are known
-pub either-known : (A : Refusal → Type 0) (B : NewPlaces → Refusal → Type 0) (n k : NewPlaces) (f : Fault) → n ≡ k → Blames (B n) f → Blames (λ (r : Refusal). A r ⊎ B k r) f
-either-known A B n k f same h = subst (λ (p : NewPlaces). Blames (λ (r : Refusal). A r ⊎ B p r) f) same (either-second A (B n) f h)
+pub either-known : (A : Refusal → Type 0) (B : KnownTexts → Refusal → Type 0) (n k : KnownTexts) (f : Fault) → n ≡ k → Blames (B n) f → Blames (λ (r : Refusal). A r ⊎ B k r) f
+either-known A B n k f same h = subst (λ (p : KnownTexts). Blames (λ (r : Refusal). A r ⊎ B p r) f) same (either-second A (B n) f h)

@@ -5,7 +5,6 @@ use Rattle.std.proofs.lemmas.List.{take-append-le, drop-append-le}
 use Rattle.dw_base.specs.Cells.{Cell, bytes_of, cells_at, offset_of, with_bytes}
 use Rattle.dw_base.specs.DebugData.{Around, start_number, table_of}
 use Rattle.dw_base.specs.LineReadings.{starts_from}
-use Rattle.dw_base.specs.Forms.{TextSection, in_str, in_line_str}
 use Rattle.dw_base.specs.InlinePaths.{inline_fits, mapped_inline}
 use Rattle.dw_base.specs.Paths.{PathMap}
 use Rattle.dw_base.specs.Pieces.{Piece, joined}
@@ -21,15 +20,17 @@ use Rattle.dw_base.proofs.UnitEditLaws.{length-bytes_of}
 use Rattle.dw_base.proofs.UnitHeaderLaws.{bytes_of-append}
 use Rattle.dw_base.proofs.ViewCellLaws.{piece-cells}
 use Rattle.dw_base.specs.declared.debug_sections.DebugSection.TheVariants.{Line}
+use Rattle.dw_base.specs.declared.texts.TextField.{TextField}
+use Rattle.dw_base.specs.declared.texts.TextSection.{TextSection}
+use Rattle.dw_base.specs.declared.texts.TextSection.TheVariants.{InStr, InLineStr}
 use Rattle.dw_rewrite.specs.Changes.{FieldSource, new_start, offset_at, offset_bytes, patched, patched_at, path_at, put_at, start_known, texts_at, with_all_known, with_known}
-use Rattle.dw_find.specs.UnitPaths.{field_by, path_fields, inline_text}
+use Rattle.dw_find.specs.SectionFields.{field_by, path_fields, inline_text}
 use Rattle.dw_rewrite.specs.UnitsAfter.{inlined_at, start_source, text_source}
-use Rattle.dw_find.specs.declared.fields.PathField.{PathField}
 use Rattle.dw_find.proofs.PlacedLaws.{PlacedCells}
 use Rattle.dw_find.proofs.PieceFieldLaws.{FieldsFrom}
 
 -- a field of a piece at a place
-abbrev field_at : ℕ → List Cell → PathField
+abbrev field_at : ℕ → List Cell → TextField
 field_at place p = record { at = place; size = length p }
 
 -- a piece stands in cells at a place
@@ -48,30 +49,30 @@ mention_is around table p more cells place e =
 
 -- what a piece adds to the texts
 pub piece_texts : (r : Role) (table : TextSection) (plan : Plan) (m : PathMap) (around : Around) (cells : List Cell) (ts : List (List ℕ)) (p behind : List Cell) (place : ℕ) (more : List Mention)
-    (fs : List PathField) → plan ≡ appending m (table_of around table).bytes → p ++ behind ≡ drop place cells
+    (fs : List TextField) → plan ≡ appending m (table_of around table).bytes → p ++ behind ≡ drop place cells
     → ((us : List (List ℕ)) → texts_after plan m us more ≡ texts_at plan m (text_source around cells table) us fs)
     → texts_after plan m ts (mentions_by r table around p ++ more) ≡ texts_at plan m (text_source around cells table) ts (field_by table r place (length p) ++ fs)
-piece_texts fixed in_str plan m around cells ts p behind place more fs is e h = h ts
-piece_texts fixed in_line_str plan m around cells ts p behind place more fs is e h = h ts
-piece_texts inline_path in_str plan m around cells ts p behind place more fs is e h = h ts
-piece_texts inline_path in_line_str plan m around cells ts p behind place more fs is e h = h ts
-piece_texts line_start in_str plan m around cells ts p behind place more fs is e h = h ts
-piece_texts line_start in_line_str plan m around cells ts p behind place more fs is e h = h ts
-piece_texts (offset in_str true) in_str plan m around cells ts p behind place more fs is e h =
-    ap (λ (x : Mention). texts_after plan m (with_mention plan m ts x) more) (mention_is around in_str p behind cells place e)
-    ∙ h (with_mention plan m ts (path_at (text_source around cells in_str) (field_at place p)))
-piece_texts (offset in_str true) in_line_str plan m around cells ts p behind place more fs is e h = h ts
-piece_texts (offset in_line_str true) in_str plan m around cells ts p behind place more fs is e h = h ts
-piece_texts (offset in_line_str true) in_line_str plan m around cells ts p behind place more fs is e h =
-    ap (λ (x : Mention). texts_after plan m (with_mention plan m ts x) more) (mention_is around in_line_str p behind cells place e)
-    ∙ h (with_mention plan m ts (path_at (text_source around cells in_line_str) (field_at place p)))
-piece_texts (offset in_str false) in_str plan m around cells ts p behind place more fs is e h =
-    let none : with_mention plan m ts (mention_at around in_str false p) ≡ ts = rw is refl in
+piece_texts fixed InStr plan m around cells ts p behind place more fs is e h = h ts
+piece_texts fixed InLineStr plan m around cells ts p behind place more fs is e h = h ts
+piece_texts inline_path InStr plan m around cells ts p behind place more fs is e h = h ts
+piece_texts inline_path InLineStr plan m around cells ts p behind place more fs is e h = h ts
+piece_texts line_start InStr plan m around cells ts p behind place more fs is e h = h ts
+piece_texts line_start InLineStr plan m around cells ts p behind place more fs is e h = h ts
+piece_texts (offset InStr true) InStr plan m around cells ts p behind place more fs is e h =
+    ap (λ (x : Mention). texts_after plan m (with_mention plan m ts x) more) (mention_is around InStr p behind cells place e)
+    ∙ h (with_mention plan m ts (path_at (text_source around cells InStr) (field_at place p)))
+piece_texts (offset InStr true) InLineStr plan m around cells ts p behind place more fs is e h = h ts
+piece_texts (offset InLineStr true) InStr plan m around cells ts p behind place more fs is e h = h ts
+piece_texts (offset InLineStr true) InLineStr plan m around cells ts p behind place more fs is e h =
+    ap (λ (x : Mention). texts_after plan m (with_mention plan m ts x) more) (mention_is around InLineStr p behind cells place e)
+    ∙ h (with_mention plan m ts (path_at (text_source around cells InLineStr) (field_at place p)))
+piece_texts (offset InStr false) InStr plan m around cells ts p behind place more fs is e h =
+    let none : with_mention plan m ts (mention_at around InStr false p) ≡ ts = rw is refl in
     ap (λ (us : List (List ℕ)). texts_after plan m us more) none ∙ h ts
-piece_texts (offset in_str false) in_line_str plan m around cells ts p behind place more fs is e h = h ts
-piece_texts (offset in_line_str false) in_str plan m around cells ts p behind place more fs is e h = h ts
-piece_texts (offset in_line_str false) in_line_str plan m around cells ts p behind place more fs is e h =
-    let none : with_mention plan m ts (mention_at around in_line_str false p) ≡ ts = rw is refl in
+piece_texts (offset InStr false) InLineStr plan m around cells ts p behind place more fs is e h = h ts
+piece_texts (offset InLineStr false) InStr plan m around cells ts p behind place more fs is e h = h ts
+piece_texts (offset InLineStr false) InLineStr plan m around cells ts p behind place more fs is e h =
+    let none : with_mention plan m ts (mention_at around InLineStr false p) ≡ ts = rw is refl in
     ap (λ (us : List (List ℕ)). texts_after plan m us more) none ∙ h ts
 
 -- the texts of pieces are those of their fields
@@ -195,7 +196,7 @@ field-behind : (asks : Bool) (n at size : ℕ) (bytes rest : List ℕ) → n ≤
 field-behind true n at size bytes rest le = put-behind n at size bytes rest le
 field-behind false n at size bytes rest le = behind-same n rest
 
-pub patched-behind : (c : TableChange) (m : PathMap) (s : FieldSource) (n : ℕ) (fs : List PathField) (rest : List ℕ) → FieldsFrom n fs
+pub patched-behind : (c : TableChange) (m : PathMap) (s : FieldSource) (n : ℕ) (fs : List TextField) (rest : List ℕ) → FieldsFrom n fs
     → Behind (λ out. patched c m s out fs) n rest
 patched-behind c m s n [] rest h = behind-same n rest
 patched-behind c m s n (f ∷ fs) rest h =
@@ -207,11 +208,11 @@ patched-behind c m s n (f ∷ fs) rest h =
       is = λ (front : List ℕ) (e : length front ≡ n). ap (λ (out : List ℕ). patched c m s out fs) (here.is front e) ∙ more.is front e;
     }
 
-known-put : (s : FieldSource) (n : ℕ) (f : PathField) (new : Option ℕ) (rest : List ℕ) → n ≤ f.at → Behind (λ out. with_known s out f new) n rest
+known-put : (s : FieldSource) (n : ℕ) (f : TextField) (new : Option ℕ) (rest : List ℕ) → n ≤ f.at → Behind (λ out. with_known s out f new) n rest
 known-put s n f None rest le = behind-same n rest
 known-put s n f (Some x) rest le = put-behind n f.at f.size (offset_bytes s f x) rest le
 
-pub known-behind : (s : FieldSource) (known : ℕ → Option ℕ) (n : ℕ) (fs : List PathField) (rest : List ℕ) → FieldsFrom n fs
+pub known-behind : (s : FieldSource) (known : ℕ → Option ℕ) (n : ℕ) (fs : List TextField) (rest : List ℕ) → FieldsFrom n fs
     → Behind (λ out. with_all_known s known out fs) n rest
 known-behind s known n [] rest h = behind-same n rest
 known-behind s known n (f ∷ fs) rest h =

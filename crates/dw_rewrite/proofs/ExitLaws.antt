@@ -23,7 +23,6 @@ use Rattle.dw_meaning.specs.FileMeanings.{FileReads, IsOutput, MeaningKept, file
 use Rattle.dw_meaning.specs.NewAddends.{AddendsFail, in_lines, in_macros, in_names, in_slots, in_unit}
 use Rattle.dw_meaning.specs.RelocationFails.{RelocationsReadIn}
 use Rattle.dw_base.specs.FileViews.{View, view_of}
-use Rattle.dw_base.specs.Forms.{TextSection, in_str, in_line_str}
 use Rattle.dw_base.specs.Layout.{is_fixed, is_loaded_kind, output_limit, part_of, with_bodies}
 use Rattle.dw_base.specs.LayoutFails.{LayoutFails, LayoutFits}
 use Rattle.dw_base.specs.LayoutFails.LayoutFails.{section, large}
@@ -66,12 +65,14 @@ use Rattle.dw_rewrite.specs.CheckedFiles.{IsChecked}
 use Rattle.dw_rewrite.specs.Rewritten.{AllStand, IsInFile, body_with, long_fault, long_or, long_refusal, told_refusal}
 use Rattle.dw_find.specs.MacroSections.{SectionUnits, UnitsFailIn, UnitsFoundIn}
 use Rattle.dw_find.specs.MacroSections.UnitsFailIn.{units as units_fail, offsets as offsets_fail}
-use Rattle.dw_find.specs.UnitPaths.{UnitPaths}
+use Rattle.dw_find.specs.SectionFields.{SectionFields}
 use Rattle.dw_find.specs.UnitTexts.UnitsRefuse.{data_fails, header_fails, relocation_fails, text_fails}
 use Rattle.dw_rewrite.proofs.FileBodyLaws.{alloc-stays, bodies-same}
 use Rattle.dw_rewrite.proofs.MovedNumberLaws.{are-moved}
 use Rattle.dw_meaning.specs.RelocatedBodies.{new_cells}
 use Rattle.dw_base.specs.Notes.{build_id_of}
+use Rattle.dw_base.specs.declared.texts.TextSection.{TextSection}
+use Rattle.dw_base.specs.declared.texts.TextSection.TheVariants.{InStr, InLineStr}
 use Rattle.dw_rewrite.proofs.BodyLaws.{bodies-read, bodies-stand}
 use Rattle.dw_rewrite.proofs.HeldBodyLaws.{unread-holder, held-stand, stand-append}
 use Rattle.dw_rewrite.proofs.LoadedSectionLaws.{checked_all, relocations-unloaded, unloaded}
@@ -132,7 +133,7 @@ pub refused_paths : (m : PathMap) (b : List ℕ) (v : View) (f : Fault) → IsCh
 refused_paths m b v NoMemory j is h = tt
 refused_paths m b v (Refused r) j is h = data_fail m b r j.elf (subst (λ (w : View). PathsRefuse m w r) is h)
 
-pub found_paths : (m : PathMap) (b : List ℕ) (v : View) (us : List UnitPaths) (ts : List LineTable) → v ≡ view_of b → PathsFound m v us ts → PathsFound m (view_of b) us ts
+pub found_paths : (m : PathMap) (b : List ℕ) (v : View) (us : List SectionFields) (ts : List LineTable) → v ≡ view_of b → PathsFound m v us ts → PathsFound m (view_of b) us ts
 found_paths m b v us ts is h = subst (λ (w : View). PathsFound m w us ts) is h
 
 pub seen_tables : (b : List ℕ) (v : View) (ts : List LineTable) → v ≡ view_of b → TablesFound (view_of b) ts → TablesFound v ts
@@ -181,7 +182,7 @@ reads_checked b r j on_data reads = record {
   data_reads = reads;
 }
 
-pub seen_paths : (m : PathMap) (b : List ℕ) (v : View) (us : List UnitPaths) (ts : List LineTable) → v ≡ view_of b → PathsFound m (view_of b) us ts → PathsFound m v us ts
+pub seen_paths : (m : PathMap) (b : List ℕ) (v : View) (us : List SectionFields) (ts : List LineTable) → v ≡ view_of b → PathsFound m (view_of b) us ts → PathsFound m v us ts
 seen_paths m b v us ts is h = subst (λ (w : View). PathsFound m w us ts) (sym is) h
 
 pub seen_view : (b s : List ℕ) (v : View) → v ≡ view_of b → s ≡ b → v ≡ view_of s
@@ -218,14 +219,14 @@ table_body : (m : PathMap) (b : List ℕ) (r : DataReadings) (table : TextSectio
     → (table_of (around_of (file_data b) r) table).number ≢ 0
     → IsNewBody m b r (long_table m (file_data b) r table) (table_of (around_of (file_data b) r) table).number
 unfolding new_bodies
-table_body m b r in_str j reads some =
+table_body m b r InStr j reads some =
     let stand = (bodies-read m b r reads).0 in
     record {
       within = stand.within some;
       full = stand.full some;
       body = read_body m b r ((file_data b).found Str).number j (stand.within some) (stand.read some) ∙ body-str m b r;
     }
-table_body m b r in_line_str j reads some =
+table_body m b r InLineStr j reads some =
     let stand = (bodies-read m b r reads).1.0 in
     record {
       within = stand.within some;
@@ -313,7 +314,7 @@ long_fails m b (Refused x) small j on (addend_of r reads fits fails) =
     let other : IsOther x = addend_other (changes_of m (around_of (file_data b) r) r) (file_data b) (around_of (file_data b) r) r x fails in
     subst (EditFails m b) (sym (other_told b x other)) (addends_row r (reads_checked b r j on reads) fits fails)
 
-pub refused_bodies : (m : PathMap) (b : List ℕ) (v : View) (us : List UnitPaths) (ts : List LineTable) (f told : Fault) → length b ≤ output_limit → IsChecked b
+pub refused_bodies : (m : PathMap) (b : List ℕ) (v : View) (us : List SectionFields) (ts : List LineTable) (f told : Fault) → length b ≤ output_limit → IsChecked b
     → PathsFound m (view_of b) us ts → v ≡ view_of b → Blames (BodiesRefuse m (debug_data v)) f → told ≡ long_fault b f → Blames (EditFails m b) told
 refused_bodies m b v us ts f told small j found same h is =
     subst (λ (x : Fault). Blames (EditFails m b) x) (sym is)

@@ -4,7 +4,6 @@ use Rattle.dw_base.specs.DebugData.{around_of, line_source}
 use Rattle.dw_base.specs.DebugSections.{name_of}
 use Rattle.dw_base.specs.Elf.{contents_of}
 use Rattle.dw_base.specs.FileViews.{View, section_named, view_of}
-use Rattle.dw_base.specs.Forms.{in_str, in_line_str}
 use Rattle.dw_base.specs.Layout.{output_limit}
 use Rattle.dw_base.specs.LineSources.{LineSource}
 use Rattle.dw_base.specs.LineTables.{LineTable}
@@ -14,12 +13,13 @@ use Rattle.dw_base.specs.SectionRelocations.{relocation_section}
 use Rattle.dw_base.specs.StringTables.{TextTable}
 use Rattle.dw_base.specs.ViewData.{debug_data}
 use Rattle.dw_base.specs.declared.debug_sections.DebugSection.TheVariants.{Line}
+use Rattle.dw_base.specs.declared.texts.TextSection.TheVariants.{InStr, InLineStr}
 use Rattle.dw_meaning.specs.DataOutput.{Body, changes_of, new_bodies}
 use Rattle.dw_meaning.specs.FileMeanings.{file_data}
 use Rattle.dw_meaning.specs.NewAddends.{AddendsFit}
 use Rattle.dw_meaning.specs.RelocatedBodies.{CellBody, new_cells}
 use Rattle.dw_find.specs.FoundPaths.{PathsFound, without_lines}
-use Rattle.dw_find.specs.UnitPaths.{UnitPaths}
+use Rattle.dw_find.specs.SectionFields.{SectionFields}
 use Rattle.dw_find.specs.ViewLines.{starts_of}
 use Rattle.dw_rewrite.specs.Bodies.{FileBodiesMade, held_bodies, held_body, lines_numbers, moved_numbers, numbers_in}
 use Rattle.dw_rewrite.specs.Changes.{start_known}
@@ -43,14 +43,14 @@ held-append b cells (x ∷ xs) ys =
     ∙ sym (append_assoc (held_body b cells (relocation_section b x)) (held_bodies b cells xs) (held_bodies b cells ys))
 
 -- all bodies that are pushed, in order
-abbrev pub pushed_all : PathMap → List ℕ → List LineTable → TextTable → TextTable → (ℕ → Option ℕ) → (ℕ → Option ℕ) → (ℕ → Option ℕ) → Body → List UnitPaths → List Body
+abbrev pub pushed_all : PathMap → List ℕ → List LineTable → TextTable → TextTable → (ℕ → Option ℕ) → (ℕ → Option ℕ) → (ℕ → Option ℕ) → Body → List SectionFields → List Body
 pushed_all m b ts ps pl ks kl kt lines part =
-    ((table_body_of (view_of b) in_str ps ∷ table_body_of (view_of b) in_line_str pl ∷ pushed_bodies m (view_of b) ks kl kt lines part)
+    ((table_body_of (view_of b) InStr ps ∷ table_body_of (view_of b) InLineStr pl ∷ pushed_bodies m (view_of b) ks kl kt lines part)
     ++ records_known b (view_of b) ks kl kt part)
     ++ line_record b m (line_source (file_data b)) ks kl ts (section_named (view_of b) (name_of Line))
 
-all-is : (m : PathMap) (b : List ℕ) (us : List UnitPaths) (ts : List LineTable) (ps pl : TextTable) (ks kl : ℕ → Option ℕ) (bs ns : List ℕ)
-    → RelocationSectionsRead (contents_of b) b → (f : PathsFound m (view_of b) us ts) → TableMade m (view_of b) in_str us ps ks → TableMade m (view_of b) in_line_str us pl kl
+all-is : (m : PathMap) (b : List ℕ) (us : List SectionFields) (ts : List LineTable) (ps pl : TextTable) (ks kl : ℕ → Option ℕ) (bs ns : List ℕ)
+    → RelocationSectionsRead (contents_of b) b → (f : PathsFound m (view_of b) us ts) → TableMade m (view_of b) InStr us ps ks → TableMade m (view_of b) InLineStr us pl kl
     → LinesWritten m (line_source (file_data b)) ks kl ts bs ns
     → pushed_all m b ts ps pl ks kl (start_known (starts_of ts) ns) (record { number = ((file_data b).found Line).number; bytes = bs }) (without_lines (view_of b) us)
     ≡ new_bodies m (file_data b) f.readings ++ held_bodies b (new_cells m (file_data b) f.readings) (moved_numbers (view_of b) f.readings)
@@ -67,8 +67,8 @@ all-is m b us ts ps pl ks kl bs ns sections f s l w =
     (sym (held-append b (new_cells m (file_data b) f.readings) (numbers_in (parts_of (view_of b) f.readings)) (lines_numbers (section_named (view_of b) (name_of Line)))))
 
 -- addends make all offsets
-all-addends : (m : PathMap) (b : List ℕ) (us : List UnitPaths) (ts : List LineTable) (ps pl : TextTable) (ks kl : ℕ → Option ℕ) (bs ns : List ℕ) (f : PathsFound m (view_of b) us ts)
-    → TableMade m (view_of b) in_str us ps ks → TableMade m (view_of b) in_line_str us pl kl → LinesWritten m (line_source (file_data b)) ks kl ts bs ns
+all-addends : (m : PathMap) (b : List ℕ) (us : List SectionFields) (ts : List LineTable) (ps pl : TextTable) (ks kl : ℕ → Option ℕ) (bs ns : List ℕ) (f : PathsFound m (view_of b) us ts)
+    → TableMade m (view_of b) InStr us ps ks → TableMade m (view_of b) InLineStr us pl kl → LinesWritten m (line_source (file_data b)) ks kl ts bs ns
     → AllMake (view_of b) ks kl (start_known (starts_of ts) ns) (without_lines (view_of b) us)
     → OffsetsMake (line_source (file_data b)).cells (line_offsets m (line_source (file_data b)) ks kl ts)
     → AddendsFit (changes_of m (around_of (file_data b) f.readings) f.readings) (file_data b) (around_of (file_data b) f.readings) f.readings
@@ -83,8 +83,8 @@ all-addends m b us ts ps pl ks kl bs ns f s l w makes fields =
       lines = lines-fit m b (view_of b) us ts ps pl ks kl refl f s l fields;
     }
 
-file-made : (m : PathMap) (b : List ℕ) (us : List UnitPaths) (ts : List LineTable) (ps pl : TextTable) (ks kl : ℕ → Option ℕ) (bs ns : List ℕ) (bodies : List Body)
-    → RelocationSectionsRead (contents_of b) b → (f : PathsFound m (view_of b) us ts) → TableMade m (view_of b) in_str us ps ks → TableMade m (view_of b) in_line_str us pl kl
+file-made : (m : PathMap) (b : List ℕ) (us : List SectionFields) (ts : List LineTable) (ps pl : TextTable) (ks kl : ℕ → Option ℕ) (bs ns : List ℕ) (bodies : List Body)
+    → RelocationSectionsRead (contents_of b) b → (f : PathsFound m (view_of b) us ts) → TableMade m (view_of b) InStr us ps ks → TableMade m (view_of b) InLineStr us pl kl
     → LinesWritten m (line_source (file_data b)) ks kl ts bs ns → AllMake (view_of b) ks kl (start_known (starts_of ts) ns) (without_lines (view_of b) us)
     → OffsetsMake (line_source (file_data b)).cells (line_offsets m (line_source (file_data b)) ks kl ts)
     → bodies ≡ pushed_all m b ts ps pl ks kl (start_known (starts_of ts) ns) (record { number = ((file_data b).found Line).number; bytes = bs }) (without_lines (view_of b) us)
@@ -99,12 +99,12 @@ file-made m b us ts ps pl ks kl bs ns bodies sections f s l w makes fields is = 
 }
 
 -- the same by the names of the code
-pub made : (m : PathMap) (b : List ℕ) (v : View) (us part : List UnitPaths) (ts : List LineTable) (ps pl : TextTable) (ks kl : ℕ → Option ℕ) (bs ns old : List ℕ) (starts : StartChange) (lines : Body)
-    (bodies : List Body) → v ≡ view_of b → RelocationSectionsRead (contents_of b) b → PathsFound m v us ts → TableMade m v in_str us ps ks → TableMade m v in_line_str us pl kl
+pub made : (m : PathMap) (b : List ℕ) (v : View) (us part : List SectionFields) (ts : List LineTable) (ps pl : TextTable) (ks kl : ℕ → Option ℕ) (bs ns old : List ℕ) (starts : StartChange) (lines : Body)
+    (bodies : List Body) → v ≡ view_of b → RelocationSectionsRead (contents_of b) b → PathsFound m v us ts → TableMade m v InStr us ps ks → TableMade m v InLineStr us pl kl
     → LinesWritten m (line_source (debug_data v)) ks kl ts bs ns → old ≡ starts_of ts → starts ≡ record { old = old; new = ns }
     → lines ≡ record { number = ((debug_data v).found Line).number; bytes = bs } → part ≡ without_lines v us → AllMake v ks kl (λ o. known_starts starts o) part
     → OffsetsMake (line_source (debug_data v)).cells (line_offsets m (line_source (debug_data v)) ks kl ts)
-    → bodies ≡ ((table_body_of v in_str ps ∷ table_body_of v in_line_str pl ∷ pushed_bodies m v ks kl (λ o. known_starts starts o) lines part)
+    → bodies ≡ ((table_body_of v InStr ps ∷ table_body_of v InLineStr pl ∷ pushed_bodies m v ks kl (λ o. known_starts starts o) lines part)
     ++ records_known b v ks kl (λ o. known_starts starts o) part) ++ line_record b m (line_source (debug_data v)) ks kl ts (section_named v (name_of Line))
     → FileBodiesMade m b bodies
 made m b v us part ts ps pl ks kl bs ns old starts lines bodies v_is sections found s l w old_is starts_are lines_are part_is makes fields is =
@@ -114,10 +114,10 @@ made m b v us part ts ps pl ks kl bs ns old starts lines bodies v_is sections fo
     same = starts_are ∙ ap (λ (xs : List ℕ). record { old = xs; new = ns }) old_is
 
     At : View → Type 0
-    At v = PathsFound m v us ts → TableMade m v in_str us ps ks → TableMade m v in_line_str us pl kl → LinesWritten m (line_source (debug_data v)) ks kl ts bs ns
+    At v = PathsFound m v us ts → TableMade m v InStr us ps ks → TableMade m v InLineStr us pl kl → LinesWritten m (line_source (debug_data v)) ks kl ts bs ns
         → lines ≡ record { number = ((debug_data v).found Line).number; bytes = bs } → part ≡ without_lines v us → AllMake v ks kl (λ o. known_starts starts o) part
         → OffsetsMake (line_source (debug_data v)).cells (line_offsets m (line_source (debug_data v)) ks kl ts)
-        → bodies ≡ ((table_body_of v in_str ps ∷ table_body_of v in_line_str pl ∷ pushed_bodies m v ks kl (λ o. known_starts starts o) lines part)
+        → bodies ≡ ((table_body_of v InStr ps ∷ table_body_of v InLineStr pl ∷ pushed_bodies m v ks kl (λ o. known_starts starts o) lines part)
         ++ records_known b v ks kl (λ o. known_starts starts o) part) ++ line_record b m (line_source (debug_data v)) ks kl ts (section_named v (name_of Line))
         → FileBodiesMade m b bodies
 

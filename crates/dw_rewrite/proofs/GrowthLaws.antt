@@ -6,7 +6,6 @@ use Rattle.std.proofs.lemmas.List.{length-append, drop_all}
 use Rattle.dw_base.specs.Cells.{Located}
 use Rattle.dw_base.specs.DebugSections.{name_of}
 use Rattle.dw_base.specs.FileViews.{View, section_bytes, section_named, view_cells}
-use Rattle.dw_base.specs.Forms.{TextSection, in_str, in_line_str}
 use Rattle.dw_base.specs.Layout.{output_limit}
 use Rattle.dw_base.specs.LayoutFails.{TooLong, long}
 use Rattle.dw_base.specs.Paths.{PathMap}
@@ -21,24 +20,24 @@ use Rattle.dw_base.specs.declared.fault.Fault.TheVariants.{NoMemory, Refused}
 use Rattle.dw_base.proofs.FileViewLaws.{section_after-within}
 use Rattle.dw_base.proofs.TextLaws.{ends_in-inside}
 use Rattle.dw_base.proofs.ViewCellLaws.{lines-located}
+use Rattle.dw_base.specs.declared.texts.TextField.{TextField}
+use Rattle.dw_base.specs.declared.texts.TextSection.{TextSection}
+use Rattle.dw_base.specs.declared.texts.TextSection.TheVariants.{InStr, InLineStr}
 use Rattle.dw_find.specs.Fields.{AreOffsetFields, IsOffsetField}
 use Rattle.dw_rewrite.specs.Changes.{FieldSource, Remembers, texts_at}
-use Rattle.dw_find.specs.ViewFields.{AllHaveOffsets, AllHavePlaces, HasOffsets, HasPlaces, as_table, fields_of, offsets_in, table_number}
+use Rattle.dw_find.specs.ViewFields.{AllHaveOffsets, AllHavePlaces, HasOffsets, HasPlaces, fields_of, offsets_in, table_number}
 use Rattle.dw_rewrite.specs.NewTables.{plan_in, section_texts_at, source_in, source_into, table_into, texts_of, all_texts_at, IsSectionNoted, AllNoted, Growing, GrownBy, TableMade, table_with, fault_at, LongTable, long_table}
-use Rattle.dw_find.specs.UnitPaths.{UnitPaths}
-use Rattle.dw_find.specs.declared.fields.PathField.{PathField}
-use Rattle.dw_find.specs.declared.tables.TextsOf.{TextsOf}
-use Rattle.dw_find.specs.declared.tables.TextsOf.TheVariants.{Str, LineStr}
+use Rattle.dw_find.specs.SectionFields.{SectionFields}
 use Rattle.dw_rewrite.proofs.ChangedLaws.{length-texts_at}
 use Rattle.dw_find.proofs.PlaceValueLaws.{EachOf, each-get}
 
 -- where fields hold offsets into a table of texts, and into the line tables, as the code has it
-pub same-source : (v : View) (t : TextsOf) (section number : ℕ) (bytes : List ℕ) → number ≡ table_number (debug_data v) (as_table t) → bytes ≡ (offsets_in v (as_table t)).bytes
-    → record { order = v.order; cells = view_cells v section; table = record { number = number; bytes = bytes } } ≡ source_in v section (as_table t)
-same-source v Str section number bytes e f =
+pub same-source : (v : View) (t : TextSection) (section number : ℕ) (bytes : List ℕ) → number ≡ table_number (debug_data v) t → bytes ≡ (offsets_in v t).bytes
+    → record { order = v.order; cells = view_cells v section; table = record { number = number; bytes = bytes } } ≡ source_in v section t
+same-source v InStr section number bytes e f =
     ap (λ (n : ℕ). record { order = v.order; cells = view_cells v section; table = record { number = n; bytes = bytes } }) e
     ∙ ap (λ (b : List ℕ). record { order = v.order; cells = view_cells v section; table = record { number = ((debug_data v).found str_section).number; bytes = b } }) f
-same-source v LineStr section number bytes e f =
+same-source v InLineStr section number bytes e f =
     ap (λ (n : ℕ). record { order = v.order; cells = view_cells v section; table = record { number = n; bytes = bytes } }) e
     ∙ ap (λ (b : List ℕ). record { order = v.order; cells = view_cells v section; table = record { number = ((debug_data v).found line_str_section).number; bytes = b } }) f
 
@@ -76,136 +75,136 @@ into-none v section s e = into-source v section s None e
 pub ruleset into_rules = (into-some, into-none)
 
 -- what holds of a source and fields holds of those that are the same
-pub moved : (P : FieldSource → List PathField → Type 0) (s q : FieldSource) (f g : List PathField) → s ≡ q → f ≡ g → P s f → P q g
+pub moved : (P : FieldSource → List TextField → Type 0) (s q : FieldSource) (f g : List TextField) → s ≡ q → f ≡ g → P s f → P q g
 moved P s q f g es ef h = subst (λ (x : FieldSource). P x g) es (subst (P s) ef h)
 
-own-fields : (v : View) (u : UnitPaths) (table : TextSection) → HasOffsets v u → AreOffsetFields v.order (texts_of v table) (view_cells v u.number) (fields_of table u)
-own-fields v u in_str h = h.str
-own-fields v u in_line_str h = h.line_str
+own-fields : (v : View) (u : SectionFields) (table : TextSection) → HasOffsets v u → AreOffsetFields v.order (texts_of v table) (view_cells v u.number) (fields_of table u)
+own-fields v u InStr h = h.str
+own-fields v u InLineStr h = h.line_str
 
 -- no fields are fields of an empty table
-no-fields : (s : FieldSource) (fields : List PathField) → s.table.bytes ≡ [] → AreOffsetFields s.order s.table s.cells fields → fields ≡ []
+no-fields : (s : FieldSource) (fields : List TextField) → s.table.bytes ≡ [] → AreOffsetFields s.order s.table s.cells fields → fields ≡ []
 no-fields s [] none are = refl
 no-fields s (f ∷ fs) none are =
     let one : IsOffsetField s.order s.table s.cells f = are.each 0 f (omega arith) in
     let less = ends_in-inside s.table.bytes _ one.ends in
     absurd (omega (arith, less, ap length none))
 
-no-texts : (m : PathMap) (v : View) (table : TextSection) (ts : List (List ℕ)) (us : List UnitPaths) → (texts_of v table).bytes ≡ [] → EachOf (HasOffsets v) us
+no-texts : (m : PathMap) (v : View) (table : TextSection) (ts : List (List ℕ)) (us : List SectionFields) → (texts_of v table).bytes ≡ [] → EachOf (HasOffsets v) us
     → all_texts_at m v table ts us ≡ ts
 no-texts m v table ts [] none each = refl
 no-texts m v table ts (u ∷ us) none each =
     let fields : fields_of table u ≡ [] = no-fields (source_in v u.number table) (fields_of table u) none (own-fields v u table each.0) in
-    ap (λ (fs : List PathField). all_texts_at m v table (texts_at (plan_in m v table) m (source_in v u.number table) ts fs) us) fields
+    ap (λ (fs : List TextField). all_texts_at m v table (texts_at (plan_in m v table) m (source_in v u.number table) ts fs) us) fields
     ∙ no-texts m v table ts us none each.1
 
 -- a table that isn't there is empty
-no-number : (v : View) (t : TextsOf) → table_number (debug_data v) (as_table t) ≡ 0 → (texts_of v (as_table t)).bytes ≡ []
+no-number : (v : View) (t : TextSection) → table_number (debug_data v) t ≡ 0 → (texts_of v t).bytes ≡ []
 unfolding debug_data located section_named
-no-number v Str e = by_found (section_named v (name_of str_section)) refl e
+no-number v InStr e = by_found (section_named v (name_of str_section)) refl e
   where
     by_found : (o : Option ℕ) → section_named v (name_of str_section) ≡ o → (located_at v o).number ≡ 0 → (located_at v o).bytes ≡ []
     by_found None f e = refl
     by_found (Some i) f e = let above = (section_after-within v (name_of str_section) 0 i f).0 in absurd (omega (arith, above, e))
-no-number v LineStr e = by_found (section_named v (name_of line_str_section)) refl e
+no-number v InLineStr e = by_found (section_named v (name_of line_str_section)) refl e
   where
     by_found : (o : Option ℕ) → section_named v (name_of line_str_section) ≡ o → (located_at v o).number ≡ 0 → (located_at v o).bytes ≡ []
     by_found None f e = refl
     by_found (Some i) f e = let above = (section_after-within v (name_of line_str_section) 0 i f).0 in absurd (omega (arith, above, e))
 
 -- each of sections that have places has them
-each-has : (v : View) (us : List UnitPaths) → AllHavePlaces v us → EachOf (HasPlaces v) us
+each-has : (v : View) (us : List SectionFields) → AllHavePlaces v us → EachOf (HasPlaces v) us
 each-has v [] all = tt
 each-has v (u ∷ us) all = (all.0, each-has v us all.1)
 
-pub has-at : (v : View) (us : List UnitPaths) (i : ℕ) (u : UnitPaths) → AllHavePlaces v us → i < length us → u ≡ get_or us i u → HasPlaces v u
+pub has-at : (v : View) (us : List SectionFields) (i : ℕ) (u : SectionFields) → AllHavePlaces v us → i < length us → u ≡ get_or us i u → HasPlaces v u
 has-at v us i u all lt is = subst (HasPlaces v) (sym is) (each-get (HasPlaces v) us i u lt (each-has v us all))
 
 -- and of offsets
-each-offsets : (v : View) (us : List UnitPaths) → AllHaveOffsets v us → EachOf (HasOffsets v) us
+each-offsets : (v : View) (us : List SectionFields) → AllHaveOffsets v us → EachOf (HasOffsets v) us
 each-offsets v [] all = tt
 each-offsets v (u ∷ us) all = (all.0, each-offsets v us all.1)
 
-pub offsets-at : (v : View) (us : List UnitPaths) (i : ℕ) (u : UnitPaths) → AllHaveOffsets v us → i < length us → u ≡ get_or us i u → HasOffsets v u
+pub offsets-at : (v : View) (us : List SectionFields) (i : ℕ) (u : SectionFields) → AllHaveOffsets v us → i < length us → u ≡ get_or us i u → HasOffsets v u
 offsets-at v us i u all lt is = subst (HasOffsets v) (sym is) (each-get (HasOffsets v) us i u lt (each-offsets v us all))
 
-pub offsets-there : (v : View) (u : UnitPaths) → HasOffsets v u → u.number < length v.sections
+pub offsets-there : (v : View) (u : SectionFields) → HasOffsets v u → u.number < length v.sections
 offsets-there v u h = h.there
 
 pub ruleset section_rules = (offsets-there)
 
-long-there : (m : PathMap) (v : View) (t : TextsOf) (us : List UnitPaths) → AllHaveOffsets v us
-    → output_limit < length (table_bytes (table_with v (as_table t) (all_texts_at m v (as_table t) [] us))) → table_number (debug_data v) (as_table t) ≢ 0
+long-there : (m : PathMap) (v : View) (t : TextSection) (us : List SectionFields) → AllHaveOffsets v us
+    → output_limit < length (table_bytes (table_with v t (all_texts_at m v t [] us))) → table_number (debug_data v) t ≢ 0
 long-there m v t us placed over zero_ =
-    let none : (texts_of v (as_table t)).bytes ≡ [] = no-number v t zero_ in
-    let texts : all_texts_at m v (as_table t) [] us ≡ [] = no-texts m v (as_table t) [] us none (each-offsets v us placed) in
-    let same : table_bytes (table_with v (as_table t) (all_texts_at m v (as_table t) [] us)) ≡ [] =
-    ap (λ (ts : List (List ℕ)). (texts_of v (as_table t)).bytes ++ laid_texts ts) texts ∙ ap (λ (b : List ℕ). b ++ laid_texts []) none in
+    let none : (texts_of v t).bytes ≡ [] = no-number v t zero_ in
+    let texts : all_texts_at m v t [] us ≡ [] = no-texts m v t [] us none (each-offsets v us placed) in
+    let same : table_bytes (table_with v t (all_texts_at m v t [] us)) ≡ [] =
+    ap (λ (ts : List (List ℕ)). (texts_of v t).bytes ++ laid_texts ts) texts ∙ ap (λ (b : List ℕ). b ++ laid_texts []) none in
     omega (arith, over, ap length same)
 
 -- the row of a table that is too long
-pub table-row : (m : PathMap) (v : View) (t : TextsOf) (us : List UnitPaths) (f g : Fault) (n : ℕ) → AllHaveOffsets v us
-    → Blames (TooLong (length (table_bytes (table_with v (as_table t) (all_texts_at m v (as_table t) [] us))))) f
-    → n ≡ table_number (debug_data v) (as_table t) → g ≡ fault_at f n → Blames (LongTable m v (as_table t) us) g
-table-row m v t us NoMemory g n placed b number is = subst (Blames (LongTable m v (as_table t) us)) (sym is) tt
+pub table-row : (m : PathMap) (v : View) (t : TextSection) (us : List SectionFields) (f g : Fault) (n : ℕ) → AllHaveOffsets v us
+    → Blames (TooLong (length (table_bytes (table_with v t (all_texts_at m v t [] us))))) f
+    → n ≡ table_number (debug_data v) t → g ≡ fault_at f n → Blames (LongTable m v t us) g
+table-row m v t us NoMemory g n placed b number is = subst (Blames (LongTable m v t us)) (sym is) tt
 table-row m v t us (Refused r) g n placed (long over) number is =
-    subst (Blames (LongTable m v (as_table t) us)) (sym (is ∙ ap (fault_at (Refused r)) number)) (long_table (long-there m v t us placed over) over)
+    subst (Blames (LongTable m v t us)) (sym (is ∙ ap (fault_at (Refused r)) number)) (long_table (long-there m v t us placed over) over)
 
 pub ruleset table_rules = (table-row)
 
 -- where a pass over sections stands
-pub record TablePass (m : PathMap) (v : View) (table : TextSection) (us : List UnitPaths) (pool : TextTable) (known : ℕ → Option ℕ) (i : ℕ) : Type 0 where
+pub record TablePass (m : PathMap) (v : View) (table : TextSection) (us : List SectionFields) (pool : TextTable) (known : ℕ → Option ℕ) (i : ℕ) : Type 0 where
   pub grown : Growing m v table pool known
   pub texts : all_texts_at m v table pool.texts (drop i us) ≡ all_texts_at m v table [] us
   pub noted : AllNoted m v table us i known
 
-sections-front : (us : List UnitPaths) (u : UnitPaths) (i : ℕ) → i < length us → u ≡ get_or us i u → drop i us ≡ u ∷ drop (i + 1) us
+sections-front : (us : List SectionFields) (u : SectionFields) (i : ℕ) → i < length us → u ≡ get_or us i u → drop i us ≡ u ∷ drop (i + 1) us
 sections-front us u i lt is =
     let next : suc i ≡ i + 1 = omega arith in
-    drop-cons us i u lt ∙ ap (λ (n : ℕ). get_or us i u ∷ drop n us) next ∙ ap (λ (y : UnitPaths). y ∷ drop (i + 1) us) (sym is)
+    drop-cons us i u lt ∙ ap (λ (n : ℕ). get_or us i u ∷ drop n us) next ∙ ap (λ (y : SectionFields). y ∷ drop (i + 1) us) (sym is)
 
-get_or-any : (us : List UnitPaths) (i : ℕ) (d u : UnitPaths) → i < length us → get_or us i d ≡ get_or us i u
+get_or-any : (us : List SectionFields) (i : ℕ) (d u : SectionFields) → i < length us → get_or us i d ≡ get_or us i u
 get_or-any [] i d u lt = absurd (omega arith)
 get_or-any (x ∷ xs) zero d u lt = refl
 get_or-any (x ∷ xs) (suc i) d u lt = get_or-any xs i d u (omega arith)
 
-noted-later : (m : PathMap) (v : View) (table : TextSection) (u : UnitPaths) (old new : ℕ → Option ℕ) → Remembers old new → IsSectionNoted m v table u old
+noted-later : (m : PathMap) (v : View) (table : TextSection) (u : SectionFields) (old new : ℕ → Option ℕ) → Remembers old new → IsSectionNoted m v table u old
     → IsSectionNoted m v table u new
 noted-later m v table u old new r n = record {
-  each = λ (k : ℕ) (d : PathField) lt within. record { noted = λ asks. r.each _ ((n.each k d lt within).noted asks) };
+  each = λ (k : ℕ) (d : TextField) lt within. record { noted = λ asks. r.each _ ((n.each k d lt within).noted asks) };
 }
 
-pub pass-more : (m : PathMap) (v : View) (table : TextSection) (us : List UnitPaths) (old new : TextTable) (was known : ℕ → Option ℕ) (i : ℕ) (u : UnitPaths) → i < length us
+pub pass-more : (m : PathMap) (v : View) (table : TextSection) (us : List SectionFields) (old new : TextTable) (was known : ℕ → Option ℕ) (i : ℕ) (u : SectionFields) → i < length us
     → u ≡ get_or us i u → TablePass m v table us old was i → GrownBy m v table u old new was known → TablePass m v table us new known (i + 1)
 pass-more m v table us old new was known i u lt is p g = record {
   grown = g.grown;
   texts = ap (λ (ts : List (List ℕ)). all_texts_at m v table ts (drop (i + 1) us)) g.texts
       ∙ sym (ap (all_texts_at m v table old.texts) (sections-front us u i lt is)) ∙ p.texts;
   noted = record {
-    each = λ (k : ℕ) (d : UnitPaths) (below : k < i + 1) (within : k < length us). elim (cases_lt k i) [
+    each = λ (k : ℕ) (d : SectionFields) (below : k < i + 1) (within : k < length us). elim (cases_lt k i) [
       | inl before ↦ noted-later m v table (get_or us k d) was known g.remembers (p.noted.each k d before within)
       | inr past ↦
           let same : i ≡ k = omega arith in
           let here : u ≡ get_or us k d = is ∙ get_or-any us i u d (omega arith) ∙ ap (λ (n : ℕ). get_or us n d) same in
-          subst (λ (x : UnitPaths). IsSectionNoted m v table x known) here g.noted
+          subst (λ (x : SectionFields). IsSectionNoted m v table x known) here g.noted
     ];
   };
 }
 
-pub pass-ends : (m : PathMap) (v : View) (table : TextSection) (us : List UnitPaths) (pool : TextTable) (known : ℕ → Option ℕ) (i : ℕ) → length us ≤ i
+pub pass-ends : (m : PathMap) (v : View) (table : TextSection) (us : List SectionFields) (pool : TextTable) (known : ℕ → Option ℕ) (i : ℕ) → length us ≤ i
     → TablePass m v table us pool known i → TableMade m v table us pool known
 pass-ends m v table us pool known i end p = record {
   grown = p.grown;
   texts = ap (all_texts_at m v table pool.texts) (sym (drop_all i us end)) ∙ p.texts;
-  noted = record { each = λ (k : ℕ) (d : UnitPaths) lt within. p.noted.each k d (omega (arith, end, within)) within };
+  noted = record { each = λ (k : ℕ) (d : SectionFields) lt within. p.noted.each k d (omega (arith, end, within)) within };
 }
 
-length-all_texts : (m : PathMap) (v : View) (table : TextSection) (ts : List (List ℕ)) (us : List UnitPaths) → length (laid_texts ts) ≤ length (laid_texts (all_texts_at m v table ts us))
+length-all_texts : (m : PathMap) (v : View) (table : TextSection) (ts : List (List ℕ)) (us : List SectionFields) → length (laid_texts ts) ≤ length (laid_texts (all_texts_at m v table ts us))
 length-all_texts m v table ts [] = omega arith
 length-all_texts m v table ts (u ∷ us) =
     omega (arith, length-texts_at (plan_in m v table) m (source_in v u.number table) ts (fields_of table u), length-all_texts m v table (section_texts_at m v table ts u) us)
 
-pub pass-refused : (m : PathMap) (v : View) (table : TextSection) (us : List UnitPaths) (pool : TextTable) (known : ℕ → Option ℕ) (i : ℕ) (u : UnitPaths) (f : Fault) → i < length us
+pub pass-refused : (m : PathMap) (v : View) (table : TextSection) (us : List SectionFields) (pool : TextTable) (known : ℕ → Option ℕ) (i : ℕ) (u : SectionFields) (f : Fault) → i < length us
     → u ≡ get_or us i u → TablePass m v table us pool known i → Blames (TooLong (length (table_bytes (table_with v table (section_texts_at m v table pool.texts u))))) f
     → Blames (TooLong (length (table_bytes (table_with v table (all_texts_at m v table [] us))))) f
 pass-refused m v table us pool known i u NoMemory lt is p b = tt

@@ -9,7 +9,6 @@ use Rattle.dw_base.specs.DebugData.{Around, DataReadings, ReadsAll, path_slots, 
 use Rattle.dw_base.specs.DebugSections.{debug_section, name_of}
 use Rattle.dw_base.specs.Elf.{contents_of, section_count, section_name}
 use Rattle.dw_base.specs.FileViews.{View, ViewSection, section_named, view_cells, view_of}
-use Rattle.dw_base.specs.Forms.{in_str, in_line_str}
 use Rattle.dw_base.specs.MacroReadings.{MacroReading, ReadsAllMacros}
 use Rattle.dw_base.specs.OffsetPieces.{ReadsOffsets}
 use Rattle.dw_base.specs.Paths.{PathMap}
@@ -29,6 +28,7 @@ use Rattle.dw_base.specs.declared.debug_sections.DebugSection.TheVariants.{Info,
 use Rattle.dw_base.specs.declared.shared.Order.{Order}
 use Rattle.dw_base.proofs.DebugSectionLaws.{debug_section-name}
 use Rattle.dw_base.proofs.ViewCellLaws.{view_cells-view_of}
+use Rattle.dw_base.specs.declared.texts.TextSection.TheVariants.{InStr, InLineStr}
 use Rattle.dw_meaning.specs.DataOutput.{Body, DataReads}
 use Rattle.dw_meaning.specs.FileMeanings.{file_data}
 use Rattle.dw_meaning.specs.RelocatedBodies.{CellBody, cell_body, cells_of_number, macro_cells, new_cells, new_contents, old_contents, relocated_body, unit_cells}
@@ -41,7 +41,7 @@ use Rattle.dw_patch.specs.RecordMoves.{moved_table}
 use Rattle.elf_layout.specs.declared.patch.Patch.{Patch}
 use Rattle.dw_find.specs.MacroSections.{macro_starts, macros_read, macros_with}
 use Rattle.dw_find.specs.SlotPaths.{read_fields, slots_by, slots_read, slots_with}
-use Rattle.dw_find.specs.UnitPaths.{UnitPaths, paths_in, paths_of}
+use Rattle.dw_find.specs.SectionFields.{SectionFields, paths_in, paths_of}
 use Rattle.dw_find.specs.ViewFields.{AllHaveOffsets, AllHavePlaces, HasOffsets, HasPlaces}
 use Rattle.dw_find.proofs.MacroHaveLaws.{AllCells}
 use Rattle.dw_find.proofs.MacroStartLaws.{all-cells}
@@ -285,7 +285,7 @@ record-held b cells told i new sections full new_is moved = by_option (relocatio
         (one-held b cells told i k new full.within e new_is (moved k (read-from b i k full.within e reads)))
 
 -- Units.
-abbrev records_after : PathMap → List ℕ → DataReadings → List UnitPaths → List Body
+abbrev records_after : PathMap → List ℕ → DataReadings → List SectionFields → List Body
 records_after m b all us = records_known b (view_of b) (str_after m (view_of b) all) (line_str_after m (view_of b) all) (starts_after m (view_of b) all) us
 
 reading-held : (m : PathMap) (b : List ℕ) (all : DataReadings) (before behind : List UnitSection) (z : UnitSection) (first : ℕ) (r : Reading) → RelocationSectionsRead (contents_of b) b
@@ -337,13 +337,13 @@ macro-held m b all (z ∷ zs) (r ∷ rs) sections cells reads offsets places ful
     (macro-held m b all zs rs sections cells.1 reads.2 offsets.1 places.1 full.1 new.1)
 
 -- All of them, one after another.
-records-append : (b : List ℕ) (v : View) (ks kl kt : ℕ → Option ℕ) (us ws : List UnitPaths) → records_known b v ks kl kt (us ++ ws) ≡ records_known b v ks kl kt us ++ records_known b v ks kl kt ws
+records-append : (b : List ℕ) (v : View) (ks kl kt : ℕ → Option ℕ) (us ws : List SectionFields) → records_known b v ks kl kt (us ++ ws) ≡ records_known b v ks kl kt us ++ records_known b v ks kl kt ws
 records-append b v ks kl kt [] ws = refl
 records-append b v ks kl kt (u ∷ us) ws =
     ap (λ (bs : List Body). record_body b (offsets_in v ks kl kt u) (relocation_section b u.number) ++ bs) (records-append b v ks kl kt us ws)
     ∙ sym (append_assoc (record_body b (offsets_in v ks kl kt u) (relocation_section b u.number)) (records_known b v ks kl kt us) (records_known b v ks kl kt ws))
 
-held-append : (b : List ℕ) (cells : List CellBody) (us ws : List UnitPaths)
+held-append : (b : List ℕ) (cells : List CellBody) (us ws : List SectionFields)
     → held_bodies b cells (numbers_in (us ++ ws)) ≡ held_bodies b cells (numbers_in us) ++ held_bodies b cells (numbers_in ws)
 held-append b cells [] ws = refl
 held-append b cells (u ∷ us) ws =
@@ -351,13 +351,13 @@ held-append b cells (u ∷ us) ws =
     ∙ sym (append_assoc (held_body b cells (relocation_section b u.number)) (held_bodies b cells (numbers_in us)) (held_bodies b cells (numbers_in ws)))
 
 -- those of which the code says them are those of which the edit does
-pub records-asked : (m : PathMap) (b : List ℕ) (v : View) (ps pl : TextTable) (ks kl kt : ℕ → Option ℕ) (us : List UnitPaths) → Growing m v in_str ps ks → Growing m v in_line_str pl kl
-    → EachOf (λ u. IsSectionNoted m v in_str u ks) us → EachOf (λ u. IsSectionNoted m v in_line_str u kl) us
-    → records_known b v ks kl kt us ≡ records_known b v (asked_in m v in_str ps.texts) (asked_in m v in_line_str pl.texts) kt us
+pub records-asked : (m : PathMap) (b : List ℕ) (v : View) (ps pl : TextTable) (ks kl kt : ℕ → Option ℕ) (us : List SectionFields) → Growing m v InStr ps ks → Growing m v InLineStr pl kl
+    → EachOf (λ u. IsSectionNoted m v InStr u ks) us → EachOf (λ u. IsSectionNoted m v InLineStr u kl) us
+    → records_known b v ks kl kt us ≡ records_known b v (asked_in m v InStr ps.texts) (asked_in m v InLineStr pl.texts) kt us
 records-asked m b v ps pl ks kl kt [] gs gl ns nl = refl
 records-asked m b v ps pl ks kl kt (u ∷ us) gs gl ns nl =
     ap (λ (told : List Patch). record_body b told (relocation_section b u.number) ++ records_known b v ks kl kt us) (section-asked m v ps pl ks kl kt u gs gl ns.0 nl.0)
-    ∙ ap (λ (bs : List Body). record_body b (offsets_in v (asked_in m v in_str ps.texts) (asked_in m v in_line_str pl.texts) kt u) (relocation_section b u.number) ++ bs)
+    ∙ ap (λ (bs : List Body). record_body b (offsets_in v (asked_in m v InStr ps.texts) (asked_in m v InLineStr pl.texts) kt u) (relocation_section b u.number) ++ bs)
     (records-asked m b v ps pl ks kl kt us gs gl ns.1 nl.1)
 
 -- the parts of the sections that were found

@@ -10,7 +10,7 @@ use Rattle.dw_base.specs.declared.fault.Fault.{Fault}
 use Rattle.dw_base.specs.declared.fault.Fault.TheVariants.{NoMemory, Refused}
 use Rattle.dw_find.specs.InlineRooms.{RoomFits, GrowsOne, grows, Grows, one}
 use Rattle.dw_find.specs.TextPlaces.{InlinesFit}
-use Rattle.dw_find.specs.UnitPaths.{inline_text}
+use Rattle.dw_find.specs.SectionFields.{inline_text}
 use Rattle.dw_rewrite.specs.UnitsAfter.{inlined, inlined_at}
 use Rattle.dw_find.specs.declared.fields.InlinePath.{InlinePath}
 

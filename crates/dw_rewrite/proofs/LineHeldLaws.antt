@@ -6,7 +6,7 @@ use Rattle.dw_base.specs.DebugData.{DataReadings, DebugData, around_of, line_sou
 use Rattle.dw_base.specs.DebugSections.{name_of}
 use Rattle.dw_base.specs.Elf.{contents_of}
 use Rattle.dw_base.specs.FileViews.{View, section_named, view_of}
-use Rattle.dw_base.specs.Forms.{in_str, in_line_str, width_size}
+use Rattle.dw_base.specs.Forms.{width_size}
 use Rattle.dw_base.specs.LineReadings.{LineReading, TablesTo, table_read}
 use Rattle.dw_base.specs.LineSources.{LineSource}
 use Rattle.dw_base.specs.LineTables.{LineTable, texts_of}
@@ -26,6 +26,7 @@ use Rattle.dw_base.specs.declared.fault.Refusal.{Refusal}
 use Rattle.dw_base.specs.declared.line_tables.TextPlace.{TextPlace}
 use Rattle.dw_base.specs.declared.shared.Width.{Width}
 use Rattle.dw_base.specs.declared.shared.Width.TheVariants.{W32, W64}
+use Rattle.dw_base.specs.declared.texts.TextSection.TheVariants.{InStr, InLineStr}
 use Rattle.dw_meaning.specs.DataOutput.{changes_of, table_change}
 use Rattle.dw_meaning.specs.FileMeanings.{file_data}
 use Rattle.dw_meaning.specs.LineCells.{CellChange, all_path_cells, all_written_cells, changed_cells, header_cells, inline_cells, offset_cells, path_cells, written_cells}
@@ -46,13 +47,13 @@ use Rattle.dw_meaning.proofs.TableMoveLaws.{reads-apart, section-source}
 use Rattle.dw_patch.specs.RecordMoves.{moved_table}
 use Rattle.dw_lines.specs.TableMoves.{offsets_from, placed_offsets, runs_from}
 use Rattle.dw_lines.specs.ViewTables.{tables_read}
-use Rattle.dw_lines.specs.declared.moves.FieldOffset.{FieldOffset}
 use Rattle.dw_lines.proofs.MoveLaws.{offsets-append}
 use Rattle.dw_lines.proofs.PathMoveLaws.{offsets-append as placed-append}
 use Rattle.dw_lines.proofs.ReadingLaws.{source-is}
 use Rattle.dw_lines.proofs.TableRunLaws.{clear-order, table-offsets}
 use Rattle.dw_find.specs.FoundPaths.{PathsFound}
-use Rattle.dw_find.specs.UnitPaths.{UnitPaths}
+use Rattle.dw_find.specs.SectionFields.{SectionFields}
+use Rattle.dw_lines.specs.declared.moves.NewFieldOffset.{NewFieldOffset}
 use Rattle.dw_rewrite.specs.Bodies.{held_bodies, held_body, lines_numbers}
 use Rattle.dw_rewrite.specs.LineOffsets.{OffsetMisses, OffsetsMake, held_lines, line_offsets, line_record, line_runs, said_fields}
 use Rattle.dw_rewrite.specs.NewTables.{TableMade}
@@ -114,8 +115,8 @@ line-contents m b r i e =
     no e = cc
 
 -- so the records are those of the output
-held-is : (m : PathMap) (b : List ℕ) (us : List UnitPaths) (ts : List LineTable) (ps pl : TextTable) (ks kl : ℕ → Option ℕ) (i k : ℕ) → RelocationSectionsRead (contents_of b) b
-    → (f : PathsFound m (view_of b) us ts) → TableMade m (view_of b) in_str us ps ks → TableMade m (view_of b) in_line_str us pl kl → section_named (view_of b) (name_of Line) ≡ Some i
+held-is : (m : PathMap) (b : List ℕ) (us : List SectionFields) (ts : List LineTable) (ps pl : TextTable) (ks kl : ℕ → Option ℕ) (i k : ℕ) → RelocationSectionsRead (contents_of b) b
+    → (f : PathsFound m (view_of b) us ts) → TableMade m (view_of b) InStr us ps ks → TableMade m (view_of b) InLineStr us pl kl → section_named (view_of b) (name_of Line) ≡ Some i
     → relocation_section b i ≡ Some k
     → moved_table (relocation_source (contents_of b) b k) (line_runs m (line_source (file_data b)) ks kl ts) (said_fields (line_offsets m (line_source (file_data b)) ks kl ts))
     ≡ relocated_body b (new_cells m (file_data b) f.readings) k
@@ -138,8 +139,8 @@ held-is m b us ts ps pl ks kl i k relocations f s l e is =
     ∙ ap (relocation_body z (old_contents b i)) new
     ∙ ap (λ (j : ℕ). relocation_body z (old_contents b j) (new_contents b (new_cells m (file_data b) f.readings) j)) (sym held.info)
 
-pub lines-held : (m : PathMap) (b : List ℕ) (us : List UnitPaths) (ts : List LineTable) (ps pl : TextTable) (ks kl : ℕ → Option ℕ) → RelocationSectionsRead (contents_of b) b
-    → (f : PathsFound m (view_of b) us ts) → TableMade m (view_of b) in_str us ps ks → TableMade m (view_of b) in_line_str us pl kl
+pub lines-held : (m : PathMap) (b : List ℕ) (us : List SectionFields) (ts : List LineTable) (ps pl : TextTable) (ks kl : ℕ → Option ℕ) → RelocationSectionsRead (contents_of b) b
+    → (f : PathsFound m (view_of b) us ts) → TableMade m (view_of b) InStr us ps ks → TableMade m (view_of b) InLineStr us pl kl
     → line_record b m (line_source (file_data b)) ks kl ts (section_named (view_of b) (name_of Line))
     ≡ held_bodies b (new_cells m (file_data b) f.readings) (lines_numbers (section_named (view_of b) (name_of Line)))
 lines-held m b us ts ps pl ks kl relocations f s l = by_section (section_named (view_of b) (name_of Line)) refl
@@ -200,7 +201,7 @@ fields-are g m p a r rs own apart clear e reads =
     offsets-append a (table_stretches g m p (table_read g r)) (line_stretches g m p rs)
     ∙ ap (λ (n : ℕ). offsets_from a (table_stretches g m p (table_read g r)) ++ offsets_from n (line_stretches g m p rs)) next
     ∙ ap (λ (n : ℕ). offsets_from n (table_stretches g m p (table_read g r)) ++ offsets_from r.header.end (line_stretches g m p rs)) (sym begins)
-    ∙ ap (λ (fs : List FieldOffset). fs ++ offsets_from r.header.end (line_stretches g m p rs)) (sym here)
+    ∙ ap (λ (fs : List NewFieldOffset). fs ++ offsets_from r.header.end (line_stretches g m p rs)) (sym here)
 
 tables-make : (g : LineSource) (m : PathMap) (p q : TextPlace → Option ℕ) (a e : ℕ) (rs : List LineReading) → bytes_of g.cells ≡ g.bytes → TablesApart g rs → EachClear g rs
     → TablesTo g a rs e → TablesAgree g p q rs → OffsetsMake g.cells (offsets_from a (line_stretches g m p rs)) → EachTableMakes g q rs
@@ -216,8 +217,8 @@ known-fields : (m : PathMap) (g : LineSource) (ks kl : ℕ → Option ℕ) (ts :
     → line_offsets m g ks kl ts ≡ offsets_from 0 (line_stretches g m (new_place g ks kl) rs)
 known-fields m g ks kl ts rs is = ap (line_offsets m g ks kl) is ∙ ap (offsets_from 0) (stretches-read m g ks kl rs)
 
-file-makes : (m : PathMap) (b : List ℕ) (us : List UnitPaths) (ts : List LineTable) (ps pl : TextTable) (ks kl : ℕ → Option ℕ) (f : PathsFound m (view_of b) us ts)
-    → TableMade m (view_of b) in_str us ps ks → TableMade m (view_of b) in_line_str us pl kl
+file-makes : (m : PathMap) (b : List ℕ) (us : List SectionFields) (ts : List LineTable) (ps pl : TextTable) (ks kl : ℕ → Option ℕ) (f : PathsFound m (view_of b) us ts)
+    → TableMade m (view_of b) InStr us ps ks → TableMade m (view_of b) InLineStr us pl kl
     → OffsetsMake (line_source (file_data b)).cells (line_offsets m (line_source (file_data b)) ks kl ts)
     → EachTableMakes (line_source (file_data b)) (places_by (changes_of m (around_of (file_data b) f.readings) f.readings) (file_data b)) f.readings.lines
 unfolding table_change
@@ -228,17 +229,17 @@ file-makes m b us ts ps pl ks kl f s l h =
     (lines-agree m (view_of b) us ts ps pl ks kl f s l)
     (subst (OffsetsMake g.cells) (known-fields m g ks kl ts f.readings.lines f.tables) h)
 
-pub lines-fit : (m : PathMap) (b : List ℕ) (v : View) (us : List UnitPaths) (ts : List LineTable) (ps pl : TextTable) (ks kl : ℕ → Option ℕ) → v ≡ view_of b → (f : PathsFound m v us ts)
-    → TableMade m v in_str us ps ks → TableMade m v in_line_str us pl kl → OffsetsMake (line_source (debug_data v)).cells (line_offsets m (line_source (debug_data v)) ks kl ts)
+pub lines-fit : (m : PathMap) (b : List ℕ) (v : View) (us : List SectionFields) (ts : List LineTable) (ps pl : TextTable) (ks kl : ℕ → Option ℕ) → v ≡ view_of b → (f : PathsFound m v us ts)
+    → TableMade m v InStr us ps ks → TableMade m v InLineStr us pl kl → OffsetsMake (line_source (debug_data v)).cells (line_offsets m (line_source (debug_data v)) ks kl ts)
     → EachTableMakes (line_source (debug_data v)) (places_by (changes_of m (around_of (debug_data v) f.readings) f.readings) (debug_data v)) f.readings.lines
 lines-fit m b v us ts ps pl ks kl file =
-    subst (λ (w : View). (f : PathsFound m w us ts) → TableMade m w in_str us ps ks → TableMade m w in_line_str us pl kl
+    subst (λ (w : View). (f : PathsFound m w us ts) → TableMade m w InStr us ps ks → TableMade m w InLineStr us pl kl
     → OffsetsMake (line_source (debug_data w)).cells (line_offsets m (line_source (debug_data w)) ks kl ts)
     → EachTableMakes (line_source (debug_data w)) (places_by (changes_of m (around_of (debug_data w) f.readings) f.readings) (debug_data w)) f.readings.lines) (sym file)
     (file-makes m b us ts ps pl ks kl)
 
 -- or the one of a path doesn't
-misses-parts : (n : ℕ) (cells : List Cell) (fs gs : List FieldOffset) (r : Refusal) → OffsetMisses n cells (fs ++ gs) r → OffsetMisses n cells fs r ⊎ OffsetMisses n cells gs r
+misses-parts : (n : ℕ) (cells : List Cell) (fs gs : List NewFieldOffset) (r : Refusal) → OffsetMisses n cells (fs ++ gs) r → OffsetMisses n cells fs r ⊎ OffsetMisses n cells gs r
 misses-parts n cells [] gs r h = inr h
 misses-parts n cells (f ∷ fs) gs r (inl here) = inl (inl here)
 misses-parts n cells (f ∷ fs) gs r (inr more) = by (misses-parts n cells fs gs r more)
@@ -283,7 +284,7 @@ paths-miss : (g : LineSource) (m : PathMap) (p q : TextPlace → Option ℕ) (w 
 paths-miss g m p q w [] r a h = absurd h
 paths-miss g m p q w (x ∷ xs) r a h =
     by (misses-parts g.number g.cells (placed_offsets (path_stretches g m p w x)) (placed_offsets (all_path_stretches g m p w xs)) r
-    (subst (λ (fs : List FieldOffset). OffsetMisses g.number g.cells fs r) (placed-append (path_stretches g m p w x) (all_path_stretches g m p w xs)) h))
+    (subst (λ (fs : List NewFieldOffset). OffsetMisses g.number g.cells fs r) (placed-append (path_stretches g m p w x) (all_path_stretches g m p w xs)) h))
     (λ k. paths-miss g m p q w xs r a.1 k)
   where
     by : OffsetMisses g.number g.cells (placed_offsets (path_stretches g m p w x)) r ⊎ OffsetMisses g.number g.cells (placed_offsets (all_path_stretches g m p w xs)) r
@@ -305,7 +306,7 @@ tables-miss : (g : LineSource) (m : PathMap) (p q : TextPlace → Option ℕ) (a
 tables-miss g m p q a e [] r own apart clear reads agree h = absurd h
 tables-miss g m p q a e (t ∷ ts) r own apart clear reads agree h =
     by (misses-parts g.number g.cells (placed_offsets (all_path_stretches g m p t.header.width (paths_of (table_read g t)))) (offsets_from t.header.end (line_stretches g m p ts)) r
-    (subst (λ (fs : List FieldOffset). OffsetMisses g.number g.cells fs r) (fields-are g m p a t ts own apart clear e reads) h))
+    (subst (λ (fs : List NewFieldOffset). OffsetMisses g.number g.cells fs r) (fields-are g m p a t ts own apart clear e reads) h))
     (λ k. tables-miss g m p q t.header.end e ts r own (apart-behind g t ts apart) clear.1 reads.1 agree.1 k)
   where
     by : OffsetMisses g.number g.cells (placed_offsets (all_path_stretches g m p t.header.width (paths_of (table_read g t)))) r
@@ -326,8 +327,8 @@ row-of m d rs r h =
     (in_lines h.before h.behind h.table x.path h.among
     (record { before = x.before; behind = x.behind; among = x.among; named = missed.named; place = missed.place; put = missed.put; misses = missed.misses }))
 
-file-misses : (m : PathMap) (b : List ℕ) (us : List UnitPaths) (ts : List LineTable) (ps pl : TextTable) (ks kl : ℕ → Option ℕ) (r : Refusal) (f : PathsFound m (view_of b) us ts)
-    → TableMade m (view_of b) in_str us ps ks → TableMade m (view_of b) in_line_str us pl kl
+file-misses : (m : PathMap) (b : List ℕ) (us : List SectionFields) (ts : List LineTable) (ps pl : TextTable) (ks kl : ℕ → Option ℕ) (r : Refusal) (f : PathsFound m (view_of b) us ts)
+    → TableMade m (view_of b) InStr us ps ks → TableMade m (view_of b) InLineStr us pl kl
     → OffsetMisses (line_source (file_data b)).number (line_source (file_data b)).cells (line_offsets m (line_source (file_data b)) ks kl ts) r
     → AddendsFail (changes_of m (around_of (file_data b) f.readings) f.readings) (file_data b) (around_of (file_data b) f.readings) f.readings r
 unfolding table_change
@@ -337,14 +338,14 @@ file-misses m b us ts ps pl ks kl r f s l h =
     (tables-miss g m (new_place g ks kl) (places_by (changes_of m (around_of (file_data b) f.readings) f.readings) (file_data b)) 0 (length g.bytes) f.readings.lines r refl
     (file-apart b f.readings.lines f.reads.lines) (left-clear (file_data b) (moving_sections (view_of b)) f.readings.lines f.relocations.left f.reads.lines) f.reads.lines
     (lines-agree m (view_of b) us ts ps pl ks kl f s l)
-    (subst (λ (fs : List FieldOffset). OffsetMisses g.number g.cells fs r) (known-fields m g ks kl ts f.readings.lines f.tables) h))
+    (subst (λ (fs : List NewFieldOffset). OffsetMisses g.number g.cells fs r) (known-fields m g ks kl ts f.readings.lines f.tables) h))
 
-pub lines-fail : (m : PathMap) (b : List ℕ) (v : View) (us : List UnitPaths) (ts : List LineTable) (ps pl : TextTable) (ks kl : ℕ → Option ℕ) (r : Refusal) → v ≡ view_of b
-    → (f : PathsFound m v us ts) → TableMade m v in_str us ps ks → TableMade m v in_line_str us pl kl
+pub lines-fail : (m : PathMap) (b : List ℕ) (v : View) (us : List SectionFields) (ts : List LineTable) (ps pl : TextTable) (ks kl : ℕ → Option ℕ) (r : Refusal) → v ≡ view_of b
+    → (f : PathsFound m v us ts) → TableMade m v InStr us ps ks → TableMade m v InLineStr us pl kl
     → OffsetMisses (line_source (debug_data v)).number (line_source (debug_data v)).cells (line_offsets m (line_source (debug_data v)) ks kl ts) r
     → AddendsFail (changes_of m (around_of (debug_data v) f.readings) f.readings) (debug_data v) (around_of (debug_data v) f.readings) f.readings r
 lines-fail m b v us ts ps pl ks kl r file =
-    subst (λ (w : View). (f : PathsFound m w us ts) → TableMade m w in_str us ps ks → TableMade m w in_line_str us pl kl
+    subst (λ (w : View). (f : PathsFound m w us ts) → TableMade m w InStr us ps ks → TableMade m w InLineStr us pl kl
     → OffsetMisses (line_source (debug_data w)).number (line_source (debug_data w)).cells (line_offsets m (line_source (debug_data w)) ks kl ts) r
     → AddendsFail (changes_of m (around_of (debug_data w) f.readings) f.readings) (debug_data w) (around_of (debug_data w) f.readings) f.readings r) (sym file)
     (file-misses m b us ts ps pl ks kl r)

@@ -2,7 +2,7 @@
 use Rattle.std.proofs.Common.{Bool, true, false, ◌≡◌, ◌≢◌, ℕ, zero, suc, ◌^◌, ◌<◌, ◌≤◌, ◌==◌, ◌&&◌, not, List, [], ◌∷◌, ◌++◌, length, get_or, if◌then◌else◌, Contains, Option, Some, None, is_some, refl, sym, ap, ◌∙◌, subst, arith}
 use Rattle.std.specs.Prelude.{⊤}
 use Rattle.std.proofs.lemmas.Bool.{ne_eqb, true≢false}
-use Rattle.dw_base.specs.Forms.{in_str, in_line_str, width_size}
+use Rattle.dw_base.specs.Forms.{width_size}
 use Rattle.dw_base.specs.LineChanges.{asked_place, line_place, lines_after, path_in}
 use Rattle.dw_base.specs.LineReadings.{LineReading, TablesTo, table_read}
 use Rattle.dw_base.specs.LineSources.{LineSource}
@@ -15,11 +15,12 @@ use Rattle.dw_base.specs.WrittenLines.{Change, all_changes, inline_change, new_p
 use Rattle.dw_base.specs.declared.fault.Refusal.{Refusal}
 use Rattle.dw_base.specs.declared.line_tables.TextPlace.{TextPlace}
 use Rattle.dw_base.specs.declared.shared.Width.{Width}
+use Rattle.dw_base.specs.declared.texts.TextField.{TextField}
+use Rattle.dw_base.specs.declared.texts.TextSection.TheVariants.{InStr, InLineStr}
 use Rattle.dw_lines.specs.ViewTables.{tables_read}
 use Rattle.dw_rewrite.specs.Changes.{FieldSource, IsNoted, Knows, offset_at, path_of}
 use Rattle.dw_rewrite.specs.NewLines.{AllCanWrite, lines_known}
 use Rattle.dw_find.specs.ViewLines.{is_text_of, table_fields, text_field, text_fields}
-use Rattle.dw_find.specs.declared.fields.PathField.{PathField}
 use Rattle.dw_rewrite.proofs.LineMentionLaws.{IsWhole, line_texts, text-offset}
 use Rattle.dw_find.proofs.LinePlaceLaws.{EachReads, PathReads, table-paths}
 use Rattle.dw_find.proofs.PlaceValueLaws.{EachOf}
@@ -96,27 +97,27 @@ known-asked plan m table ts known o knows noted = by (known o) refl (plan.asks (
     by (Some n) e false a = absurd (true≢false (sym (knows.each o n e).asks ∙ a))
 
 -- of the paths of a table
-abbrev pub NotedIn : Plan → FieldSource → (ℕ → Option ℕ) → PathField → Type 0
+abbrev pub NotedIn : Plan → FieldSource → (ℕ → Option ℕ) → TextField → Type 0
 NotedIn plan s known f = IsNoted plan s.table.bytes known (offset_at s f)
 
 one-agrees : (g : LineSource) (m : PathMap) (str line_str : TableChange) (ks kl : ℕ → Option ℕ) (w : Width) (x : TextPlace) → IsWhole g → PathReads g w x
     → Knows str.plan m g.str.bytes str.texts ks → Knows line_str.plan m g.line_str.bytes line_str.texts kl
-    → EachOf (NotedIn str.plan (line_texts g in_str) ks) (text_field g.number g.str.number in_str w x)
-    → EachOf (NotedIn line_str.plan (line_texts g in_line_str) kl) (text_field g.number g.str.number in_line_str w x)
+    → EachOf (NotedIn str.plan (line_texts g InStr) ks) (text_field g.number g.str.number InStr w x)
+    → EachOf (NotedIn line_str.plan (line_texts g InLineStr) kl) (text_field g.number g.str.number InLineStr w x)
     → (x.section == g.number) ≡ false → new_place g ks kl x ≡ line_place m str line_str g x
 one-agrees g m str line_str ks kl w x whole reads s l ns nl other = by (x.section == g.number) (x.section == g.str.number) refl refl other ns nl
   where
     by : (a b : Bool) → (x.section == g.number) ≡ a → (x.section == g.str.number) ≡ b → a ≡ false
-        → EachOf (NotedIn str.plan (line_texts g in_str) ks) (if (not a && b) then record { at = x.field; size = width_size w } ∷ [] else [])
-        → EachOf (NotedIn line_str.plan (line_texts g in_line_str) kl) (if (not a && not b) then record { at = x.field; size = width_size w } ∷ [] else [])
+        → EachOf (NotedIn str.plan (line_texts g InStr) ks) (if (not a && b) then record { at = x.field; size = width_size w } ∷ [] else [])
+        → EachOf (NotedIn line_str.plan (line_texts g InLineStr) kl) (if (not a && not b) then record { at = x.field; size = width_size w } ∷ [] else [])
         → (if b then ks x.at else kl x.at) ≡ (if b then asked_place str m (path_in g.str.bytes x) else asked_place line_str m (path_in g.line_str.bytes x))
     by true b e f is ns nl = absurd (true≢false is)
     by false true e f is ns nl =
-        let says : is_text_of g.number g.str.number in_str x ≡ true = rw (e, f) refl in
-        known-asked str.plan m g.str.bytes str.texts ks x.at s (subst (IsNoted str.plan g.str.bytes ks) (text-offset g in_str w x whole reads says) ns.0)
+        let says : is_text_of g.number g.str.number InStr x ≡ true = rw (e, f) refl in
+        known-asked str.plan m g.str.bytes str.texts ks x.at s (subst (IsNoted str.plan g.str.bytes ks) (text-offset g InStr w x whole reads says) ns.0)
     by false false e f is ns nl =
-        let says : is_text_of g.number g.str.number in_line_str x ≡ true = rw (e, f) refl in
-        known-asked line_str.plan m g.line_str.bytes line_str.texts kl x.at l (subst (IsNoted line_str.plan g.line_str.bytes kl) (text-offset g in_line_str w x whole reads says) nl.0)
+        let says : is_text_of g.number g.str.number InLineStr x ≡ true = rw (e, f) refl in
+        known-asked line_str.plan m g.line_str.bytes line_str.texts kl x.at l (subst (IsNoted line_str.plan g.line_str.bytes kl) (text-offset g InLineStr w x whole reads says) nl.0)
 
 each-parts : {X : Type 0} (P : X → Type 0) (xs ys : List X) → EachOf P (xs ++ ys) → EachOf P xs × EachOf P ys
 each-parts P [] ys h = (tt, h)
@@ -124,13 +125,13 @@ each-parts P (x ∷ xs) ys h = let rest = each-parts P xs ys h.1 in ((h.0, rest.
 
 paths-agree : (g : LineSource) (m : PathMap) (str line_str : TableChange) (ks kl : ℕ → Option ℕ) (w : Width) (xs : List TextPlace) → IsWhole g → EachReads g w xs
     → Knows str.plan m g.str.bytes str.texts ks → Knows line_str.plan m g.line_str.bytes line_str.texts kl
-    → EachOf (NotedIn str.plan (line_texts g in_str) ks) (text_fields g.number g.str.number in_str w xs)
-    → EachOf (NotedIn line_str.plan (line_texts g in_line_str) kl) (text_fields g.number g.str.number in_line_str w xs)
+    → EachOf (NotedIn str.plan (line_texts g InStr) ks) (text_fields g.number g.str.number InStr w xs)
+    → EachOf (NotedIn line_str.plan (line_texts g InLineStr) kl) (text_fields g.number g.str.number InLineStr w xs)
     → EachAgree g (new_place g ks kl) (line_place m str line_str g) xs
 paths-agree g m str line_str ks kl w [] whole reads s l ns nl = tt
 paths-agree g m str line_str ks kl w (x ∷ xs) whole reads s l ns nl =
-    let a = each-parts (NotedIn str.plan (line_texts g in_str) ks) (text_field g.number g.str.number in_str w x) (text_fields g.number g.str.number in_str w xs) ns in
-    let b = each-parts (NotedIn line_str.plan (line_texts g in_line_str) kl) (text_field g.number g.str.number in_line_str w x) (text_fields g.number g.str.number in_line_str w xs) nl in
+    let a = each-parts (NotedIn str.plan (line_texts g InStr) ks) (text_field g.number g.str.number InStr w x) (text_fields g.number g.str.number InStr w xs) ns in
+    let b = each-parts (NotedIn line_str.plan (line_texts g InLineStr) kl) (text_field g.number g.str.number InLineStr w x) (text_fields g.number g.str.number InLineStr w xs) nl in
     (one-agrees g m str line_str ks kl w x whole reads.0 s l a.0 b.0, paths-agree g m str line_str ks kl w xs whole reads.1 s l a.1 b.1)
 
 -- of all tables
@@ -140,15 +141,15 @@ TablesAgree g p q (r ∷ rs) = EachAgree g p q (paths_of (table_read g r)) × Ta
 
 pub tables-agree : (g : LineSource) (m : PathMap) (str line_str : TableChange) (ks kl : ℕ → Option ℕ) (p e : ℕ) (rs : List LineReading) → IsWhole g → TablesTo g p rs e
     → Knows str.plan m g.str.bytes str.texts ks → Knows line_str.plan m g.line_str.bytes line_str.texts kl
-    → EachOf (NotedIn str.plan (line_texts g in_str) ks) (table_fields g.number g.str.number in_str (tables_read g rs))
-    → EachOf (NotedIn line_str.plan (line_texts g in_line_str) kl) (table_fields g.number g.str.number in_line_str (tables_read g rs))
+    → EachOf (NotedIn str.plan (line_texts g InStr) ks) (table_fields g.number g.str.number InStr (tables_read g rs))
+    → EachOf (NotedIn line_str.plan (line_texts g InLineStr) kl) (table_fields g.number g.str.number InLineStr (tables_read g rs))
     → TablesAgree g (new_place g ks kl) (line_place m str line_str g) rs
 tables-agree g m str line_str ks kl p e [] whole reads s l ns nl = tt
 tables-agree g m str line_str ks kl p e (r ∷ rs) whole reads s l ns nl =
-    let a = each-parts (NotedIn str.plan (line_texts g in_str) ks) (text_fields g.number g.str.number in_str r.header.width (paths_of (table_read g r)))
-    (table_fields g.number g.str.number in_str (tables_read g rs)) ns in
-    let b = each-parts (NotedIn line_str.plan (line_texts g in_line_str) kl) (text_fields g.number g.str.number in_line_str r.header.width (paths_of (table_read g r)))
-    (table_fields g.number g.str.number in_line_str (tables_read g rs)) nl in (
+    let a = each-parts (NotedIn str.plan (line_texts g InStr) ks) (text_fields g.number g.str.number InStr r.header.width (paths_of (table_read g r)))
+    (table_fields g.number g.str.number InStr (tables_read g rs)) ns in
+    let b = each-parts (NotedIn line_str.plan (line_texts g InLineStr) kl) (text_fields g.number g.str.number InLineStr r.header.width (paths_of (table_read g r)))
+    (table_fields g.number g.str.number InLineStr (tables_read g rs)) nl in (
       paths-agree g m str line_str ks kl r.header.width (paths_of (table_read g r)) whole (table-paths g p r reads.0) s l a.0 b.0,
       tables-agree g m str line_str ks kl r.header.end e rs whole reads.1 s l a.1 b.1,
     )

@@ -2,7 +2,7 @@
 use Rattle.std.proofs.Common.{Bool, true, false, ◌≡◌, ℕ, ◌==◌, ◌&&◌, not, List, [], ◌∷◌, ◌++◌, length, if◌then◌else◌, refl, sym, ap, ◌∙◌}
 use Rattle.std.proofs.lemmas.Bool.{eq-eqb, ne_eqb, true≢false}
 use Rattle.dw_base.specs.Cells.{bytes_of, cells_at, offset_of}
-use Rattle.dw_base.specs.Forms.{TextSection, in_str, in_line_str, width_size}
+use Rattle.dw_base.specs.Forms.{width_size}
 use Rattle.dw_base.specs.LineChanges.{path_in, mention_in, paths_mentions, line_mentions}
 use Rattle.dw_base.specs.LineReadings.{LineReading, TablesTo, table_read}
 use Rattle.dw_base.specs.LineSources.{LineSource}
@@ -12,12 +12,14 @@ use Rattle.dw_base.specs.Texts.{ends_in, text_in}
 use Rattle.dw_base.specs.WrittenLines.{paths_of}
 use Rattle.dw_base.specs.declared.line_tables.TextPlace.{TextPlace}
 use Rattle.dw_base.specs.declared.shared.Width.{Width}
+use Rattle.dw_base.specs.declared.texts.TextField.{TextField}
+use Rattle.dw_base.specs.declared.texts.TextSection.{TextSection}
+use Rattle.dw_base.specs.declared.texts.TextSection.TheVariants.{InStr, InLineStr}
 use Rattle.dw_lines.specs.ViewTables.{tables_read}
 use Rattle.dw_meaning.proofs.FieldPutLaws.{width-some}
 use Rattle.dw_meaning.proofs.LineColumnLaws.{texts_in}
 use Rattle.dw_rewrite.specs.Changes.{FieldSource, offset_at, path_at, texts_at}
 use Rattle.dw_find.specs.ViewLines.{is_text_of, table_fields, text_field, text_fields}
-use Rattle.dw_find.specs.declared.fields.PathField.{PathField}
 use Rattle.dw_find.proofs.LinePlaceLaws.{EachReads, PathReads, named_there, stands_there, table-paths}
 use Rattle.dw_find.proofs.LineTextLaws.{TextsApart, named-offset}
 
@@ -34,7 +36,7 @@ texts_after-append : (plan : Plan) (m : PathMap) (ts : List (List ℕ)) (xs ys :
 texts_after-append plan m ts [] ys = refl
 texts_after-append plan m ts (x ∷ xs) ys = texts_after-append plan m (with_mention plan m ts x) xs ys
 
-pub texts_at-append : (plan : Plan) (m : PathMap) (s : FieldSource) (ts : List (List ℕ)) (fs gs : List PathField)
+pub texts_at-append : (plan : Plan) (m : PathMap) (s : FieldSource) (ts : List (List ℕ)) (fs gs : List TextField)
     → texts_at plan m s ts (fs ++ gs) ≡ texts_at plan m s (texts_at plan m s ts fs) gs
 texts_at-append plan m s ts [] gs = refl
 texts_at-append plan m s ts (f ∷ fs) gs = texts_at-append plan m s (with_mention plan m ts (path_at s f)) fs gs
@@ -52,46 +54,46 @@ text-offset g table w x whole (stands_there y is) e = absurd (by_table table e)
     here = eq-eqb x.section g.number is
 
     by_table : (t : TextSection) → is_text_of g.number g.str.number t x ≡ true → ⊥
-    by_table in_str e = true≢false (sym e ∙ ap (λ (a : Bool). not a && x.section == g.str.number) here)
-    by_table in_line_str e = true≢false (sym e ∙ ap (λ (a : Bool). not a && not (x.section == g.str.number)) here)
+    by_table InStr e = true≢false (sym e ∙ ap (λ (a : Bool). not a && x.section == g.str.number) here)
+    by_table InLineStr e = true≢false (sym e ∙ ap (λ (a : Bool). not a && not (x.section == g.str.number)) here)
 text-offset g table w x whole (named_there z n field room reads ends) e =
     by_table table z (named-offset g (texts_in g z) field (width_size w) n whole.own (width-some w) room reads) ends e
   where
     by_table : (t u : TextSection) → offset_of g.order (texts_in g u) (cells_at g.cells field (width_size w)) ≡ n → ends_in (texts_in g u).bytes n ≡ true
         → is_text_of g.number g.str.number t (record { section = (texts_in g u).number; at = n; len = length (text_in (texts_in g u).bytes n); field = field }) ≡ true
         → offset_of g.order (texts_in g t) (cells_at g.cells field (width_size w)) ≡ n
-    by_table in_str in_str number ends e = number
-    by_table in_line_str in_line_str number ends e = number
-    by_table in_str in_line_str number ends e =
+    by_table InStr InStr number ends e = number
+    by_table InLineStr InLineStr number ends e = number
+    by_table InStr InLineStr number ends e =
         let other : (g.line_str.number == g.str.number) ≡ false = ne_eqb g.line_str.number g.str.number (whole.apart n ends) in
         absurd (no-both (g.line_str.number == g.number) (ap (λ (b : Bool). not (g.line_str.number == g.number) && b) (sym other) ∙ e))
-    by_table in_line_str in_str number ends e =
+    by_table InLineStr InStr number ends e =
         let same : (g.str.number == g.str.number) ≡ true = eq-eqb g.str.number g.str.number refl in
         absurd (no-both (g.str.number == g.number) (ap (λ (b : Bool). not (g.str.number == g.number) && not b) (sym same) ∙ e))
 
 -- the text of a path
 path-texts : (g : LineSource) (table : TextSection) (w : Width) (plan : Plan) (m : PathMap) (ts : List (List ℕ)) (x : TextPlace) → IsWhole g → PathReads g w x
     → texts_after plan m ts (mention_in g table x) ≡ texts_at plan m (line_texts g table) ts (text_field g.number g.str.number table w x)
-path-texts g in_str w plan m ts x whole reads = by (x.section == g.number) (x.section == g.str.number) refl refl
+path-texts g InStr w plan m ts x whole reads = by (x.section == g.number) (x.section == g.str.number) refl refl
   where
     by : (a b : Bool) → (x.section == g.number) ≡ a → (x.section == g.str.number) ≡ b
         → texts_after plan m ts (if a then [] else (if b then path_in g.str.bytes x ∷ [] else []))
-        ≡ texts_at plan m (line_texts g in_str) ts (if (not a && b) then record { at = x.field; size = width_size w } ∷ [] else [])
+        ≡ texts_at plan m (line_texts g InStr) ts (if (not a && b) then record { at = x.field; size = width_size w } ∷ [] else [])
     by true b e f = refl
     by false false e f = refl
     by false true e f =
-        let says : is_text_of g.number g.str.number in_str x ≡ true = rw (e, f) refl in
-        ap (λ (n : ℕ). with_mention plan m ts (record { path = true; text = text_in g.str.bytes n })) (sym (text-offset g in_str w x whole reads says))
-path-texts g in_line_str w plan m ts x whole reads = by (x.section == g.number) (x.section == g.str.number) refl refl
+        let says : is_text_of g.number g.str.number InStr x ≡ true = rw (e, f) refl in
+        ap (λ (n : ℕ). with_mention plan m ts (record { path = true; text = text_in g.str.bytes n })) (sym (text-offset g InStr w x whole reads says))
+path-texts g InLineStr w plan m ts x whole reads = by (x.section == g.number) (x.section == g.str.number) refl refl
   where
     by : (a b : Bool) → (x.section == g.number) ≡ a → (x.section == g.str.number) ≡ b
         → texts_after plan m ts (if a then [] else (if b then [] else path_in g.line_str.bytes x ∷ []))
-        ≡ texts_at plan m (line_texts g in_line_str) ts (if (not a && not b) then record { at = x.field; size = width_size w } ∷ [] else [])
+        ≡ texts_at plan m (line_texts g InLineStr) ts (if (not a && not b) then record { at = x.field; size = width_size w } ∷ [] else [])
     by true b e f = refl
     by false true e f = refl
     by false false e f =
-        let says : is_text_of g.number g.str.number in_line_str x ≡ true = rw (e, f) refl in
-        ap (λ (n : ℕ). with_mention plan m ts (record { path = true; text = text_in g.line_str.bytes n })) (sym (text-offset g in_line_str w x whole reads says))
+        let says : is_text_of g.number g.str.number InLineStr x ≡ true = rw (e, f) refl in
+        ap (λ (n : ℕ). with_mention plan m ts (record { path = true; text = text_in g.line_str.bytes n })) (sym (text-offset g InLineStr w x whole reads says))
 
 paths-texts : (g : LineSource) (table : TextSection) (w : Width) (plan : Plan) (m : PathMap) (ts : List (List ℕ)) (xs : List TextPlace) → IsWhole g → EachReads g w xs
     → texts_after plan m ts (paths_mentions g table xs) ≡ texts_at plan m (line_texts g table) ts (text_fields g.number g.str.number table w xs)

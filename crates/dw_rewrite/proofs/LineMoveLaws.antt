@@ -30,10 +30,10 @@ use Rattle.elf_relocs.specs.declared.runs.Run.{Run}
 use Rattle.dw_lines.specs.TableMoves.{PathsInOrder, new_end, offsets_from, runs_from}
 use Rattle.dw_lines.specs.ViewSources.{view_source}
 use Rattle.dw_lines.specs.ViewTables.{TablesFound, tables_read}
-use Rattle.dw_lines.specs.declared.moves.FieldOffset.{FieldOffset}
 use Rattle.dw_lines.proofs.MoveLaws.{offsets-append, runs-append}
 use Rattle.dw_lines.proofs.ReadingLaws.{source-is}
 use Rattle.dw_lines.proofs.TableRunLaws.{clear-order, table-end}
+use Rattle.dw_lines.specs.declared.moves.NewFieldOffset.{NewFieldOffset}
 use Rattle.dw_rewrite.specs.LineOffsets.{AllMove, StartsKnown, TableMoves, line_offsets, line_runs, stretches_known}
 use Rattle.dw_rewrite.specs.NewLines.{AllStandIn, LinesWritten, StandsIn, lines_known}
 use Rattle.dw_rewrite.proofs.LineReadLaws.{all-stand}
@@ -138,20 +138,20 @@ table-here m g ks kl place new t ts (n ∷ ns) (suc i) h =
     record { inside = omega (arith, inside); moves = r.moves; rest = r.rest }
 
 -- where a pass over tables stands
-pub record MovePass (m : PathMap) (g : LineSource) (ks kl : ℕ → Option ℕ) (ts : List LineTable) (ns : List ℕ) (runs : List Run) (offsets : List FieldOffset) (i : ℕ) : Type 0 where
+pub record MovePass (m : PathMap) (g : LineSource) (ks kl : ℕ → Option ℕ) (ts : List LineTable) (ns : List ℕ) (runs : List Run) (offsets : List NewFieldOffset) (i : ℕ) : Type 0 where
   pub place : ℕ
   pub new : ℕ
   pub runs_are : runs ++ runs_from place new (stretches_known m g ks kl (drop i ts)) ≡ line_runs m g ks kl ts
   pub offsets_are : offsets ++ offsets_from place (stretches_known m g ks kl (drop i ts)) ≡ line_offsets m g ks kl ts
   pub moves : AllMove m g ks kl place new (drop i ts) (drop i ns)
 
-pub pass-starts : (m : PathMap) (g : LineSource) (ks kl : ℕ → Option ℕ) (ts : List LineTable) (ns : List ℕ) (runs : List Run) (offsets : List FieldOffset) → runs ≡ [] → offsets ≡ []
+pub pass-starts : (m : PathMap) (g : LineSource) (ks kl : ℕ → Option ℕ) (ts : List LineTable) (ns : List ℕ) (runs : List Run) (offsets : List NewFieldOffset) → runs ≡ [] → offsets ≡ []
     → AllMove m g ks kl 0 0 ts ns → MovePass m g ks kl ts ns runs offsets 0
 pass-starts m g ks kl ts ns runs offsets r o moves = record {
   place = 0;
   new = 0;
   runs_are = ap (λ (l : List Run). l ++ line_runs m g ks kl ts) r;
-  offsets_are = ap (λ (l : List FieldOffset). l ++ line_offsets m g ks kl ts) o;
+  offsets_are = ap (λ (l : List NewFieldOffset). l ++ line_offsets m g ks kl ts) o;
   moves = moves;
 }
 
@@ -160,26 +160,26 @@ front ts t i lt is =
     let next : suc i ≡ i + 1 = omega arith in
     drop-cons ts i t lt ∙ ap (λ (x : LineTable). x ∷ drop (suc i) ts) (sym is) ∙ ap (λ (n : ℕ). t ∷ drop n ts) next
 
-here : (m : PathMap) (g : LineSource) (ks kl : ℕ → Option ℕ) (ts : List LineTable) (ns : List ℕ) (runs : List Run) (offsets : List FieldOffset) (i : ℕ) (t : LineTable)
+here : (m : PathMap) (g : LineSource) (ks kl : ℕ → Option ℕ) (ts : List LineTable) (ns : List ℕ) (runs : List Run) (offsets : List NewFieldOffset) (i : ℕ) (t : LineTable)
     (p : MovePass m g ks kl ts ns runs offsets i) → i < length ts → t ≡ get_or ts i t → TableHere m g ks kl p.place p.new t (drop (i + 1) ts) ns i
 here m g ks kl ts ns runs offsets i t p lt is =
     table-here m g ks kl p.place p.new t (drop (i + 1) ts) ns i (subst (λ (us : List LineTable). AllMove m g ks kl p.place p.new us (drop i ns)) (front ts t i lt is) p.moves)
 
 -- its start is there, and it moves from there
-pub pass-inside : (m : PathMap) (g : LineSource) (ks kl : ℕ → Option ℕ) (ts : List LineTable) (ns : List ℕ) (runs : List Run) (offsets : List FieldOffset) (i : ℕ) (t : LineTable)
+pub pass-inside : (m : PathMap) (g : LineSource) (ks kl : ℕ → Option ℕ) (ts : List LineTable) (ns : List ℕ) (runs : List Run) (offsets : List NewFieldOffset) (i : ℕ) (t : LineTable)
     → MovePass m g ks kl ts ns runs offsets i → i < length ts → t ≡ get_or ts i t → i < length ns
 pass-inside m g ks kl ts ns runs offsets i t p lt is = (here m g ks kl ts ns runs offsets i t p lt is).inside
 
-pub pass-stands : (m : PathMap) (g : LineSource) (ks kl : ℕ → Option ℕ) (ts : List LineTable) (ns : List ℕ) (runs : List Run) (offsets : List FieldOffset) (i : ℕ) (t : LineTable)
+pub pass-stands : (m : PathMap) (g : LineSource) (ks kl : ℕ → Option ℕ) (ts : List LineTable) (ns : List ℕ) (runs : List Run) (offsets : List NewFieldOffset) (i : ℕ) (t : LineTable)
     → MovePass m g ks kl ts ns runs offsets i → i < length ts → t ≡ get_or ts i t → StandsIn g t
 pass-stands m g ks kl ts ns runs offsets i t p lt is = (here m g ks kl ts ns runs offsets i t p lt is).moves.stands
 
-pub pass-order : (m : PathMap) (g : LineSource) (ks kl : ℕ → Option ℕ) (ts : List LineTable) (ns : List ℕ) (runs : List Run) (offsets : List FieldOffset) (i : ℕ) (t : LineTable)
+pub pass-order : (m : PathMap) (g : LineSource) (ks kl : ℕ → Option ℕ) (ts : List LineTable) (ns : List ℕ) (runs : List Run) (offsets : List NewFieldOffset) (i : ℕ) (t : LineTable)
     → MovePass m g ks kl ts ns runs offsets i → i < length ts → t ≡ get_or ts i t → PathsInOrder g m (new_place g ks kl) t
 pass-order m g ks kl ts ns runs offsets i t p lt is = (here m g ks kl ts ns runs offsets i t p lt is).moves.order
 
 -- one table more
-pub pass-more : (m : PathMap) (g : LineSource) (ks kl : ℕ → Option ℕ) (ts : List LineTable) (ns : List ℕ) (runs more : List Run) (offsets fields : List FieldOffset) (i n : ℕ) (t : LineTable)
+pub pass-more : (m : PathMap) (g : LineSource) (ks kl : ℕ → Option ℕ) (ts : List LineTable) (ns : List ℕ) (runs more : List Run) (offsets fields : List NewFieldOffset) (i n : ℕ) (t : LineTable)
     → MovePass m g ks kl ts ns runs offsets i → i < length ts → t ≡ get_or ts i t → n ≡ get_or ns i 0
     → more ≡ runs ++ runs_from t.start n (table_stretches g m (new_place g ks kl) t) → fields ≡ offsets ++ offsets_from t.start (table_stretches g m (new_place g ks kl) t)
     → MovePass m g ks kl ts ns more fields (i + 1)
@@ -201,20 +201,20 @@ pass-more m g ks kl ts ns runs more offsets fields i n t p lt is start e f =
           ∙ append_assoc runs (runs_from p.place p.new xs) (runs_from (stretches_end p.place xs) (new_end p.new xs) rest)
           ∙ ap (λ (l : List Run). runs ++ l) (sym (runs-append p.place p.new xs rest))
           ∙ ap (λ (us : List LineTable). runs ++ runs_from p.place p.new (stretches_known m g ks kl us)) (sym cut) ∙ p.runs_are;
-      offsets_are = ap (λ (l : List FieldOffset). l ++ offsets_from (stretches_end p.place xs) rest) said
+      offsets_are = ap (λ (l : List NewFieldOffset). l ++ offsets_from (stretches_end p.place xs) rest) said
           ∙ append_assoc offsets (offsets_from p.place xs) (offsets_from (stretches_end p.place xs) rest)
-          ∙ ap (λ (l : List FieldOffset). offsets ++ l) (sym (offsets-append p.place xs rest))
+          ∙ ap (λ (l : List NewFieldOffset). offsets ++ l) (sym (offsets-append p.place xs rest))
           ∙ ap (λ (us : List LineTable). offsets ++ offsets_from p.place (stretches_known m g ks kl us)) (sym cut) ∙ p.offsets_are;
       moves = subst (λ (k : ℕ). AllMove m g ks kl (stretches_end p.place (table_stretches g m (new_place g ks kl) t)) (new_end p.new (table_stretches g m (new_place g ks kl) t))
           (drop (i + 1) ts) (drop k ns)) next h.rest;
     }
 
-pub pass-runs : (m : PathMap) (g : LineSource) (ks kl : ℕ → Option ℕ) (ts : List LineTable) (ns : List ℕ) (runs : List Run) (offsets : List FieldOffset) (i : ℕ) → length ts ≤ i
+pub pass-runs : (m : PathMap) (g : LineSource) (ks kl : ℕ → Option ℕ) (ts : List LineTable) (ns : List ℕ) (runs : List Run) (offsets : List NewFieldOffset) (i : ℕ) → length ts ≤ i
     → MovePass m g ks kl ts ns runs offsets i → runs ≡ line_runs m g ks kl ts
 pass-runs m g ks kl ts ns runs offsets i end p =
     sym (append-nil runs) ∙ ap (λ (us : List LineTable). runs ++ runs_from p.place p.new (stretches_known m g ks kl us)) (sym (drop_all i ts end)) ∙ p.runs_are
 
-pub pass-offsets : (m : PathMap) (g : LineSource) (ks kl : ℕ → Option ℕ) (ts : List LineTable) (ns : List ℕ) (runs : List Run) (offsets : List FieldOffset) (i : ℕ) → length ts ≤ i
+pub pass-offsets : (m : PathMap) (g : LineSource) (ks kl : ℕ → Option ℕ) (ts : List LineTable) (ns : List ℕ) (runs : List Run) (offsets : List NewFieldOffset) (i : ℕ) → length ts ≤ i
     → MovePass m g ks kl ts ns runs offsets i → offsets ≡ line_offsets m g ks kl ts
 pass-offsets m g ks kl ts ns runs offsets i end p =
     sym (append-nil offsets) ∙ ap (λ (us : List LineTable). offsets ++ offsets_from p.place (stretches_known m g ks kl us)) (sym (drop_all i ts end)) ∙ p.offsets_are
@@ -235,7 +235,7 @@ pub runs-there : (m : PathMap) (v : View) (i new : ℕ) (ks kl : ℕ → Option 
 runs-there m v i new ks kl t runs more s e =
     e ∙ ap (λ (n : ℕ). runs ++ runs_from t.start new (table_stretches (view_source v n) m (new_place (view_source v n) ks kl) t)) s.section
 
-pub offsets-there : (m : PathMap) (v : View) (i : ℕ) (ks kl : ℕ → Option ℕ) (t : LineTable) (offsets more : List FieldOffset) → StandsIn (view_source v i) t
+pub offsets-there : (m : PathMap) (v : View) (i : ℕ) (ks kl : ℕ → Option ℕ) (t : LineTable) (offsets more : List NewFieldOffset) → StandsIn (view_source v i) t
     → more ≡ offsets ++ offsets_from t.start (table_stretches (view_source v t.section) m (new_place (view_source v t.section) ks kl) t)
     → more ≡ offsets ++ offsets_from t.start (table_stretches (view_source v i) m (new_place (view_source v i) ks kl) t)
 offsets-there m v i ks kl t offsets more s e =

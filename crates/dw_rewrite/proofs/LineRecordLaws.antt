@@ -44,9 +44,9 @@ use Rattle.dw_view.specs.Firsts.{held_source}
 use Rattle.dw_lines.specs.TableMoves.{offsets_from, runs_from}
 use Rattle.dw_lines.specs.ViewSources.{view_source}
 use Rattle.dw_lines.specs.ViewTables.{TablesFound, tables_read}
-use Rattle.dw_lines.specs.declared.moves.FieldOffset.{FieldOffset}
 use Rattle.dw_lines.proofs.MoveLaws.{stretches-rise}
 use Rattle.dw_lines.proofs.ReadingLaws.{source-is}
+use Rattle.dw_lines.specs.declared.moves.NewFieldOffset.{NewFieldOffset}
 use Rattle.elf_relocs.specs.Runs.{RunsRise}
 use Rattle.elf_relocs.specs.declared.runs.Run.{Run}
 use Rattle.dw_rewrite.specs.LineOffsets.{LinesFit, OffsetMisses, OffsetsInside, OffsetsMake, OffsetsRise, OffsetsSized, StartsKnown, held_lines, line_offsets, line_record, line_runs, said_fields, stretches_known}
@@ -65,30 +65,30 @@ pub runs-fit : (m : PathMap) (g : LineSource) (ks kl : ℕ → Option ℕ) (ts :
     → PlacesFit z (line_runs m g ks kl ts) → PlacesFit z slice
 runs-fit m g ks kl ts z items slice e s h = subst (PlacesFit z) (sym (s ∙ e)) h
 
-pub offsets-are-sized : (m : PathMap) (g : LineSource) (ks kl : ℕ → Option ℕ) (ts : List LineTable) (items slice : List FieldOffset) → items ≡ line_offsets m g ks kl ts → slice ≡ items
+pub offsets-are-sized : (m : PathMap) (g : LineSource) (ks kl : ℕ → Option ℕ) (ts : List LineTable) (items slice : List NewFieldOffset) → items ≡ line_offsets m g ks kl ts → slice ≡ items
     → OffsetsSized slice
 offsets-are-sized m g ks kl ts items slice e s = subst OffsetsSized (sym (s ∙ e)) (offsets-sized m g ks kl ts)
 
-pub offsets-do-rise : (m : PathMap) (g : LineSource) (ks kl : ℕ → Option ℕ) (ts : List LineTable) (items slice : List FieldOffset) → items ≡ line_offsets m g ks kl ts → slice ≡ items
+pub offsets-do-rise : (m : PathMap) (g : LineSource) (ks kl : ℕ → Option ℕ) (ts : List LineTable) (items slice : List NewFieldOffset) → items ≡ line_offsets m g ks kl ts → slice ≡ items
     → OffsetsRise 0 slice
 offsets-do-rise m g ks kl ts items slice e s = subst (OffsetsRise 0) (sym (s ∙ e)) (offsets-rise 0 (stretches_known m g ks kl ts))
 
-pub offsets-lie-inside : (m : PathMap) (g : LineSource) (ks kl : ℕ → Option ℕ) (ts : List LineTable) (items slice : List FieldOffset) (old cells : List Cell)
+pub offsets-lie-inside : (m : PathMap) (g : LineSource) (ks kl : ℕ → Option ℕ) (ts : List LineTable) (items slice : List NewFieldOffset) (old cells : List Cell)
     → items ≡ line_offsets m g ks kl ts → slice ≡ items → cells ≡ old → OffsetsInside (length old) (line_offsets m g ks kl ts) → OffsetsInside (length cells) slice
 offsets-lie-inside m g ks kl ts items slice old cells e s c h =
     subst (λ (cs : List Cell). OffsetsInside (length cs) slice) (sym c) (subst (OffsetsInside (length old)) (sym (s ∙ e)) h)
 
-pub offsets-make : (m : PathMap) (g : LineSource) (ks kl : ℕ → Option ℕ) (ts : List LineTable) (items slice : List FieldOffset) (old cells : List Cell)
+pub offsets-make : (m : PathMap) (g : LineSource) (ks kl : ℕ → Option ℕ) (ts : List LineTable) (items slice : List NewFieldOffset) (old cells : List Cell)
     → items ≡ line_offsets m g ks kl ts → slice ≡ items → cells ≡ old → OffsetsMake cells slice → OffsetsMake old (line_offsets m g ks kl ts)
 offsets-make m g ks kl ts items slice old cells e s c h =
     subst (OffsetsMake old) (s ∙ e) (subst (λ (cs : List Cell). OffsetsMake cs slice) c h)
 
-pub offsets-miss : (m : PathMap) (g : LineSource) (ks kl : ℕ → Option ℕ) (ts : List LineTable) (n : ℕ) (items slice : List FieldOffset) (old cells : List Cell) (f : Fault)
+pub offsets-miss : (m : PathMap) (g : LineSource) (ks kl : ℕ → Option ℕ) (ts : List LineTable) (n : ℕ) (items slice : List NewFieldOffset) (old cells : List Cell) (f : Fault)
     → items ≡ line_offsets m g ks kl ts → slice ≡ items → cells ≡ old → Blames (OffsetMisses n cells slice) f → Blames (OffsetMisses n old (line_offsets m g ks kl ts)) f
 offsets-miss m g ks kl ts n items slice old cells f e s c h =
-    subst (λ (fs : List FieldOffset). Blames (OffsetMisses n old fs) f) (s ∙ e) (subst (λ (cs : List Cell). Blames (OffsetMisses n cs slice) f) c h)
+    subst (λ (fs : List NewFieldOffset). Blames (OffsetMisses n old fs) f) (s ∙ e) (subst (λ (cs : List Cell). Blames (OffsetMisses n cs slice) f) c h)
 
-pub moved-is : (m : PathMap) (g : LineSource) (ks kl : ℕ → Option ℕ) (ts : List LineTable) (z : RelocationSource) (runs run_slice : List Run) (items slice : List FieldOffset)
+pub moved-is : (m : PathMap) (g : LineSource) (ks kl : ℕ → Option ℕ) (ts : List LineTable) (z : RelocationSource) (runs run_slice : List Run) (items slice : List NewFieldOffset)
     (said : List Patch) (bytes : List ℕ) → runs ≡ line_runs m g ks kl ts → run_slice ≡ runs → items ≡ line_offsets m g ks kl ts → slice ≡ items → said ≡ said_fields slice
     → bytes ≡ moved_table z run_slice said → bytes ≡ moved_table z (line_runs m g ks kl ts) (said_fields (line_offsets m g ks kl ts))
 moved-is m g ks kl ts z runs run_slice items slice said bytes r rs e s told is =

@@ -37,8 +37,8 @@ use Rattle.elf_layout.specs.declared.patch.Patch.{Patch}
 use Rattle.dw_patch.proofs.SaidCellLaws.{NoneBegin, said-kept, said-put}
 use Rattle.dw_lines.specs.TableMoves.{kept_run, offsets_from, runs_from, stretch_new, stretch_offset, stretch_run}
 use Rattle.dw_lines.specs.ViewTables.{tables_read}
-use Rattle.dw_lines.specs.declared.moves.FieldOffset.{FieldOffset}
 use Rattle.dw_lines.proofs.MoveLaws.{runs-order, stretch-length}
+use Rattle.dw_lines.specs.declared.moves.NewFieldOffset.{NewFieldOffset}
 use Rattle.dw_rewrite.specs.LineOffsets.{OffsetsRise, OffsetsSized, line_offsets, said_field, said_fields, stretches_known}
 use Rattle.dw_rewrite.proofs.RecordSayLaws.{Carried, carried_new, carried_none, carried_old, carried-append, carried-table, said-carried}
 
@@ -225,7 +225,7 @@ lines-table z bytes g m places rs is records own apart clear tables =
     (section-carried g m places rs own apart clear tables))
 
 -- the fields rise, so each is added where none begins
-offsets-further : (p q : ℕ) (fs : List FieldOffset) → p ≤ q → OffsetsRise q fs → OffsetsRise p fs
+offsets-further : (p q : ℕ) (fs : List NewFieldOffset) → p ≤ q → OffsetsRise q fs → OffsetsRise p fs
 offsets-further p q [] le h = tt
 offsets-further p q (f ∷ fs) le h = let here = h.0 in (omega (arith, le, here), h.1)
 
@@ -237,7 +237,7 @@ offsets-rise a (offset_stretch zero to ∷ xs) = offsets-further a (a + 0) (offs
 offsets-rise a (offset_stretch (suc n) to ∷ xs) =
     (omega arith, offsets-further (suc a) (a + suc n) (offsets_from (a + suc n) xs) (omega arith) (offsets-rise (a + suc n) xs))
 
-rise-behind : (p i : ℕ) (d : FieldOffset) (fs : List FieldOffset) → OffsetsRise p fs → i < length fs → p ≤ (get_or fs i d).at
+rise-behind : (p i : ℕ) (d : NewFieldOffset) (fs : List NewFieldOffset) → OffsetsRise p fs → i < length fs → p ≤ (get_or fs i d).at
 rise-behind p i d [] h lt = absurd (omega (arith, lt))
 rise-behind p zero d (f ∷ fs) h lt = h.0
 rise-behind p (suc i) d (f ∷ fs) h lt =
@@ -245,7 +245,7 @@ rise-behind p (suc i) d (f ∷ fs) h lt =
     let more = rise-behind (suc f.at) i d fs h.1 (omega (arith, lt)) in
     omega (arith, here, more)
 
-pub offset-other : (p i : ℕ) (d : FieldOffset) (fs : List FieldOffset) → OffsetsRise p fs → i < length fs → patch_for (said_fields (take i fs)) (get_or fs i d).at ≡ None
+pub offset-other : (p i : ℕ) (d : NewFieldOffset) (fs : List NewFieldOffset) → OffsetsRise p fs → i < length fs → patch_for (said_fields (take i fs)) (get_or fs i d).at ≡ None
 offset-other p i d [] h lt = absurd (omega (arith, lt))
 offset-other p zero d (f ∷ fs) h lt = refl
 offset-other p (suc i) d (f ∷ fs) h lt =
@@ -255,7 +255,7 @@ offset-other p (suc i) d (f ∷ fs) h lt =
     ∙ offset-other (suc f.at) i d fs h.1 (omega (arith, lt))
 
 -- each has the size of its table's offsets
-pub sized-at : (i : ℕ) (d : FieldOffset) (fs : List FieldOffset) → OffsetsSized fs → i < length fs → ((get_or fs i d).size ≡ 4) ⊎ ((get_or fs i d).size ≡ 8)
+pub sized-at : (i : ℕ) (d : NewFieldOffset) (fs : List NewFieldOffset) → OffsetsSized fs → i < length fs → ((get_or fs i d).size ≡ 4) ⊎ ((get_or fs i d).size ≡ 8)
 sized-at i d [] h lt = absurd (omega (arith, lt))
 sized-at zero d (f ∷ fs) h lt = h.0
 sized-at (suc i) d (f ∷ fs) h lt = sized-at i d fs h.1 (omega (arith, lt))

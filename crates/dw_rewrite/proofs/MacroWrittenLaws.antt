@@ -6,7 +6,6 @@ use Rattle.std.proofs.lemmas.List.{drop-drop, length-append}
 use Rattle.dw_base.specs.Cells.{Cell, CellSection, bytes_of}
 use Rattle.dw_base.specs.DebugData.{Around, DataReadings, around_of, table_of}
 use Rattle.dw_base.specs.FileViews.{View, section_bytes, view_cells}
-use Rattle.dw_base.specs.Forms.{TextSection, in_str, in_line_str}
 use Rattle.dw_base.specs.MacroPieces.{of_text, of_unit, MacroMode, at_unit, at_line, at_operation, at_offset, no_macros, MacroState, ReadsMacros, macros_at, macro_grammar}
 use Rattle.dw_base.specs.MacroReadings.{MacroReading, ReadsAllMacros}
 use Rattle.dw_base.specs.Paths.{PathMap}
@@ -21,12 +20,14 @@ use Rattle.dw_base.proofs.UnitEditLaws.{length-bytes_of}
 use Rattle.dw_base.proofs.UnitHeaderLaws.{bytes_of-append}
 use Rattle.dw_base.proofs.ViewCellLaws.{bytes_of-view_cells}
 use Rattle.dw_base.specs.declared.debug_sections.DebugSection.TheVariants.{Str, LineStr, Macro}
+use Rattle.dw_base.specs.declared.texts.TextField.{TextField}
+use Rattle.dw_base.specs.declared.texts.TextSection.{TextSection}
+use Rattle.dw_base.specs.declared.texts.TextSection.TheVariants.{InStr, InLineStr}
 use Rattle.dw_meaning.specs.DataOutput.{Body, changes_of, macro_bodies, table_change}
 use Rattle.dw_meaning.proofs.MacroPieceLaws.{CellsOf}
 use Rattle.dw_find.specs.MacroSections.{macro_starts, macros_read, macros_with}
-use Rattle.dw_find.specs.UnitPaths.{field_by, inline_by, start_by}
+use Rattle.dw_find.specs.SectionFields.{field_by, inline_by, start_by}
 use Rattle.dw_find.specs.declared.fields.InlinePath.{InlinePath}
-use Rattle.dw_find.specs.declared.fields.PathField.{PathField}
 use Rattle.dw_find.proofs.MacroHaveLaws.{AllCells}
 use Rattle.dw_find.proofs.MacroStartLaws.{all-cells}
 use Rattle.dw_find.proofs.PieceFieldLaws.{FieldsFrom, from-less, from-start}
@@ -39,20 +40,20 @@ use Rattle.dw_rewrite.proofs.UnitWrittenLaws.{length-edited, piece_written, unit
 -- macro units add no text
 macro-texts : (mode : MacroMode) (table : TextSection) (plan : Plan) (m : PathMap) (around : Around) (ts : List (List ℕ)) (p : List Cell) (more : List Mention)
     → plan ≡ appending m (table_of around table).bytes → texts_after plan m ts (mentions_by (macro_role_by mode) table around p ++ more) ≡ texts_after plan m ts more
-macro-texts at_unit in_str plan m around ts p more is = refl
-macro-texts at_unit in_line_str plan m around ts p more is = refl
-macro-texts (at_line width) in_str plan m around ts p more is = refl
-macro-texts (at_line width) in_line_str plan m around ts p more is = refl
-macro-texts (at_operation width) in_str plan m around ts p more is = refl
-macro-texts (at_operation width) in_line_str plan m around ts p more is = refl
-macro-texts (at_offset width (of_text defines line)) in_str plan m around ts p more is =
-    let none : with_mention plan m ts (mention_at around in_str false p) ≡ ts = rw is refl in
+macro-texts at_unit InStr plan m around ts p more is = refl
+macro-texts at_unit InLineStr plan m around ts p more is = refl
+macro-texts (at_line width) InStr plan m around ts p more is = refl
+macro-texts (at_line width) InLineStr plan m around ts p more is = refl
+macro-texts (at_operation width) InStr plan m around ts p more is = refl
+macro-texts (at_operation width) InLineStr plan m around ts p more is = refl
+macro-texts (at_offset width (of_text defines line)) InStr plan m around ts p more is =
+    let none : with_mention plan m ts (mention_at around InStr false p) ≡ ts = rw is refl in
     ap (λ (us : List (List ℕ)). texts_after plan m us more) none
-macro-texts (at_offset width (of_text defines line)) in_line_str plan m around ts p more is = refl
-macro-texts (at_offset width of_unit) in_str plan m around ts p more is = refl
-macro-texts (at_offset width of_unit) in_line_str plan m around ts p more is = refl
-macro-texts no_macros in_str plan m around ts p more is = refl
-macro-texts no_macros in_line_str plan m around ts p more is = refl
+macro-texts (at_offset width (of_text defines line)) InLineStr plan m around ts p more is = refl
+macro-texts (at_offset width of_unit) InStr plan m around ts p more is = refl
+macro-texts (at_offset width of_unit) InLineStr plan m around ts p more is = refl
+macro-texts no_macros InStr plan m around ts p more is = refl
+macro-texts no_macros InLineStr plan m around ts p more is = refl
 
 pieces-texts : (table : TextSection) (plan : Plan) (m : PathMap) (around : Around) (ts : List (List ℕ)) (xs : List (Piece MacroState)) (more : List Mention)
     → plan ≡ appending m (table_of around table).bytes → texts_after plan m ts (mentions_with macro_role table around xs ++ more) ≡ texts_after plan m ts more
@@ -71,23 +72,23 @@ macros-texts table plan m around ts (r ∷ rs) is =
 -- nor do their fields
 pub macros-say : (m : PathMap) (v : View) (table : TextSection) (ts : List (List ℕ)) (rs : List MacroReading) → all_texts_at m v table ts (macros_read rs) ≡ ts
 macros-say m v table ts [] = refl
-macros-say m v in_str ts (r ∷ rs) = macros-say m v in_str ts rs
-macros-say m v in_line_str ts (r ∷ rs) = macros-say m v in_line_str ts rs
+macros-say m v InStr ts (r ∷ rs) = macros-say m v InStr ts rs
+macros-say m v InLineStr ts (r ∷ rs) = macros-say m v InLineStr ts rs
 
 -- none of their pieces holds a path
 pub no-path : (table : TextSection) (mode : MacroMode) (place size : ℕ) → field_by table (macro_role_by mode) place size ≡ []
-no-path in_str at_unit place size = refl
-no-path in_line_str at_unit place size = refl
-no-path in_str (at_line width) place size = refl
-no-path in_line_str (at_line width) place size = refl
-no-path in_str (at_operation width) place size = refl
-no-path in_line_str (at_operation width) place size = refl
-no-path in_str (at_offset width (of_text defines line)) place size = refl
-no-path in_line_str (at_offset width (of_text defines line)) place size = refl
-no-path in_str (at_offset width of_unit) place size = refl
-no-path in_line_str (at_offset width of_unit) place size = refl
-no-path in_str no_macros place size = refl
-no-path in_line_str no_macros place size = refl
+no-path InStr at_unit place size = refl
+no-path InLineStr at_unit place size = refl
+no-path InStr (at_line width) place size = refl
+no-path InLineStr (at_line width) place size = refl
+no-path InStr (at_operation width) place size = refl
+no-path InLineStr (at_operation width) place size = refl
+no-path InStr (at_offset width (of_text defines line)) place size = refl
+no-path InLineStr (at_offset width (of_text defines line)) place size = refl
+no-path InStr (at_offset width of_unit) place size = refl
+no-path InLineStr (at_offset width of_unit) place size = refl
+no-path InStr no_macros place size = refl
+no-path InLineStr no_macros place size = refl
 
 no-inline : (mode : MacroMode) (place : ℕ) (p : List Cell) → inline_by (macro_role_by mode) place p ≡ []
 no-inline at_unit place p = refl
@@ -125,7 +126,7 @@ macros_written c a order cells front s place (x ∷ xs) str line at stands chain
     let r : Role = macro_role x.state in
     let q : List Cell = edited_by (macro_role x.state) c a x.cells in
     let rest : List ℕ = bytes_of (joined xs) in
-    let hs : List PathField = macro_starts xs in
+    let hs : List TextField = macro_starts xs in
     let here : x.state.place ≡ place = ap (λ (z : MacroState). z.place) chain.0 ∙ stands in
     let next : x.state.place + length x.cells ≡ place + length x.cells = ap (λ (i : ℕ). i + length x.cells) here in
     let behind : joined xs ≡ drop (place + length x.cells) cells =
@@ -135,11 +136,11 @@ macros_written c a order cells front s place (x ∷ xs) str line at stands chain
     let long : length (front ++ bytes_of q) ≡ place + length x.cells = length-append front (bytes_of q) ∙ omega (arith, at, size, length-bytes_of q) in
     ap (λ (i : ℕ). unit_by c a cells [] [] (start_by (macro_role x.state) i (length x.cells) ++ hs) [] (front ++ bytes_of (x.cells ++ joined xs))) here
     ∙ ap (λ (b : List ℕ). unit_by c a cells [] [] (start_by (macro_role x.state) place (length x.cells) ++ hs) [] (front ++ b)) (bytes_of-append x.cells (joined xs))
-    ∙ ap (λ (fs : List PathField). unit_by c a cells (fs ++ []) [] (start_by (macro_role x.state) place (length x.cells) ++ hs) [] (front ++ (bytes_of x.cells ++ rest)))
-    (sym (no-path in_str x.state.mode place (length x.cells)))
-    ∙ ap (λ (gs : List PathField). unit_by c a cells (field_by in_str (macro_role x.state) place (length x.cells) ++ []) (gs ++ []) (start_by (macro_role x.state) place (length x.cells) ++ hs) []
-    (front ++ (bytes_of x.cells ++ rest))) (sym (no-path in_line_str x.state.mode place (length x.cells)))
-    ∙ ap (λ (is : List InlinePath). unit_by c a cells (field_by in_str (macro_role x.state) place (length x.cells) ++ []) (field_by in_line_str (macro_role x.state) place (length x.cells) ++ [])
+    ∙ ap (λ (fs : List TextField). unit_by c a cells (fs ++ []) [] (start_by (macro_role x.state) place (length x.cells) ++ hs) [] (front ++ (bytes_of x.cells ++ rest)))
+    (sym (no-path InStr x.state.mode place (length x.cells)))
+    ∙ ap (λ (gs : List TextField). unit_by c a cells (field_by InStr (macro_role x.state) place (length x.cells) ++ []) (gs ++ []) (start_by (macro_role x.state) place (length x.cells) ++ hs) []
+    (front ++ (bytes_of x.cells ++ rest))) (sym (no-path InLineStr x.state.mode place (length x.cells)))
+    ∙ ap (λ (is : List InlinePath). unit_by c a cells (field_by InStr (macro_role x.state) place (length x.cells) ++ []) (field_by InLineStr (macro_role x.state) place (length x.cells) ++ [])
     (start_by (macro_role x.state) place (length x.cells) ++ hs) (is ++ []) (front ++ (bytes_of x.cells ++ rest))) (sym (no-inline x.state.mode place x.cells))
     ∙ piece_written (macro_role x.state) c a cells front x.cells (joined xs) rest place [] [] hs [] str line at e fits tt tt
     (from-macros order ((macro_grammar order).next x.state x.cells) (place + length x.cells) xs next chain.2)
@@ -151,7 +152,7 @@ macros_written c a order cells front s place (x ∷ xs) str line at stands chain
 -- the new bytes of a section are those of its edited pieces
 macro-body : (m : PathMap) (v : View) (all : DataReadings) (z : CellSection) (r : MacroReading) → CellsOf v z.number z.contents → r.number ≡ z.number
     → ReadsMacros (debug_data v).base.order z.contents r.pieces
-    → section_after m v (table_change m in_str (around_of (debug_data v) all) all).texts (table_change m in_line_str (around_of (debug_data v) all) all).texts (starts_after m v all)
+    → section_after m v (table_change m InStr (around_of (debug_data v) all) all).texts (table_change m InLineStr (around_of (debug_data v) all) all).texts (starts_after m v all)
     (macros_with r.number (macro_starts r.pieces))
     ≡ bytes_of (joined (edited_with macro_role (changes_of m (around_of (debug_data v) all) all) (around_of (debug_data v) all) r.pieces))
 unfolding section_after table_change debug_data
@@ -164,20 +165,20 @@ macro-body m v all z r of number reads =
     refl refl refl refl reads.chain cells
 
 all-bodies : (m : PathMap) (v : View) (all : DataReadings) (zs : List CellSection) (rs : List MacroReading) → AllCells v zs → ReadsAllMacros (debug_data v).base.order zs rs
-    → bodies_after m v (table_change m in_str (around_of (debug_data v) all) all).texts (table_change m in_line_str (around_of (debug_data v) all) all).texts (starts_after m v all) (macros_read rs)
+    → bodies_after m v (table_change m InStr (around_of (debug_data v) all) all).texts (table_change m InLineStr (around_of (debug_data v) all) all).texts (starts_after m v all) (macros_read rs)
     ≡ macro_bodies (edited_macros (changes_of m (around_of (debug_data v) all) all) (around_of (debug_data v) all) rs)
 all-bodies m v all [] [] cells reads = refl
 all-bodies m v all [] (r ∷ rs) cells reads = absurd reads
 all-bodies m v all (z ∷ zs) [] cells reads = absurd reads
 all-bodies m v all (z ∷ zs) (r ∷ rs) cells reads =
-    let ts : List (List ℕ) = (table_change m in_str (around_of (debug_data v) all) all).texts in
-    let ls : List (List ℕ) = (table_change m in_line_str (around_of (debug_data v) all) all).texts in
+    let ts : List (List ℕ) = (table_change m InStr (around_of (debug_data v) all) all).texts in
+    let ls : List (List ℕ) = (table_change m InLineStr (around_of (debug_data v) all) all).texts in
     ap (λ (bs : List ℕ). record { number = r.number; bytes = bs } ∷ bodies_after m v ts ls (starts_after m v all) (macros_read rs)) (macro-body m v all z r cells.0 reads.0 reads.1)
     ∙ ap (λ (bodies : List Body). record { number = r.number; bytes = bytes_of (joined (edited_with macro_role (changes_of m (around_of (debug_data v) all) all) (around_of (debug_data v) all) r.pieces)) } ∷ bodies)
     (all-bodies m v all zs rs cells.1 reads.2)
 
 pub macros-bodies : (m : PathMap) (v : View) (all : DataReadings) → ReadsAllMacros (debug_data v).base.order ((debug_data v).found Macro) all.macros
-    → bodies_after m v (table_change m in_str (around_of (debug_data v) all) all).texts (table_change m in_line_str (around_of (debug_data v) all) all).texts (starts_after m v all) (macros_read all.macros)
+    → bodies_after m v (table_change m InStr (around_of (debug_data v) all) all).texts (table_change m InLineStr (around_of (debug_data v) all) all).texts (starts_after m v all) (macros_read all.macros)
     ≡ macro_bodies (edited_macros (changes_of m (around_of (debug_data v) all) all) (around_of (debug_data v) all) all.macros)
 macros-bodies m v all reads = all-bodies m v all ((debug_data v).found Macro) all.macros (all-cells v) reads
 

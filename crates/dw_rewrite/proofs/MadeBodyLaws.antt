@@ -6,7 +6,6 @@ use Rattle.dw_base.specs.Cells.{CellSection}
 use Rattle.dw_base.specs.DebugData.{DebugData, DataReadings, around_of, line_source}
 use Rattle.dw_base.specs.DebugSections.{name_of}
 use Rattle.dw_base.specs.FileViews.{View, section_named}
-use Rattle.dw_base.specs.Forms.{TextSection, in_str, in_line_str}
 use Rattle.dw_base.specs.Layout.{output_limit}
 use Rattle.dw_base.specs.LineChanges.{line_place}
 use Rattle.dw_base.specs.LineReadings.{LineReading, all_lines, starts_from, table_starts}
@@ -20,6 +19,9 @@ use Rattle.dw_base.specs.Texts.{laid_texts}
 use Rattle.dw_base.specs.ViewData.{debug_data}
 use Rattle.dw_base.specs.WrittenLines.{new_place, written_table}
 use Rattle.dw_base.specs.declared.debug_sections.DebugSection.TheVariants.{Info, Str, LineStr, StrOffsets, Line, Macro, Names}
+use Rattle.dw_base.specs.declared.texts.TextField.{TextField}
+use Rattle.dw_base.specs.declared.texts.TextSection.{TextSection}
+use Rattle.dw_base.specs.declared.texts.TextSection.TheVariants.{InStr, InLineStr}
 use Rattle.dw_lines.specs.ViewTables.{TablesFound}
 use Rattle.dw_meaning.specs.DataOutput.{Body, DataFits, EachWritable, cells_body, changes_of, lines_body, macro_bodies, macros_after, names_after, new_bodies, new_lines, offsets_after, table_change, unit_bodies}
 use Rattle.dw_meaning.specs.NewAddends.{AddendsFit}
@@ -31,10 +33,9 @@ use Rattle.dw_find.specs.ViewFields.{AllHaveOffsets, AllHavePlaces, AllRoomsFit,
 use Rattle.dw_rewrite.specs.NewTables.{IsSectionNoted, TableMade, bodies_after, bodies_known, plan_in, source_in, table_body_of, texts_of}
 use Rattle.dw_find.specs.SlotPaths.{count_of, lines_count, read_fields, slots_by, slots_of_view, slots_read}
 use Rattle.dw_rewrite.specs.PushedBodies.{macros_count, names_body, one_body, pushed_bodies, slots_count, some_sections, without_slots, slots_among as slots_in}
-use Rattle.dw_find.specs.UnitPaths.{UnitPaths, paths_of}
+use Rattle.dw_find.specs.SectionFields.{SectionFields, paths_of}
 use Rattle.dw_rewrite.specs.NewLines.{AllCanWrite, LinesWritten, lines_known}
 use Rattle.dw_find.specs.ViewLines.{lines_by, lines_of_view, lines_with, starts_of, table_fields}
-use Rattle.dw_find.specs.declared.fields.PathField.{PathField}
 use Rattle.dw_rewrite.proofs.LineKnownLaws.{EachCanWrite, NotedIn, TablesAgree, all-can, lines-same, tables-agree}
 use Rattle.dw_rewrite.proofs.MacroWrittenLaws.{macros-bodies, macros-number}
 use Rattle.dw_find.proofs.TableStartLaws.{read-starts}
@@ -51,48 +52,48 @@ back-is xs ys n e =
     let size : length (xs ++ ys) - n ≡ length xs = omega (arith, e, length-append xs ys) in
     ap (λ (k : ℕ). drop k (xs ++ ys)) size ∙ drop-append_seam xs ys
 
-slots-number : (o : Option ℕ) (fields : List PathField) → length (slots_by o fields) ≡ count_of o
+slots-number : (o : Option ℕ) (fields : List TextField) → length (slots_by o fields) ≡ count_of o
 slots-number None fields = refl
 slots-number (Some i) fields = refl
 
-pub found-without : (m : PathMap) (v : View) (us : List UnitPaths) (ts : List LineTable) (f : PathsFound m v us ts)
+pub found-without : (m : PathMap) (v : View) (us : List SectionFields) (ts : List LineTable) (f : PathsFound m v us ts)
     → without_lines v us ≡ (paths_of f.readings.units ++ slots_read v f.readings) ++ macros_read f.readings.macros
 found-without m v us ts f = without-is v us ((paths_of f.readings.units ++ slots_read v f.readings) ++ macros_read f.readings.macros) ts f.is
 
-macros-many : (m : PathMap) (v : View) (us : List UnitPaths) (ts : List LineTable) (f : PathsFound m v us ts) → length (macros_read f.readings.macros) ≡ macros_count v
+macros-many : (m : PathMap) (v : View) (us : List SectionFields) (ts : List LineTable) (f : PathsFound m v us ts) → length (macros_read f.readings.macros) ≡ macros_count v
 macros-many m v us ts f = macros-number (debug_data v).base.order ((debug_data v).found Macro) f.readings.macros f.reads.macros
 
 -- the bodies of parts that are these
-abbrev bodies_of_parts : PathMap → View → (ℕ → Option ℕ) → (ℕ → Option ℕ) → (ℕ → Option ℕ) → Body → List UnitPaths → List UnitPaths → List UnitPaths → List Body
+abbrev bodies_of_parts : PathMap → View → (ℕ → Option ℕ) → (ℕ → Option ℕ) → (ℕ → Option ℕ) → Body → List SectionFields → List SectionFields → List SectionFields → List Body
 bodies_of_parts m v ks kl kt lines units slots macros =
     one_body (bodies_known m v ks kl kt slots) ++ lines ∷ names_body v ∷ (bodies_known m v ks kl kt macros ++ bodies_known m v ks kl kt units)
 
-pushed-is : (m : PathMap) (v : View) (ks kl kt : ℕ → Option ℕ) (lines : Body) (us xs ms : List UnitPaths) (fields : List PathField) → us ≡ (xs ++ slots_of_view v fields) ++ ms
+pushed-is : (m : PathMap) (v : View) (ks kl kt : ℕ → Option ℕ) (lines : Body) (us xs ms : List SectionFields) (fields : List TextField) → us ≡ (xs ++ slots_of_view v fields) ++ ms
     → length ms ≡ macros_count v → pushed_bodies m v ks kl kt lines us ≡ bodies_of_parts m v ks kl kt lines xs (slots_of_view v fields) ms
 pushed-is m v ks kl kt lines us xs ms fields is many =
     let number : length (slots_of_view v fields) ≡ slots_count v = slots-number (section_named v (name_of StrOffsets)) fields in
-    let front : List UnitPaths = xs ++ slots_of_view v fields in
-    let parts : List UnitPaths → List UnitPaths → List Body =
+    let front : List SectionFields = xs ++ slots_of_view v fields in
+    let parts : List SectionFields → List SectionFields → List Body =
     λ ys zs. bodies_of_parts m v ks kl kt lines (without_slots v ys) (slots_in v ys) zs in
     ap (pushed_bodies m v ks kl kt lines) is
-    ∙ ap (λ (ys : List UnitPaths). parts ys (drop (length (front ++ ms) - macros_count v) (front ++ ms))) (front-is front ms (macros_count v) many)
+    ∙ ap (λ (ys : List SectionFields). parts ys (drop (length (front ++ ms) - macros_count v) (front ++ ms))) (front-is front ms (macros_count v) many)
     ∙ ap (parts front) (back-is front ms (macros_count v) many)
-    ∙ ap (λ (ys : List UnitPaths). bodies_of_parts m v ks kl kt lines ys (slots_in v front) ms) (front-is xs (slots_of_view v fields) (slots_count v) number)
-    ∙ ap (λ (ys : List UnitPaths). bodies_of_parts m v ks kl kt lines xs ys ms) (back-is xs (slots_of_view v fields) (slots_count v) number)
+    ∙ ap (λ (ys : List SectionFields). bodies_of_parts m v ks kl kt lines ys (slots_in v front) ms) (front-is xs (slots_of_view v fields) (slots_count v) number)
+    ∙ ap (λ (ys : List SectionFields). bodies_of_parts m v ks kl kt lines xs ys ms) (back-is xs (slots_of_view v fields) (slots_count v) number)
 
 each-parts : {X : Type 0} (P : X → Type 0) (xs ys : List X) → EachOf P (xs ++ ys) → EachOf P xs × EachOf P ys
 each-parts P [] ys h = (tt, h)
 each-parts P (x ∷ xs) ys h = let rest = each-parts P xs ys h.1 in ((h.0, rest.0), rest.1)
 
 -- the known places make the bodies of some of the sections
-known-parts : (m : PathMap) (v : View) (us part : List UnitPaths) (ts : List LineTable) (ps pl : TextTable) (ks kl kt : ℕ → Option ℕ) (f : PathsFound m v us ts) → TableMade m v in_str us ps ks
-    → TableMade m v in_line_str us pl kl → EachOf (λ u. IsSectionNoted m v in_str u ks) part → EachOf (λ u. IsSectionNoted m v in_line_str u kl) part
-    → bodies_known m v ks kl kt part ≡ bodies_after m v (table_change m in_str (around_of (debug_data v) f.readings) f.readings).texts
-    (table_change m in_line_str (around_of (debug_data v) f.readings) f.readings).texts kt part
+known-parts : (m : PathMap) (v : View) (us part : List SectionFields) (ts : List LineTable) (ps pl : TextTable) (ks kl kt : ℕ → Option ℕ) (f : PathsFound m v us ts) → TableMade m v InStr us ps ks
+    → TableMade m v InLineStr us pl kl → EachOf (λ u. IsSectionNoted m v InStr u ks) part → EachOf (λ u. IsSectionNoted m v InLineStr u kl) part
+    → bodies_known m v ks kl kt part ≡ bodies_after m v (table_change m InStr (around_of (debug_data v) f.readings) f.readings).texts
+    (table_change m InLineStr (around_of (debug_data v) f.readings) f.readings).texts kt part
 known-parts m v us part ts ps pl ks kl kt f s l ns nl =
     known-bodies m v ps pl ks kl kt part s.grown l.grown ns nl
-    ∙ ap (λ (x : List (List ℕ)). bodies_after m v x pl.texts kt part) (made-table m v in_str us ts ps ks f s)
-    ∙ ap (λ (x : List (List ℕ)). bodies_after m v (table_change m in_str (around_of (debug_data v) f.readings) f.readings).texts x kt part) (made-table m v in_line_str us ts pl kl f l)
+    ∙ ap (λ (x : List (List ℕ)). bodies_after m v x pl.texts kt part) (made-table m v InStr us ts ps ks f s)
+    ∙ ap (λ (x : List (List ℕ)). bodies_after m v (table_change m InStr (around_of (debug_data v) f.readings) f.readings).texts x kt part) (made-table m v InLineStr us ts pl kl f l)
 
 -- the places of paths of line tables are known
 abbrev pub change_of_table : PathMap → View → DataReadings → TextSection → TableChange
@@ -115,28 +116,28 @@ noted-lines m v table i ts known e noted =
     (subst (EachOf (NotedIn (plan_in m v table) (source_in v (line_source (debug_data v)).number table) known))
     (sym (same-lines (line_source (debug_data v)) table ts)) all)
 
-table-knows : (m : PathMap) (v : View) (table : TextSection) (us : List UnitPaths) (ts : List LineTable) (pool : TextTable) (known : ℕ → Option ℕ) (f : PathsFound m v us ts)
+table-knows : (m : PathMap) (v : View) (table : TextSection) (us : List SectionFields) (ts : List LineTable) (pool : TextTable) (known : ℕ → Option ℕ) (f : PathsFound m v us ts)
     → TableMade m v table us pool known
     → Knows (plan_in m v table) m (texts_of v table).bytes (table_change m table (around_of (debug_data v) f.readings) f.readings).texts known
 table-knows m v table us ts pool known f t =
     subst (λ (xs : List (List ℕ)). Knows (plan_in m v table) m (texts_of v table).bytes xs known) (made-table m v table us ts pool known f t) t.grown.knows
 
-lines-agree-by : (m : PathMap) (v : View) (us : List UnitPaths) (ts : List LineTable) (ps pl : TextTable) (ks kl : ℕ → Option ℕ) (f : PathsFound m v us ts) → TableMade m v in_str us ps ks
-    → TableMade m v in_line_str us pl kl → (o : Option ℕ) → o ≡ section_named v (name_of Line)
-    → EachOf (λ u. IsSectionNoted m v in_str u ks) (lines_by o (line_source (debug_data v)) ts) → EachOf (λ u. IsSectionNoted m v in_line_str u kl) (lines_by o (line_source (debug_data v)) ts)
+lines-agree-by : (m : PathMap) (v : View) (us : List SectionFields) (ts : List LineTable) (ps pl : TextTable) (ks kl : ℕ → Option ℕ) (f : PathsFound m v us ts) → TableMade m v InStr us ps ks
+    → TableMade m v InLineStr us pl kl → (o : Option ℕ) → o ≡ section_named v (name_of Line)
+    → EachOf (λ u. IsSectionNoted m v InStr u ks) (lines_by o (line_source (debug_data v)) ts) → EachOf (λ u. IsSectionNoted m v InLineStr u kl) (lines_by o (line_source (debug_data v)) ts)
     → TablesAgree (line_source (debug_data v)) (new_place (line_source (debug_data v)) ks kl)
-    (line_place m (change_of_table m v f.readings in_str) (change_of_table m v f.readings in_line_str) (line_source (debug_data v))) f.readings.lines
+    (line_place m (change_of_table m v f.readings InStr) (change_of_table m v f.readings InLineStr) (line_source (debug_data v))) f.readings.lines
 unfolding table_change
 lines-agree-by m v us ts ps pl ks kl f s l None e ns nl =
     subst (TablesAgree (line_source (debug_data v)) (new_place (line_source (debug_data v)) ks kl)
-    (line_place m (change_of_table m v f.readings in_str) (change_of_table m v f.readings in_line_str) (line_source (debug_data v)))) (sym (lines-none v f.readings.lines e f.reads.lines)) tt
+    (line_place m (change_of_table m v f.readings InStr) (change_of_table m v f.readings InLineStr) (line_source (debug_data v)))) (sym (lines-none v f.readings.lines e f.reads.lines)) tt
 lines-agree-by m v us ts ps pl ks kl f s l (Some i) e ns nl =
-    tables-agree (line_source (debug_data v)) m (change_of_table m v f.readings in_str) (change_of_table m v f.readings in_line_str) ks kl 0 (length (line_source (debug_data v)).bytes)
-    f.readings.lines (lines-whole v) f.reads.lines (table-knows m v in_str us ts ps ks f s) (table-knows m v in_line_str us ts pl kl f l)
-    (subst (λ (us_ : List LineTable). EachOf (NotedIn (plan_in m v in_str) (line_texts (line_source (debug_data v)) in_str) ks)
-    (table_fields (line_source (debug_data v)).number (line_source (debug_data v)).str.number in_str us_)) f.tables (noted-lines m v in_str i ts ks e ns.0))
-    (subst (λ (us_ : List LineTable). EachOf (NotedIn (plan_in m v in_line_str) (line_texts (line_source (debug_data v)) in_line_str) kl)
-    (table_fields (line_source (debug_data v)).number (line_source (debug_data v)).str.number in_line_str us_)) f.tables (noted-lines m v in_line_str i ts kl e nl.0))
+    tables-agree (line_source (debug_data v)) m (change_of_table m v f.readings InStr) (change_of_table m v f.readings InLineStr) ks kl 0 (length (line_source (debug_data v)).bytes)
+    f.readings.lines (lines-whole v) f.reads.lines (table-knows m v InStr us ts ps ks f s) (table-knows m v InLineStr us ts pl kl f l)
+    (subst (λ (us_ : List LineTable). EachOf (NotedIn (plan_in m v InStr) (line_texts (line_source (debug_data v)) InStr) ks)
+    (table_fields (line_source (debug_data v)).number (line_source (debug_data v)).str.number InStr us_)) f.tables (noted-lines m v InStr i ts ks e ns.0))
+    (subst (λ (us_ : List LineTable). EachOf (NotedIn (plan_in m v InLineStr) (line_texts (line_source (debug_data v)) InLineStr) kl)
+    (table_fields (line_source (debug_data v)).number (line_source (debug_data v)).str.number InLineStr us_)) f.tables (noted-lines m v InLineStr i ts kl e nl.0))
 
 -- what is noted of all sections
 pub record NotedParts (m : PathMap) (v : View) (table : TextSection) (rs : DataReadings) (ts : List LineTable) (known : ℕ → Option ℕ) : Type 0 where
@@ -145,7 +146,7 @@ pub record NotedParts (m : PathMap) (v : View) (table : TextSection) (rs : DataR
   pub macros : EachOf (λ u. IsSectionNoted m v table u known) (macros_read rs.macros)
   pub lines : EachOf (λ u. IsSectionNoted m v table u known) (lines_of_view v ts)
 
-pub noted-parts : (m : PathMap) (v : View) (table : TextSection) (us : List UnitPaths) (ts : List LineTable) (pool : TextTable) (known : ℕ → Option ℕ) (f : PathsFound m v us ts)
+pub noted-parts : (m : PathMap) (v : View) (table : TextSection) (us : List SectionFields) (ts : List LineTable) (pool : TextTable) (known : ℕ → Option ℕ) (f : PathsFound m v us ts)
     → TableMade m v table us pool known → NotedParts m v table f.readings ts known
 noted-parts m v table us ts pool known f t =
     let all = each-parts (λ u. IsSectionNoted m v table u known) ((paths_of f.readings.units ++ slots_read v f.readings) ++ macros_read f.readings.macros) (lines_of_view v ts)
@@ -154,19 +155,19 @@ noted-parts m v table us ts pool known f t =
     let first = each-parts (λ u. IsSectionNoted m v table u known) (paths_of f.readings.units) (slots_read v f.readings) front.0 in
     record { units = first.0; slots = first.1; macros = front.1; lines = all.1 }
 
-pub lines-agree : (m : PathMap) (v : View) (us : List UnitPaths) (ts : List LineTable) (ps pl : TextTable) (ks kl : ℕ → Option ℕ) (f : PathsFound m v us ts) → TableMade m v in_str us ps ks
-    → TableMade m v in_line_str us pl kl
+pub lines-agree : (m : PathMap) (v : View) (us : List SectionFields) (ts : List LineTable) (ps pl : TextTable) (ks kl : ℕ → Option ℕ) (f : PathsFound m v us ts) → TableMade m v InStr us ps ks
+    → TableMade m v InLineStr us pl kl
     → TablesAgree (line_source (debug_data v)) (new_place (line_source (debug_data v)) ks kl)
-    (line_place m (change_of_table m v f.readings in_str) (change_of_table m v f.readings in_line_str) (line_source (debug_data v))) f.readings.lines
+    (line_place m (change_of_table m v f.readings InStr) (change_of_table m v f.readings InLineStr) (line_source (debug_data v))) f.readings.lines
 lines-agree m v us ts ps pl ks kl f s l =
-    lines-agree-by m v us ts ps pl ks kl f s l (section_named v (name_of Line)) refl (noted-parts m v in_str us ts ps ks f s).lines (noted-parts m v in_line_str us ts pl kl f l).lines
+    lines-agree-by m v us ts ps pl ks kl f s l (section_named v (name_of Line)) refl (noted-parts m v InStr us ts ps ks f s).lines (noted-parts m v InLineStr us ts pl kl f l).lines
 
 -- so the new line tables are these
-pub known-lines : (m : PathMap) (v : View) (us : List UnitPaths) (ts : List LineTable) (ps pl : TextTable) (ks kl : ℕ → Option ℕ) (f : PathsFound m v us ts) → TableMade m v in_str us ps ks
-    → TableMade m v in_line_str us pl kl → lines_known m (line_source (debug_data v)) ks kl ts ≡ new_lines m (around_of (debug_data v) f.readings) f.readings
+pub known-lines : (m : PathMap) (v : View) (us : List SectionFields) (ts : List LineTable) (ps pl : TextTable) (ks kl : ℕ → Option ℕ) (f : PathsFound m v us ts) → TableMade m v InStr us ps ks
+    → TableMade m v InLineStr us pl kl → lines_known m (line_source (debug_data v)) ks kl ts ≡ new_lines m (around_of (debug_data v) f.readings) f.readings
 known-lines m v us ts ps pl ks kl f s l =
     ap (lines_known m (line_source (debug_data v)) ks kl) f.tables
-    ∙ lines-same (line_source (debug_data v)) m (change_of_table m v f.readings in_str) (change_of_table m v f.readings in_line_str) ks kl f.readings.lines
+    ∙ lines-same (line_source (debug_data v)) m (change_of_table m v f.readings InStr) (change_of_table m v f.readings InLineStr) ks kl f.readings.lines
     (lines-agree m v us ts ps pl ks kl f s l)
 
 -- each can be written
@@ -176,22 +177,22 @@ each-writable : (m : PathMap) (d : DebugData) (rs : DataReadings) (xs : List Lin
 each-writable m d rs [] can = tt
 each-writable m d rs (x ∷ xs) can = (can.0, each-writable m d rs xs can.1)
 
-pub made-fits : (m : PathMap) (v : View) (us : List UnitPaths) (ts : List LineTable) (ps pl : TextTable) (ks kl : ℕ → Option ℕ) (bs ns : List ℕ) (f : PathsFound m v us ts)
-    → TableMade m v in_str us ps ks → TableMade m v in_line_str us pl kl → LinesWritten m (line_source (debug_data v)) ks kl ts bs ns
+pub made-fits : (m : PathMap) (v : View) (us : List SectionFields) (ts : List LineTable) (ps pl : TextTable) (ks kl : ℕ → Option ℕ) (bs ns : List ℕ) (f : PathsFound m v us ts)
+    → TableMade m v InStr us ps ks → TableMade m v InLineStr us pl kl → LinesWritten m (line_source (debug_data v)) ks kl ts bs ns
     → AddendsFit (changes_of m (around_of (debug_data v) f.readings) f.readings) (debug_data v) (around_of (debug_data v) f.readings) f.readings
     → DataFits m (debug_data v) f.readings
 made-fits m v us ts ps pl ks kl bs ns f s l w addends = record {
   inline = f.inline;
   slots = f.slots;
   lines = each-writable m (debug_data v) f.readings f.readings.lines
-      (all-can (line_source (debug_data v)) m (change_of_table m v f.readings in_str) (change_of_table m v f.readings in_line_str) ks kl f.readings.lines
+      (all-can (line_source (debug_data v)) m (change_of_table m v f.readings InStr) (change_of_table m v f.readings InLineStr) ks kl f.readings.lines
       (lines-agree m v us ts ps pl ks kl f s l) (subst (AllCanWrite m (line_source (debug_data v)) ks kl) f.tables w.can));
   addends = addends;
 }
 
 -- the starts that are known
-pub known-starts : (m : PathMap) (v : View) (us : List UnitPaths) (ts : List LineTable) (ps pl : TextTable) (ks kl : ℕ → Option ℕ) (bs ns : List ℕ) (f : PathsFound m v us ts)
-    → TableMade m v in_str us ps ks → TableMade m v in_line_str us pl kl → LinesWritten m (line_source (debug_data v)) ks kl ts bs ns
+pub known-starts : (m : PathMap) (v : View) (us : List SectionFields) (ts : List LineTable) (ps pl : TextTable) (ks kl : ℕ → Option ℕ) (bs ns : List ℕ) (f : PathsFound m v us ts)
+    → TableMade m v InStr us ps ks → TableMade m v InLineStr us pl kl → LinesWritten m (line_source (debug_data v)) ks kl ts bs ns
     → start_known (starts_of ts) ns ≡ starts_after m v f.readings
 known-starts m v us ts ps pl ks kl bs ns f s l w =
     ap (λ (xs : List ℕ). start_known xs ns) (ap starts_of f.tables ∙ read-starts (line_source (debug_data v)) f.readings.lines)
@@ -203,18 +204,18 @@ parts-are : {slots macros units ms us : List Body} {lines names first ls ns : Bo
 parts-are a b c d e = rw (a, b, c, d, e) refl
 
 -- all new bodies
-pub made-is : (m : PathMap) (v : View) (us : List UnitPaths) (ts : List LineTable) (ps pl : TextTable) (ks kl : ℕ → Option ℕ) (bs ns : List ℕ) (f : PathsFound m v us ts)
-    → TableMade m v in_str us ps ks → TableMade m v in_line_str us pl kl → LinesWritten m (line_source (debug_data v)) ks kl ts bs ns
-    → table_body_of v in_str ps ∷ table_body_of v in_line_str pl
+pub made-is : (m : PathMap) (v : View) (us : List SectionFields) (ts : List LineTable) (ps pl : TextTable) (ks kl : ℕ → Option ℕ) (bs ns : List ℕ) (f : PathsFound m v us ts)
+    → TableMade m v InStr us ps ks → TableMade m v InLineStr us pl kl → LinesWritten m (line_source (debug_data v)) ks kl ts bs ns
+    → table_body_of v InStr ps ∷ table_body_of v InLineStr pl
     ∷ pushed_bodies m v ks kl (start_known (starts_of ts) ns) (record { number = ((debug_data v).found Line).number; bytes = bs }) (without_lines v us)
     ≡ new_bodies m (debug_data v) f.readings
 unfolding new_bodies table_change
 made-is m v us ts ps pl ks kl bs ns f s l w =
     let kt : ℕ → Option ℕ = start_known (starts_of ts) ns in
-    let text_s : List (List ℕ) = (table_change m in_str (around_of (debug_data v) f.readings) f.readings).texts in
-    let text_l : List (List ℕ) = (table_change m in_line_str (around_of (debug_data v) f.readings) f.readings).texts in
-    let a = noted-parts m v in_str us ts ps ks f s in
-    let b = noted-parts m v in_line_str us ts pl kl f l in
+    let text_s : List (List ℕ) = (table_change m InStr (around_of (debug_data v) f.readings) f.readings).texts in
+    let text_l : List (List ℕ) = (table_change m InLineStr (around_of (debug_data v) f.readings) f.readings).texts in
+    let a = noted-parts m v InStr us ts ps ks f s in
+    let b = noted-parts m v InLineStr us ts pl kl f l in
     let starts = known-starts m v us ts ps pl ks kl bs ns f s l w in
     let lines : Body = record { number = ((debug_data v).found Line).number; bytes = bs } in
     let line_is : record { number = ((debug_data v).found Line).number; bytes = bs } ≡ lines_body (changes_of m (around_of (debug_data v) f.readings) f.readings) (debug_data v) =
@@ -222,8 +223,8 @@ made-is m v us ts ps pl ks kl bs ns f s l w =
     let units : bodies_known m v ks kl (start_known (starts_of ts) ns) (paths_of f.readings.units)
     ≡ unit_bodies (changes_of m (around_of (debug_data v) f.readings) f.readings) (around_of (debug_data v) f.readings) f.readings.units =
     known-parts m v us (paths_of f.readings.units) ts ps pl ks kl (start_known (starts_of ts) ns) f s l a.units b.units
-    ∙ ap (λ (k : ℕ → Option ℕ). bodies_after m v (table_change m in_str (around_of (debug_data v) f.readings) f.readings).texts
-    (table_change m in_line_str (around_of (debug_data v) f.readings) f.readings).texts k (paths_of f.readings.units)) starts
+    ∙ ap (λ (k : ℕ → Option ℕ). bodies_after m v (table_change m InStr (around_of (debug_data v) f.readings) f.readings).texts
+    (table_change m InLineStr (around_of (debug_data v) f.readings) f.readings).texts k (paths_of f.readings.units)) starts
     ∙ readings-bodies m v f.readings [] ((debug_data v).found Info) 0 f.readings.units refl f.reads.units f.inline in
     let slots : one_body (bodies_known m v ks kl (start_known (starts_of ts) ns) (slots_read v f.readings))
     ≡ cells_body ((debug_data v).found StrOffsets).number (joined (offsets_after (changes_of m (around_of (debug_data v) f.readings) f.readings) (around_of (debug_data v) f.readings) f.readings)) ∷ [] =
@@ -233,8 +234,8 @@ made-is m v us ts ps pl ks kl bs ns f s l w =
     let macros : bodies_known m v ks kl (start_known (starts_of ts) ns) (macros_read f.readings.macros)
     ≡ macro_bodies (macros_after (changes_of m (around_of (debug_data v) f.readings) f.readings) (around_of (debug_data v) f.readings) f.readings) =
     known-parts m v us (macros_read f.readings.macros) ts ps pl ks kl (start_known (starts_of ts) ns) f s l a.macros b.macros
-    ∙ ap (λ (k : ℕ → Option ℕ). bodies_after m v (table_change m in_str (around_of (debug_data v) f.readings) f.readings).texts
-    (table_change m in_line_str (around_of (debug_data v) f.readings) f.readings).texts k (macros_read f.readings.macros)) starts
+    ∙ ap (λ (k : ℕ → Option ℕ). bodies_after m v (table_change m InStr (around_of (debug_data v) f.readings) f.readings).texts
+    (table_change m InLineStr (around_of (debug_data v) f.readings) f.readings).texts k (macros_read f.readings.macros)) starts
     ∙ macros-bodies m v f.readings f.reads.macros in
     let rest : pushed_bodies m v ks kl (start_known (starts_of ts) ns) (record { number = ((debug_data v).found Line).number; bytes = bs }) (without_lines v us)
     ≡ cells_body ((debug_data v).found StrOffsets).number (joined (offsets_after (changes_of m (around_of (debug_data v) f.readings) f.readings) (around_of (debug_data v) f.readings) f.readings))
@@ -245,20 +246,20 @@ made-is m v us ts ps pl ks kl bs ns f s l w =
     pushed-is m v ks kl (start_known (starts_of ts) ns) (record { number = ((debug_data v).found Line).number; bytes = bs }) (without_lines v us) (paths_of f.readings.units)
     (macros_read f.readings.macros) (read_fields (debug_data v) f.readings) (found-without m v us ts f) (macros-many m v us ts f)
     ∙ parts-are slots line_is names macros units in
-    ap (λ (x : List ℕ). record { number = ((debug_data v).found Str).number; bytes = x } ∷ table_body_of v in_line_str pl ∷ pushed_bodies m v ks kl kt lines (without_lines v us))
-    (table-bytes m v in_str us ts ps ks f s)
+    ap (λ (x : List ℕ). record { number = ((debug_data v).found Str).number; bytes = x } ∷ table_body_of v InLineStr pl ∷ pushed_bodies m v ks kl kt lines (without_lines v us))
+    (table-bytes m v InStr us ts ps ks f s)
     ∙ ap (λ (x : List ℕ). record { number = ((debug_data v).found Str).number; bytes = ((debug_data v).found Str).bytes ++ laid_texts text_s }
-    ∷ record { number = ((debug_data v).found LineStr).number; bytes = x } ∷ pushed_bodies m v ks kl kt lines (without_lines v us)) (table-bytes m v in_line_str us ts pl kl f l)
+    ∷ record { number = ((debug_data v).found LineStr).number; bytes = x } ∷ pushed_bodies m v ks kl kt lines (without_lines v us)) (table-bytes m v InLineStr us ts pl kl f l)
     ∙ ap (λ (xs : List Body). record { number = ((debug_data v).found Str).number; bytes = ((debug_data v).found Str).bytes ++ laid_texts text_s }
     ∷ record { number = ((debug_data v).found LineStr).number; bytes = ((debug_data v).found LineStr).bytes ++ laid_texts text_l } ∷ xs) rest
 
 -- the section of string offsets and those of macro units are among them, and that of line tables
-pub some-among : (m : PathMap) (v : View) (us part : List UnitPaths) (ts : List LineTable) → PathsFound m v us ts → part ≡ without_lines v us → some_sections v ≤ length part
+pub some-among : (m : PathMap) (v : View) (us part : List SectionFields) (ts : List LineTable) → PathsFound m v us ts → part ≡ without_lines v us → some_sections v ≤ length part
 some-among m v us part ts f is =
     let number : length (slots_read v f.readings) ≡ slots_count v = slots-number (section_named v (name_of StrOffsets)) (read_fields (debug_data v) f.readings) in
     let many : length (macros_read f.readings.macros) ≡ macros_count v = macros-many m v us ts f in
     let size : length part ≡ length ((paths_of f.readings.units ++ slots_read v f.readings) ++ macros_read f.readings.macros) =
-    ap (λ (l : List UnitPaths). length l) (is ∙ found-without m v us ts f) in
+    ap (λ (l : List SectionFields). length l) (is ∙ found-without m v us ts f) in
     let all : slots_count v + macros_count v ≤ length part =
     omega (
       arith,
@@ -279,13 +280,13 @@ units-many v (z ∷ zs) (s ∷ ss) have = ap suc (units-many v zs ss have.2)
 pub macros-among : (v : View) (ss : List SectionUnits) (n : ℕ) → UnitsFoundIn v ss → n ≡ length ss → n ≡ macros_count v
 macros-among v ss n found is = is ∙ units-many v ((debug_data v).found Macro) ss found.units
 
-pub lines-among : (m : PathMap) (v : View) (us : List UnitPaths) (ts : List LineTable) → PathsFound m v us ts → lines_count v ≤ length us
+pub lines-among : (m : PathMap) (v : View) (us : List SectionFields) (ts : List LineTable) → PathsFound m v us ts → lines_count v ≤ length us
 lines-among m v us ts f =
     let number : length (lines_of_view v ts) ≡ lines_count v = lines-number (section_named v (name_of Line)) (line_source (debug_data v)) ts in
-    let size : length us ≡ length (((paths_of f.readings.units ++ slots_read v f.readings) ++ macros_read f.readings.macros) ++ lines_of_view v ts) = ap (λ (l : List UnitPaths). length l) f.is in
+    let size : length us ≡ length (((paths_of f.readings.units ++ slots_read v f.readings) ++ macros_read f.readings.macros) ++ lines_of_view v ts) = ap (λ (l : List SectionFields). length l) f.is in
     omega (arith, number, size, length-append ((paths_of f.readings.units ++ slots_read v f.readings) ++ macros_read f.readings.macros) (lines_of_view v ts))
 
-pub all-offsets : (m : PathMap) (v : View) (us : List UnitPaths) (ts : List LineTable) → PathsFound m v us ts → AllHaveOffsets v us
+pub all-offsets : (m : PathMap) (v : View) (us : List SectionFields) (ts : List LineTable) → PathsFound m v us ts → AllHaveOffsets v us
 all-offsets m v us ts f = f.offsets
 
 -- the new starts fit
@@ -300,7 +301,7 @@ length-known : (m : PathMap) (g : LineSource) (ks kl : ℕ → Option ℕ) (n : 
 length-known m g ks kl n [] = refl
 length-known m g ks kl n (t ∷ ts) = ap suc (length-known m g ks kl (n + length (written_table g m (new_place g ks kl) t)) ts)
 
-pub starts-fit : (m : PathMap) (v : View) (us : List UnitPaths) (ts : List LineTable) (ks kl : ℕ → Option ℕ) (bs ns old : List ℕ) → PathsFound m v us ts
+pub starts-fit : (m : PathMap) (v : View) (us : List SectionFields) (ts : List LineTable) (ks kl : ℕ → Option ℕ) (bs ns old : List ℕ) → PathsFound m v us ts
     → LinesWritten m (line_source (debug_data v)) ks kl ts bs ns → old ≡ starts_of ts → length bs ≤ output_limit → StartsFit (record { old = old; new = ns })
 starts-fit m v us ts ks kl bs ns old f w is small =
     let first : old ≡ table_starts f.readings.lines = is ∙ ap starts_of f.tables ∙ read-starts (line_source (debug_data v)) f.readings.lines in
@@ -315,11 +316,11 @@ starts-fit m v us ts ks kl bs ns old f w is small =
     }
 
 -- a table was made with the new places that are known in it
-pub known-made : {m : PathMap} {v : View} {table : TextSection} {us : List UnitPaths} {pool : TextTable} {known new : ℕ → Option ℕ} → new ≡ known
+pub known-made : {m : PathMap} {v : View} {table : TextSection} {us : List SectionFields} {pool : TextTable} {known new : ℕ → Option ℕ} → new ≡ known
     → TableMade m v table us pool known → TableMade m v table us pool new
 known-made {m} {v} {table} {us} {pool} e made = subst (TableMade m v table us pool) (sym e) made
 
-pub slices-fit : (m : PathMap) (v : View) (us : List UnitPaths) (ts : List LineTable) (ks kl : ℕ → Option ℕ) (bs ns old first second : List ℕ) → PathsFound m v us ts
+pub slices-fit : (m : PathMap) (v : View) (us : List SectionFields) (ts : List LineTable) (ks kl : ℕ → Option ℕ) (bs ns old first second : List ℕ) → PathsFound m v us ts
     → LinesWritten m (line_source (debug_data v)) ks kl ts bs ns → old ≡ starts_of ts → first ≡ old → second ≡ ns → length bs ≤ output_limit
     → StartsFit (record { old = first; new = second })
 slices-fit m v us ts ks kl bs ns old first second f w is a b small =
@@ -337,16 +338,16 @@ two-pushed none one_ two_ a b x y e f g i j =
     let second : two_ ≡ a ∷ b ∷ [] = g ∙ ap (λ (bs : List Body). bs ++ b ∷ []) first in
     second ∙ ap (λ (z : Body). z ∷ b ∷ []) i ∙ ap (λ (z : Body). x ∷ z ∷ []) j
 
-pub have-places : (m : PathMap) (v : View) (us part : List UnitPaths) (ts : List LineTable) → PathsFound m v us ts → part ≡ without_lines v us → AllHavePlaces v part
+pub have-places : (m : PathMap) (v : View) (us part : List SectionFields) (ts : List LineTable) → PathsFound m v us ts → part ≡ without_lines v us → AllHavePlaces v part
 have-places m v us part ts f is = subst (AllHavePlaces v) (sym is) f.places
 
-pub have-offsets : (m : PathMap) (v : View) (us part : List UnitPaths) (ts : List LineTable) → PathsFound m v us ts → part ≡ without_lines v us → AllHaveOffsets v part
+pub have-offsets : (m : PathMap) (v : View) (us part : List SectionFields) (ts : List LineTable) → PathsFound m v us ts → part ≡ without_lines v us → AllHaveOffsets v part
 have-offsets m v us part ts f is = offsets-front v (length us - lines_count v) us part is f.offsets
 
-pub rooms-fit : (m : PathMap) (v : View) (us part : List UnitPaths) (ts : List LineTable) → PathsFound m v us ts → part ≡ without_lines v us → AllRoomsFit m v part
+pub rooms-fit : (m : PathMap) (v : View) (us part : List SectionFields) (ts : List LineTable) → PathsFound m v us ts → part ≡ without_lines v us → AllRoomsFit m v part
 rooms-fit m v us part ts f is = subst (AllRoomsFit m v) (sym is) f.rooms
 
-pub found-tables : (m : PathMap) (v : View) (us : List UnitPaths) (ts : List LineTable) → PathsFound m v us ts → TablesFound v ts
+pub found-tables : (m : PathMap) (v : View) (us : List SectionFields) (ts : List LineTable) → PathsFound m v us ts → TablesFound v ts
 found-tables m v us ts f = record { readings = f.readings.lines; reads = f.reads.lines; is = f.tables }
 
 pub ruleset body_rules = (all-offsets, some-among, macros-among, lines-among, have-places, have-offsets, rooms-fit, found-tables)

@@ -17,6 +17,7 @@ use Rattle.dw_base.specs.TextChanges.{TableChanges, edited_all}
 use Rattle.dw_base.specs.ViewData.{cells_located, debug_data}
 use Rattle.dw_base.specs.declared.debug_sections.DebugSection.{DebugSection}
 use Rattle.dw_base.specs.declared.debug_sections.DebugSection.TheVariants.{StrOffsets, Line, Names}
+use Rattle.dw_base.specs.declared.texts.TextField.{TextField}
 use Rattle.dw_meaning.specs.DataOutput.{DataReads, table_change}
 use Rattle.dw_meaning.specs.FileMeanings.{file_data}
 use Rattle.dw_meaning.specs.RelocatedBodies.{CellBody, cell_body, cells_of_number, macro_cells, old_contents, unit_cells}
@@ -25,8 +26,7 @@ use Rattle.dw_meaning.proofs.CellKeptLaws.{cells-behind, cells-further, cells-na
 use Rattle.dw_meaning.proofs.FileKeptLaws.{CanMap, around_file, changes_file, new_names, read-section}
 use Rattle.dw_find.specs.MacroSections.{macros_read}
 use Rattle.dw_find.specs.SlotPaths.{read_fields, slots_by, slots_read}
-use Rattle.dw_find.specs.UnitPaths.{UnitPaths, paths_of}
-use Rattle.dw_find.specs.declared.fields.PathField.{PathField}
+use Rattle.dw_find.specs.SectionFields.{SectionFields, paths_of}
 use Rattle.dw_rewrite.specs.Bodies.{lines_numbers, moved_numbers, numbers_in}
 use Rattle.dw_rewrite.proofs.BodyLaws.{AllFull, file-macros, file-units, macro_numbers, named-full, unit_numbers}
 use Rattle.dw_rewrite.proofs.FileBodyLaws.{AreMoved}
@@ -159,7 +159,7 @@ read-moved m b r w kept = record {
 }
 
 -- These are the numbers of sections that say something of paths, and of line tables.
-numbers-append : (xs ys : List UnitPaths) → numbers_in (xs ++ ys) ≡ numbers_in xs ++ numbers_in ys
+numbers-append : (xs ys : List SectionFields) → numbers_in (xs ++ ys) ≡ numbers_in xs ++ numbers_in ys
 numbers-append [] ys = refl
 numbers-append (x ∷ xs) ys = ap (λ (ns : List ℕ). x.number ∷ ns) (numbers-append xs ys)
 
@@ -167,7 +167,7 @@ numbers-units : (rs : Readings) → numbers_in (paths_of rs) ≡ unit_numbers rs
 numbers-units [] = refl
 numbers-units (r ∷ rs) = ap (λ (ns : List ℕ). r.number ∷ ns) (numbers-units rs)
 
-numbers-slots : (o : Option ℕ) (fields : List PathField) → numbers_in (slots_by o fields) ≡ lines_numbers o
+numbers-slots : (o : Option ℕ) (fields : List TextField) → numbers_in (slots_by o fields) ≡ lines_numbers o
 numbers-slots None fields = refl
 numbers-slots (Some i) fields = refl
 

@@ -10,7 +10,6 @@ use Rattle.dw_meaning.specs.DataOutput.{Body, cells_body, table_change, changes_
 use Rattle.dw_base.specs.DebugData.{DebugData, DataReadings, Around, around_of, path_slots, table_of, units_in, ReadsAll}
 use Rattle.dw_base.specs.Readings.{Reading, Readings, EachReading}
 use Rattle.dw_base.specs.FileViews.{View, section_bytes, section_named, view_cells}
-use Rattle.dw_base.specs.Forms.{TextSection, in_str, in_line_str}
 use Rattle.dw_base.specs.Paths.{PathMap}
 use Rattle.dw_base.specs.Pieces.{Piece, joined, EachPiece}
 use Rattle.dw_base.specs.StringTables.{Mention, Plan, TextTable, appending, with_mention, texts_after}
@@ -19,6 +18,9 @@ use Rattle.dw_base.specs.UnitHeaders.{UnitSection}
 use Rattle.dw_base.specs.UnitPieces.{ReadsUnits}
 use Rattle.dw_base.specs.UnitStates.{UnitState, before_unit}
 use Rattle.dw_base.specs.ViewData.{cells_located, debug_data, located_at}
+use Rattle.dw_base.specs.declared.texts.TextField.{TextField}
+use Rattle.dw_base.specs.declared.texts.TextSection.{TextSection}
+use Rattle.dw_base.specs.declared.texts.TextSection.TheVariants.{InStr, InLineStr}
 use Rattle.dw_rewrite.specs.PushedBodies.{kept_body, names_body, one_body}
 use Rattle.dw_find.specs.SlotPaths.{offset_fields, read_fields, slots_by, slots_read, slots_with}
 use Rattle.dw_find.proofs.SlotPlaceLaws.{line-fields}
@@ -26,9 +28,8 @@ use Rattle.dw_rewrite.proofs.SlotWrittenLaws.{names-kept, no-offsets, slots_writ
 use Rattle.dw_rewrite.specs.Changes.{FieldSource, patched, texts_at, with_all_known}
 use Rattle.dw_find.specs.ViewFields.{fields_of, info_of}
 use Rattle.dw_rewrite.specs.NewTables.{plan_in, section_texts_at, all_texts_at, IsSectionNoted, Growing, TableMade, change_in, section_after, body_after, bodies_after, section_known, bodies_known, source_in, starts_in}
-use Rattle.dw_find.specs.UnitPaths.{UnitPaths, path_fields, inline_paths, paths_in, paths_of, start_fields, fields_into}
+use Rattle.dw_find.specs.SectionFields.{SectionFields, path_fields, inline_paths, paths_in, paths_of, start_fields, fields_into}
 use Rattle.dw_rewrite.specs.UnitsAfter.{inlined, text_source}
-use Rattle.dw_find.specs.declared.fields.PathField.{PathField}
 use Rattle.dw_rewrite.proofs.ChangedLaws.{put_is_patched}
 use Rattle.dw_rewrite.proofs.EditedLaws.{texts_by_fields}
 use Rattle.dw_find.proofs.PlaceValueLaws.{EachOf}
@@ -51,16 +52,16 @@ reading-placed d z first xs cells r same =
 -- the tables around readings
 pub same-source : (v : View) (rs : DataReadings) (section : ℕ) (table : TextSection) → text_source (around_of (debug_data v) rs) (view_cells v section) table ≡ source_in v section table
 unfolding debug_data
-same-source v rs section in_str = refl
-same-source v rs section in_line_str = refl
+same-source v rs section InStr = refl
+same-source v rs section InLineStr = refl
 
 pub same-plan : (m : PathMap) (v : View) (rs : DataReadings) (table : TextSection) → plan_in m v table ≡ appending m (table_of (around_of (debug_data v) rs) table).bytes
-same-plan m v rs in_str = refl
-same-plan m v rs in_line_str = refl
+same-plan m v rs InStr = refl
+same-plan m v rs InLineStr = refl
 
 same-fields : (table : TextSection) (r : Reading) → path_fields table r.pieces ≡ fields_of table (paths_in r)
-same-fields in_str r = refl
-same-fields in_line_str r = refl
+same-fields InStr r = refl
+same-fields InLineStr r = refl
 
 pub texts_after-append : (plan : Plan) (m : PathMap) (ts : List (List ℕ)) (xs ys : List Mention) → texts_after plan m ts (xs ++ ys) ≡ texts_after plan m (texts_after plan m ts xs) ys
 texts_after-append plan m ts [] ys = refl
@@ -91,8 +92,8 @@ readings-texts m v all table ts before (z ∷ zs) first (r ∷ rs) split reads =
 
 -- the same of string offsets
 same-slots : (table : TextSection) (i : ℕ) (d : DebugData) (rs : DataReadings) → offset_fields table (path_slots (around_of d rs)) rs.offsets ≡ fields_of table (slots_with i (read_fields d rs))
-same-slots in_str i d rs = refl
-same-slots in_line_str i d rs = line-fields (path_slots (around_of d rs)) rs.offsets
+same-slots InStr i d rs = refl
+same-slots InLineStr i d rs = line-fields (path_slots (around_of d rs)) rs.offsets
 
 slots-texts-by : (m : PathMap) (v : View) (rs : DataReadings) (table : TextSection) (ts : List (List ℕ)) (o : Option ℕ) → ReadsOffsets v.order (cells_located v o).contents rs.offsets
     → texts_after (plan_in m v table) m ts (mentions_with (slot_role (path_slots (around_of (debug_data v) rs))) table (around_of (debug_data v) rs) rs.offsets)
@@ -111,7 +112,7 @@ pub slots-texts : (m : PathMap) (v : View) (rs : DataReadings) (table : TextSect
     ≡ all_texts_at m v table ts (slots_read v rs)
 slots-texts m v rs table ts r = slots-texts-by m v rs table ts (section_named v (name_of StrOffsets)) (offsets-of v rs.offsets r)
 
-pub all_texts-append : (m : PathMap) (v : View) (table : TextSection) (ts : List (List ℕ)) (us ws : List UnitPaths)
+pub all_texts-append : (m : PathMap) (v : View) (table : TextSection) (ts : List (List ℕ)) (us ws : List SectionFields)
     → all_texts_at m v table ts (us ++ ws) ≡ all_texts_at m v table (all_texts_at m v table ts us) ws
 all_texts-append m v table ts [] ws = refl
 all_texts-append m v table ts (u ∷ us) ws = all_texts-append m v table (section_texts_at m v table ts u) us ws
@@ -123,7 +124,7 @@ starts_after m v all = starts_by (changes_of m (around_of (debug_data v) all) al
 -- the new bytes of a section are those of its edited pieces
 reading-body : (m : PathMap) (v : View) (all : DataReadings) (before behind : List UnitSection) (z : UnitSection) (first : ℕ) (r : Reading)
     → (debug_data v).found Info ≡ before ++ z ∷ behind → r.number ≡ z.number → ReadsUnits (debug_data v).base z first r.pieces → EachPiece (InlineFits m) r.pieces
-    → section_after m v (table_change m in_str (around_of (debug_data v) all) all).texts (table_change m in_line_str (around_of (debug_data v) all) all).texts (starts_after m v all) (paths_in r)
+    → section_after m v (table_change m InStr (around_of (debug_data v) all) all).texts (table_change m InLineStr (around_of (debug_data v) all) all).texts (starts_after m v all) (paths_in r)
     ≡ bytes_of (joined (edited_all (changes_of m (around_of (debug_data v) all) all) (around_of (debug_data v) all) r.pieces))
 unfolding section_after table_change debug_data
 reading-body m v all before behind z first r split number reads fits =
@@ -133,63 +134,63 @@ reading-body m v all before behind z first r split number reads fits =
     let own : bytes_of (view_cells v r.number) ≡ section_bytes v r.number = bytes_of-view_cells v r.number in
     let start : bytes_of (joined r.pieces) ≡ section_bytes v r.number = ap bytes_of (reads.cells ∙ same) ∙ own in
     ap (λ (bs : List ℕ). inlined m bs (with_all_known (starts_in v r.number) (starts_after m v all)
-    (patched (change_in m v in_line_str (table_change m in_line_str (around_of (debug_data v) all) all).texts) m (source_in v r.number in_line_str)
-    (patched (change_in m v in_str (table_change m in_str (around_of (debug_data v) all) all).texts) m (source_in v r.number in_str) (section_bytes v r.number) (path_fields in_str r.pieces))
-    (path_fields in_line_str r.pieces)) (start_fields r.pieces)) (inline_paths r.pieces)) (sym own)
+    (patched (change_in m v InLineStr (table_change m InLineStr (around_of (debug_data v) all) all).texts) m (source_in v r.number InLineStr)
+    (patched (change_in m v InStr (table_change m InStr (around_of (debug_data v) all) all).texts) m (source_in v r.number InStr) (section_bytes v r.number) (path_fields InStr r.pieces))
+    (path_fields InLineStr r.pieces)) (start_fields r.pieces)) (inline_paths r.pieces)) (sym own)
     ∙ ap (λ (out : List ℕ). inlined m (bytes_of (view_cells v r.number)) (with_all_known (starts_in v r.number) (starts_after m v all)
-    (patched (change_in m v in_line_str (table_change m in_line_str (around_of (debug_data v) all) all).texts) m (source_in v r.number in_line_str)
-    (patched (change_in m v in_str (table_change m in_str (around_of (debug_data v) all) all).texts) m (source_in v r.number in_str) out (path_fields in_str r.pieces))
-    (path_fields in_line_str r.pieces)) (start_fields r.pieces)) (inline_paths r.pieces)) (sym start)
+    (patched (change_in m v InLineStr (table_change m InLineStr (around_of (debug_data v) all) all).texts) m (source_in v r.number InLineStr)
+    (patched (change_in m v InStr (table_change m InStr (around_of (debug_data v) all) all).texts) m (source_in v r.number InStr) out (path_fields InStr r.pieces))
+    (path_fields InLineStr r.pieces)) (start_fields r.pieces)) (inline_paths r.pieces)) (sym start)
     ∙ pieces_written (changes_of m (around_of (debug_data v) all) all) (around_of (debug_data v) all) (view_cells v r.number) [] 0 r.pieces refl refl refl
     (reading-placed (debug_data v) z first r.pieces (view_cells v r.number) reads same) fits
 
 pub readings-bodies : (m : PathMap) (v : View) (all : DataReadings) (before zs : List UnitSection) (first : ℕ) (rs : Readings) → (debug_data v).found Info ≡ before ++ zs
     → ReadsAll (debug_data v).base first zs rs → EachReading (InlineFits m) rs
-    → bodies_after m v (table_change m in_str (around_of (debug_data v) all) all).texts (table_change m in_line_str (around_of (debug_data v) all) all).texts (starts_after m v all) (paths_of rs)
+    → bodies_after m v (table_change m InStr (around_of (debug_data v) all) all).texts (table_change m InLineStr (around_of (debug_data v) all) all).texts (starts_after m v all) (paths_of rs)
     ≡ unit_bodies (changes_of m (around_of (debug_data v) all) all) (around_of (debug_data v) all) rs
 readings-bodies m v all before [] first [] split reads fits = refl
 readings-bodies m v all before [] first (r ∷ rs) split reads fits = absurd reads
 readings-bodies m v all before (z ∷ zs) first [] split reads fits = absurd reads
 readings-bodies m v all before (z ∷ zs) first (r ∷ rs) split reads fits =
-    let ts : List (List ℕ) = (table_change m in_str (around_of (debug_data v) all) all).texts in
-    let ls : List (List ℕ) = (table_change m in_line_str (around_of (debug_data v) all) all).texts in
+    let ts : List (List ℕ) = (table_change m InStr (around_of (debug_data v) all) all).texts in
+    let ls : List (List ℕ) = (table_change m InLineStr (around_of (debug_data v) all) all).texts in
     ap (λ (bs : List ℕ). record { number = r.number; bytes = bs } ∷ bodies_after m v ts ls (starts_after m v all) (paths_of rs)) (reading-body m v all before zs z first r split reads.0 reads.1 fits.0)
     ∙ ap (λ (bodies : List Body). unit_body (changes_of m (around_of (debug_data v) all) all) (around_of (debug_data v) all) r ∷ bodies)
     (readings-bodies m v all (before ++ z ∷ []) zs (first + units_in r.pieces) rs (split ∙ sym (append_assoc before (z ∷ []) zs)) reads.2 fits.1)
 
 -- the known places make the new bytes of a section
-known-section : (m : PathMap) (v : View) (ps pl : TextTable) (ks kl kt : ℕ → Option ℕ) (u : UnitPaths) → Growing m v in_str ps ks → Growing m v in_line_str pl kl
-    → IsSectionNoted m v in_str u ks → IsSectionNoted m v in_line_str u kl → section_known m v ks kl kt u ≡ section_after m v ps.texts pl.texts kt u
+known-section : (m : PathMap) (v : View) (ps pl : TextTable) (ks kl kt : ℕ → Option ℕ) (u : SectionFields) → Growing m v InStr ps ks → Growing m v InLineStr pl kl
+    → IsSectionNoted m v InStr u ks → IsSectionNoted m v InLineStr u kl → section_known m v ks kl kt u ≡ section_after m v ps.texts pl.texts kt u
 unfolding section_known section_after
 known-section m v ps pl ks kl kt u gs gl ns nl =
-    let first = put_is_patched (plan_in m v in_str) m (source_in v u.number in_str) ps.texts (info_of v u) (fields_into u Str) ks gs.knows ns in
-    ap (λ (out : List ℕ). inlined m (info_of v u) (with_all_known (starts_in v u.number) kt (with_all_known (source_in v u.number in_line_str) kl out (fields_into u LineStr)) (fields_into u Line))
+    let first = put_is_patched (plan_in m v InStr) m (source_in v u.number InStr) ps.texts (info_of v u) (fields_into u Str) ks gs.knows ns in
+    ap (λ (out : List ℕ). inlined m (info_of v u) (with_all_known (starts_in v u.number) kt (with_all_known (source_in v u.number InLineStr) kl out (fields_into u LineStr)) (fields_into u Line))
     u.inline) first
     ∙ ap (λ (out : List ℕ). inlined m (info_of v u) (with_all_known (starts_in v u.number) kt out (fields_into u Line)) u.inline)
-    (put_is_patched (plan_in m v in_line_str) m (source_in v u.number in_line_str) pl.texts
-    (patched (change_in m v in_str ps.texts) m (source_in v u.number in_str) (info_of v u) (fields_into u Str)) (fields_into u LineStr) kl gl.knows nl)
+    (put_is_patched (plan_in m v InLineStr) m (source_in v u.number InLineStr) pl.texts
+    (patched (change_in m v InStr ps.texts) m (source_in v u.number InStr) (info_of v u) (fields_into u Str)) (fields_into u LineStr) kl gl.knows nl)
 
-pub known-bodies : (m : PathMap) (v : View) (ps pl : TextTable) (ks kl kt : ℕ → Option ℕ) (us : List UnitPaths) → Growing m v in_str ps ks → Growing m v in_line_str pl kl
-    → EachOf (λ u. IsSectionNoted m v in_str u ks) us → EachOf (λ u. IsSectionNoted m v in_line_str u kl) us
+pub known-bodies : (m : PathMap) (v : View) (ps pl : TextTable) (ks kl kt : ℕ → Option ℕ) (us : List SectionFields) → Growing m v InStr ps ks → Growing m v InLineStr pl kl
+    → EachOf (λ u. IsSectionNoted m v InStr u ks) us → EachOf (λ u. IsSectionNoted m v InLineStr u kl) us
     → bodies_known m v ks kl kt us ≡ bodies_after m v ps.texts pl.texts kt us
 known-bodies m v ps pl ks kl kt [] gs gl ns nl = refl
 known-bodies m v ps pl ks kl kt (u ∷ us) gs gl ns nl =
     ap (λ (bs : List ℕ). record { number = u.number; bytes = bs } ∷ bodies_known m v ks kl kt us) (known-section m v ps pl ks kl kt u gs gl ns.0 nl.0)
     ∙ ap (λ (bodies : List Body). body_after m v ps.texts pl.texts kt u ∷ bodies) (known-bodies m v ps pl ks kl kt us gs gl ns.1 nl.1)
 
-noted-each : (m : PathMap) (v : View) (table : TextSection) (known : ℕ → Option ℕ) (us : List UnitPaths)
-    → ((k : ℕ) (d : UnitPaths) → k < length us → IsSectionNoted m v table (get_or us k d) known) → EachOf (λ u. IsSectionNoted m v table u known) us
+noted-each : (m : PathMap) (v : View) (table : TextSection) (known : ℕ → Option ℕ) (us : List SectionFields)
+    → ((k : ℕ) (d : SectionFields) → k < length us → IsSectionNoted m v table (get_or us k d) known) → EachOf (λ u. IsSectionNoted m v table u known) us
 noted-each m v table known [] each = tt
 noted-each m v table known (u ∷ us) each =
-    (each 0 u (omega arith), noted-each m v table known us (λ (k : ℕ) (d : UnitPaths) (lt : k < length us). each (suc k) d (omega arith)))
+    (each 0 u (omega arith), noted-each m v table known us (λ (k : ℕ) (d : SectionFields) (lt : k < length us). each (suc k) d (omega arith)))
 
-pub made-noted : (m : PathMap) (v : View) (table : TextSection) (us : List UnitPaths) (pool : TextTable) (known : ℕ → Option ℕ) → TableMade m v table us pool known
+pub made-noted : (m : PathMap) (v : View) (table : TextSection) (us : List SectionFields) (pool : TextTable) (known : ℕ → Option ℕ) → TableMade m v table us pool known
     → EachOf (λ u. IsSectionNoted m v table u known) us
-made-noted m v table us pool known t = noted-each m v table known us (λ (k : ℕ) (d : UnitPaths) (lt : k < length us). t.noted.each k d lt lt)
+made-noted m v table us pool known t = noted-each m v table known us (λ (k : ℕ) (d : SectionFields) (lt : k < length us). t.noted.each k d lt lt)
 
 -- the new bytes of string offsets are those of their edited pieces
 slots-body-by : (m : PathMap) (v : View) (rs : DataReadings) (kt : ℕ → Option ℕ) (o : Option ℕ) → ReadsOffsets v.order (cells_located v o).contents rs.offsets
-    → one_body (bodies_after m v (table_change m in_str (around_of (debug_data v) rs) rs).texts (table_change m in_line_str (around_of (debug_data v) rs) rs).texts kt (slots_by o (read_fields (debug_data v) rs)))
+    → one_body (bodies_after m v (table_change m InStr (around_of (debug_data v) rs) rs).texts (table_change m InLineStr (around_of (debug_data v) rs) rs).texts kt (slots_by o (read_fields (debug_data v) rs)))
     ≡ cells_body (cells_located v o).number (joined (offsets_after (changes_of m (around_of (debug_data v) rs) rs) (around_of (debug_data v) rs) rs)) ∷ []
 unfolding section_after table_change debug_data
 slots-body-by m v rs kt None r =
@@ -203,17 +204,17 @@ slots-body-by m v rs kt (Some i) r =
     let own : bytes_of (view_cells v i) ≡ section_bytes v i = bytes_of-view_cells v i in
     let start : bytes_of (joined rs.offsets) ≡ section_bytes v i = ap bytes_of r.cells ∙ own in
     ap (λ (bs : List ℕ). record { number = i; bytes = bs } ∷ [])
-    (ap (λ (gs : List PathField). patched (change_in m v in_line_str (table_change m in_line_str (around_of (debug_data v) rs) rs).texts) m (source_in v i in_line_str)
-    (patched (change_in m v in_str (table_change m in_str (around_of (debug_data v) rs) rs).texts) m (source_in v i in_str) (section_bytes v i)
-    (offset_fields in_str (path_slots (around_of (debug_data v) rs)) rs.offsets)) gs) (sym (line-fields paths rs.offsets))
-    ∙ ap (λ (out : List ℕ). patched (change_in m v in_line_str (table_change m in_line_str (around_of (debug_data v) rs) rs).texts) m (source_in v i in_line_str)
-    (patched (change_in m v in_str (table_change m in_str (around_of (debug_data v) rs) rs).texts) m (source_in v i in_str) out
-    (offset_fields in_str (path_slots (around_of (debug_data v) rs)) rs.offsets)) (offset_fields in_line_str (path_slots (around_of (debug_data v) rs)) rs.offsets)) (sym start)
+    (ap (λ (gs : List TextField). patched (change_in m v InLineStr (table_change m InLineStr (around_of (debug_data v) rs) rs).texts) m (source_in v i InLineStr)
+    (patched (change_in m v InStr (table_change m InStr (around_of (debug_data v) rs) rs).texts) m (source_in v i InStr) (section_bytes v i)
+    (offset_fields InStr (path_slots (around_of (debug_data v) rs)) rs.offsets)) gs) (sym (line-fields paths rs.offsets))
+    ∙ ap (λ (out : List ℕ). patched (change_in m v InLineStr (table_change m InLineStr (around_of (debug_data v) rs) rs).texts) m (source_in v i InLineStr)
+    (patched (change_in m v InStr (table_change m InStr (around_of (debug_data v) rs) rs).texts) m (source_in v i InStr) out
+    (offset_fields InStr (path_slots (around_of (debug_data v) rs)) rs.offsets)) (offset_fields InLineStr (path_slots (around_of (debug_data v) rs)) rs.offsets)) (sym start)
     ∙ slots_written (changes_of m (around_of (debug_data v) rs) rs) (around_of (debug_data v) rs) (view_cells v i) [] 0 (path_slots (around_of (debug_data v) rs)) rs.offsets refl refl refl
     (offsets-in v (Some i) rs.offsets r))
 
 pub slots-body : (m : PathMap) (v : View) (rs : DataReadings) (kt : ℕ → Option ℕ) → ReadsOffsets (debug_data v).base.order ((debug_data v).found StrOffsets).contents rs.offsets
-    → one_body (bodies_after m v (table_change m in_str (around_of (debug_data v) rs) rs).texts (table_change m in_line_str (around_of (debug_data v) rs) rs).texts kt (slots_read v rs))
+    → one_body (bodies_after m v (table_change m InStr (around_of (debug_data v) rs) rs).texts (table_change m InLineStr (around_of (debug_data v) rs) rs).texts kt (slots_read v rs))
     ≡ cells_body ((debug_data v).found StrOffsets).number (joined (offsets_after (changes_of m (around_of (debug_data v) rs) rs) (around_of (debug_data v) rs) rs)) ∷ []
 unfolding debug_data
 slots-body m v rs kt r = slots-body-by m v rs kt (section_named v (name_of StrOffsets)) (offsets-of v rs.offsets r)

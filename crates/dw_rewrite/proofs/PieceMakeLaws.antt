@@ -6,7 +6,6 @@ use Rattle.std.proofs.Math.Seq.{drop-append_seam}
 use Rattle.std.proofs.lemmas.List.{drop-drop}
 use Rattle.dw_base.specs.Cells.{Cell, Relocation, first_relocation, offset_of}
 use Rattle.dw_base.specs.DebugData.{Around, start_number, table_of}
-use Rattle.dw_base.specs.Forms.{TextSection, in_str, in_line_str}
 use Rattle.dw_base.specs.LineReadings.{starts_from}
 use Rattle.dw_base.specs.MacroPieces.{MacroState, macro_grammar}
 use Rattle.dw_base.specs.NamePieces.{NameMode, NameState, at_string, at_table, at_rest, no_names}
@@ -23,11 +22,13 @@ use Rattle.dw_base.specs.declared.debug_sections.DebugSection.TheVariants.{Str, 
 use Rattle.dw_base.specs.declared.fault.Kind.TheVariants.{TooWide}
 use Rattle.dw_base.specs.declared.fault.Refusal.{Refusal}
 use Rattle.dw_base.specs.declared.shared.Order.{Order}
+use Rattle.dw_base.specs.declared.texts.TextField.{TextField}
+use Rattle.dw_base.specs.declared.texts.TextSection.{TextSection}
+use Rattle.dw_base.specs.declared.texts.TextSection.TheVariants.{InStr, InLineStr}
 use Rattle.dw_meaning.specs.NewAddends.{Makes, MakesNew, MakesRole, Misses, PieceMisses, new_offset, start_place}
 use Rattle.dw_find.specs.MacroSections.{macro_starts}
 use Rattle.dw_find.specs.SlotPaths.{offset_fields}
-use Rattle.dw_find.specs.UnitPaths.{field_by, path_fields, start_by, start_fields}
-use Rattle.dw_find.specs.declared.fields.PathField.{PathField}
+use Rattle.dw_find.specs.SectionFields.{field_by, path_fields, start_by, start_fields}
 use Rattle.dw_find.proofs.PlacedLaws.{PlacedCells}
 use Rattle.dw_find.proofs.SlotPlaceLaws.{SlotsIn, no-start}
 use Rattle.dw_rewrite.specs.Changes.{FieldSource, new_start, offset_at, start_known}
@@ -42,25 +43,25 @@ use Rattle.dw_rewrite.proofs.SaidLaws.{Sized}
 use Rattle.dw_rewrite.proofs.UnitWrittenLaws.{no_path-asks}
 
 -- the row of one of some fields, by the list
-abbrev pub AnyMisses : FieldSource → (ℕ → Option ℕ) → ℕ → List PathField → Refusal → Type 0
+abbrev pub AnyMisses : FieldSource → (ℕ → Option ℕ) → ℕ → List TextField → Refusal → Type 0
 AnyMisses s known number [] r = ⊥
 AnyMisses s known number (f ∷ fs) r = FieldMisses s number f (known (offset_at s f)) r ⊎ AnyMisses s known number fs r
 
-any-at : (s : FieldSource) (known : ℕ → Option ℕ) (number : ℕ) (fs : List PathField) (i : ℕ) (f : PathField) (r : Refusal) → i < length fs → f ≡ get_or fs i f
+any-at : (s : FieldSource) (known : ℕ → Option ℕ) (number : ℕ) (fs : List TextField) (i : ℕ) (f : TextField) (r : Refusal) → i < length fs → f ≡ get_or fs i f
     → FieldMisses s number f (known (offset_at s f)) r → AnyMisses s known number fs r
 any-at s known number [] i f r lt is h = absurd (omega (arith, lt))
-any-at s known number (g ∷ gs) zero f r lt is h = inl (subst (λ (x : PathField). FieldMisses s number x (known (offset_at s x)) r) is h)
+any-at s known number (g ∷ gs) zero f r lt is h = inl (subst (λ (x : TextField). FieldMisses s number x (known (offset_at s x)) r) is h)
 any-at s known number (g ∷ gs) (suc i) f r lt is h = inr (any-at s known number gs i f r (omega (arith, lt)) is h)
 
-pub any-of : (s : FieldSource) (known : ℕ → Option ℕ) (number : ℕ) (fs : List PathField) (r : Refusal) → FieldsMiss s known number fs r → AnyMisses s known number fs r
+pub any-of : (s : FieldSource) (known : ℕ → Option ℕ) (number : ℕ) (fs : List TextField) (r : Refusal) → FieldsMiss s known number fs r → AnyMisses s known number fs r
 any-of s known number fs r (one_field i f lt is h) = any-at s known number fs i f _ lt is h
 
 -- parts of fields
-makes-parts : (s : FieldSource) (known : ℕ → Option ℕ) (fs gs : List PathField) → FieldsMake s known (fs ++ gs) → FieldsMake s known fs × FieldsMake s known gs
+makes-parts : (s : FieldSource) (known : ℕ → Option ℕ) (fs gs : List TextField) → FieldsMake s known (fs ++ gs) → FieldsMake s known fs × FieldsMake s known gs
 makes-parts s known [] gs h = (tt, h)
 makes-parts s known (f ∷ fs) gs h = let rest = makes-parts s known fs gs h.1 in ((h.0, rest.0), rest.1)
 
-any-parts : (s : FieldSource) (known : ℕ → Option ℕ) (number : ℕ) (fs gs : List PathField) (r : Refusal) → AnyMisses s known number (fs ++ gs) r
+any-parts : (s : FieldSource) (known : ℕ → Option ℕ) (number : ℕ) (fs gs : List TextField) (r : Refusal) → AnyMisses s known number (fs ++ gs) r
     → AnyMisses s known number fs r ⊎ AnyMisses s known number gs r
 any-parts s known number [] gs r h = inr h
 any-parts s known number (f ∷ fs) gs r (inl h) = inl (inl h)
@@ -70,7 +71,7 @@ any-parts s known number (f ∷ fs) gs r (inr h) = by (any-parts s known number 
     by (inl x) = inl (inr x)
     by (inr x) = inr x
 
-sized-parts : (fs gs : List PathField) → Sized (fs ++ gs) → Sized fs × Sized gs
+sized-parts : (fs gs : List TextField) → Sized (fs ++ gs) → Sized fs × Sized gs
 sized-parts [] gs h = (tt, h)
 sized-parts (f ∷ fs) gs h = let rest = sized-parts fs gs h.1 in ((h.0, rest.0), rest.1)
 
@@ -132,54 +133,54 @@ starts_asked c a = start_known (a.stands Line).starts (starts_from 0 (c.new Line
 -- a piece by its role
 role-makes : (r : Role) (c : TableChanges) (a : Around) (cells p behind : List Cell) (place : ℕ) → (c.new Str).plan ≡ appending c.map (a.stands Str).bytes
     → (c.new LineStr).plan ≡ appending c.map (a.stands LineStr).bytes → p ++ behind ≡ drop place cells
-    → FieldsMake (text_source a cells in_str) (str_asked c a) (field_by in_str r place (length p))
-    → FieldsMake (text_source a cells in_line_str) (line_str_asked c a) (field_by in_line_str r place (length p))
+    → FieldsMake (text_source a cells InStr) (str_asked c a) (field_by InStr r place (length p))
+    → FieldsMake (text_source a cells InLineStr) (line_str_asked c a) (field_by InLineStr r place (length p))
     → FieldsMake (start_source a cells) (starts_asked c a) (start_by r place (length p)) → MakesRole r c a p
 role-makes fixed c a cells p behind place str line e hs hl ht = tt
 role-makes inline_path c a cells p behind place str line e hs hl ht = tt
-role-makes (offset in_str false) c a cells p behind place str line e hs hl ht =
-    let none = no_path-asks c.map (a.stands Str).bytes (c.new Str).plan (mention_at a in_str false p).text str in
+role-makes (offset InStr false) c a cells p behind place str line e hs hl ht =
+    let none = no_path-asks c.map (a.stands Str).bytes (c.new Str).plan (mention_at a InStr false p).text str in
     rw none tt
-role-makes (offset in_line_str false) c a cells p behind place str line e hs hl ht =
-    let none = no_path-asks c.map (a.stands LineStr).bytes (c.new LineStr).plan (mention_at a in_line_str false p).text line in
+role-makes (offset InLineStr false) c a cells p behind place str line e hs hl ht =
+    let none = no_path-asks c.map (a.stands LineStr).bytes (c.new LineStr).plan (mention_at a InLineStr false p).text line in
     rw none tt
-role-makes (offset in_str true) c a cells p behind place str line e hs hl ht =
-    subst (λ (o : Option ℕ). MakesNew o p) (path-new in_str c a cells p behind place e)
-    (one-makes (text_source a cells in_str) p behind place (str_asked c a (offset_at (text_source a cells in_str) (record { at = place; size = length p }))) e hs.0)
-role-makes (offset in_line_str true) c a cells p behind place str line e hs hl ht =
-    subst (λ (o : Option ℕ). MakesNew o p) (path-new in_line_str c a cells p behind place e)
-    (one-makes (text_source a cells in_line_str) p behind place (line_str_asked c a (offset_at (text_source a cells in_line_str) (record { at = place; size = length p }))) e hl.0)
+role-makes (offset InStr true) c a cells p behind place str line e hs hl ht =
+    subst (λ (o : Option ℕ). MakesNew o p) (path-new InStr c a cells p behind place e)
+    (one-makes (text_source a cells InStr) p behind place (str_asked c a (offset_at (text_source a cells InStr) (record { at = place; size = length p }))) e hs.0)
+role-makes (offset InLineStr true) c a cells p behind place str line e hs hl ht =
+    subst (λ (o : Option ℕ). MakesNew o p) (path-new InLineStr c a cells p behind place e)
+    (one-makes (text_source a cells InLineStr) p behind place (line_str_asked c a (offset_at (text_source a cells InLineStr) (record { at = place; size = length p }))) e hl.0)
 role-makes line_start c a cells p behind place str line e hs hl ht =
     subst (λ (o : Option ℕ). MakesNew o p) (start-new c a cells p behind place e)
     (one-makes (start_source a cells) p behind place (starts_asked c a (offset_at (start_source a cells) (record { at = place; size = length p }))) e ht.0)
 
 -- the same of one that misses, from what a piece of each role is in a list of fields
-abbrev pub MissesBy : (Role → ℕ → ℕ → List PathField) → TableChanges → Around → FieldSource → (ℕ → Option ℕ) → Type 0
+abbrev pub MissesBy : (Role → ℕ → ℕ → List TextField) → TableChanges → Around → FieldSource → (ℕ → Option ℕ) → Type 0
 MissesBy by c a s known =
     (r : Role) (p behind : List Cell) (number place : ℕ) (x : Refusal) → p ++ behind ≡ drop place s.cells → Sized (by r place (length p))
     → AnyMisses s known number (by r place (length p)) x → RoleMisses r c a p number place x
 
-str-misses : (c : TableChanges) (a : Around) (cells : List Cell) → MissesBy (field_by in_str) c a (text_source a cells in_str) (str_asked c a)
+str-misses : (c : TableChanges) (a : Around) (cells : List Cell) → MissesBy (field_by InStr) c a (text_source a cells InStr) (str_asked c a)
 str-misses c a cells fixed p behind number place x e sized h = absurd h
 str-misses c a cells inline_path p behind number place x e sized h = absurd h
 str-misses c a cells line_start p behind number place x e sized h = absurd h
-str-misses c a cells (offset in_str false) p behind number place x e sized h = absurd h
-str-misses c a cells (offset in_line_str path) p behind number place x e sized h = absurd h
-str-misses c a cells (offset in_str true) p behind number place x e sized (inr h) = absurd h
-str-misses c a cells (offset in_str true) p behind number place x e sized (inl h) =
-    one-misses (offset in_str true) c a (text_source a cells in_str) p behind number place
-    (str_asked c a (offset_at (text_source a cells in_str) (record { at = place; size = length p }))) x e sized.0 (path-new in_str c a cells p behind place e) h
+str-misses c a cells (offset InStr false) p behind number place x e sized h = absurd h
+str-misses c a cells (offset InLineStr path) p behind number place x e sized h = absurd h
+str-misses c a cells (offset InStr true) p behind number place x e sized (inr h) = absurd h
+str-misses c a cells (offset InStr true) p behind number place x e sized (inl h) =
+    one-misses (offset InStr true) c a (text_source a cells InStr) p behind number place
+    (str_asked c a (offset_at (text_source a cells InStr) (record { at = place; size = length p }))) x e sized.0 (path-new InStr c a cells p behind place e) h
 
-line_str-misses : (c : TableChanges) (a : Around) (cells : List Cell) → MissesBy (field_by in_line_str) c a (text_source a cells in_line_str) (line_str_asked c a)
+line_str-misses : (c : TableChanges) (a : Around) (cells : List Cell) → MissesBy (field_by InLineStr) c a (text_source a cells InLineStr) (line_str_asked c a)
 line_str-misses c a cells fixed p behind number place x e sized h = absurd h
 line_str-misses c a cells inline_path p behind number place x e sized h = absurd h
 line_str-misses c a cells line_start p behind number place x e sized h = absurd h
-line_str-misses c a cells (offset in_str path) p behind number place x e sized h = absurd h
-line_str-misses c a cells (offset in_line_str false) p behind number place x e sized h = absurd h
-line_str-misses c a cells (offset in_line_str true) p behind number place x e sized (inr h) = absurd h
-line_str-misses c a cells (offset in_line_str true) p behind number place x e sized (inl h) =
-    one-misses (offset in_line_str true) c a (text_source a cells in_line_str) p behind number place
-    (line_str_asked c a (offset_at (text_source a cells in_line_str) (record { at = place; size = length p }))) x e sized.0 (path-new in_line_str c a cells p behind place e) h
+line_str-misses c a cells (offset InStr path) p behind number place x e sized h = absurd h
+line_str-misses c a cells (offset InLineStr false) p behind number place x e sized h = absurd h
+line_str-misses c a cells (offset InLineStr true) p behind number place x e sized (inr h) = absurd h
+line_str-misses c a cells (offset InLineStr true) p behind number place x e sized (inl h) =
+    one-misses (offset InLineStr true) c a (text_source a cells InLineStr) p behind number place
+    (line_str_asked c a (offset_at (text_source a cells InLineStr) (record { at = place; size = length p }))) x e sized.0 (path-new InLineStr c a cells p behind place e) h
 
 start-misses : (c : TableChanges) (a : Around) (cells : List Cell) → MissesBy start_by c a (start_source a cells) (starts_asked c a)
 start-misses c a cells fixed p behind number place x e sized h = absurd h
@@ -196,20 +197,20 @@ StandFrom placed cells place [] = ⊤
 StandFrom placed cells place (x ∷ xs) = (placed x.state ≡ place) × (x.cells ++ joined xs ≡ drop place cells) × StandFrom placed cells (place + length x.cells) xs
 
 -- the fields that pieces are
-abbrev pub fields_in : {S : Type 0} → (Role → ℕ → ℕ → List PathField) → (Piece S → Role) → (S → ℕ) → List (Piece S) → List PathField
+abbrev pub fields_in : {S : Type 0} → (Role → ℕ → ℕ → List TextField) → (Piece S → Role) → (S → ℕ) → List (Piece S) → List TextField
 fields_in by role placed [] = []
 fields_in by role placed (x ∷ xs) = by (role x) (placed x.state) (length x.cells) ++ fields_in by role placed xs
 
 pieces-make : {S : Type 0} (role : Piece S → Role) (placed : S → ℕ) (c : TableChanges) (a : Around) (cells : List Cell) (place : ℕ) (xs : List (Piece S))
     → (c.new Str).plan ≡ appending c.map (a.stands Str).bytes → (c.new LineStr).plan ≡ appending c.map (a.stands LineStr).bytes → StandFrom placed cells place xs
-    → FieldsMake (text_source a cells in_str) (str_asked c a) (fields_in (field_by in_str) role placed xs)
-    → FieldsMake (text_source a cells in_line_str) (line_str_asked c a) (fields_in (field_by in_line_str) role placed xs)
+    → FieldsMake (text_source a cells InStr) (str_asked c a) (fields_in (field_by InStr) role placed xs)
+    → FieldsMake (text_source a cells InLineStr) (line_str_asked c a) (fields_in (field_by InLineStr) role placed xs)
     → FieldsMake (start_source a cells) (starts_asked c a) (fields_in start_by role placed xs) → EachPiece (λ x. MakesRole (role x) c a x.cells) xs
 pieces-make role placed c a cells place [] str line stand hs hl ht = tt
 pieces-make role placed c a cells place (x ∷ xs) str line stand hs hl ht =
-    let s = makes-parts (text_source a cells in_str) (str_asked c a) (field_by in_str (role x) (placed x.state) (length x.cells)) (fields_in (field_by in_str) role placed xs) hs in
-    let l = makes-parts (text_source a cells in_line_str) (line_str_asked c a) (field_by in_line_str (role x) (placed x.state) (length x.cells))
-    (fields_in (field_by in_line_str) role placed xs) hl in
+    let s = makes-parts (text_source a cells InStr) (str_asked c a) (field_by InStr (role x) (placed x.state) (length x.cells)) (fields_in (field_by InStr) role placed xs) hs in
+    let l = makes-parts (text_source a cells InLineStr) (line_str_asked c a) (field_by InLineStr (role x) (placed x.state) (length x.cells))
+    (fields_in (field_by InLineStr) role placed xs) hl in
     let t = makes-parts (start_source a cells) (starts_asked c a) (start_by (role x) (placed x.state) (length x.cells)) (fields_in start_by role placed xs) ht in
     let e : x.cells ++ joined xs ≡ drop (placed x.state) cells = stand.1 ∙ ap (λ (n : ℕ). drop n cells) (sym stand.0) in (
       role-makes (role x) c a cells x.cells (joined xs) (placed x.state) str line e s.0 l.0 t.0,
@@ -245,7 +246,7 @@ fails-later {S} role placed c a number x xs r h = record {
   is = h.is;
 }
 
-pieces-miss : {S : Type 0} (by : Role → ℕ → ℕ → List PathField) (role : Piece S → Role) (placed : S → ℕ) (c : TableChanges) (a : Around) (s : FieldSource) (known : ℕ → Option ℕ)
+pieces-miss : {S : Type 0} (by : Role → ℕ → ℕ → List TextField) (role : Piece S → Role) (placed : S → ℕ) (c : TableChanges) (a : Around) (s : FieldSource) (known : ℕ → Option ℕ)
     (number place : ℕ) (xs : List (Piece S)) (r : Refusal) → MissesBy by c a s known → StandFrom placed s.cells place xs → Sized (fields_in by role placed xs)
     → AnyMisses s known number (fields_in by role placed xs) r → PieceFails role placed c a number xs r
 pieces-miss by role placed c a s known number place [] r one stand sized h = absurd h
@@ -271,43 +272,43 @@ units-stand cells place (x ∷ xs) l = (l.0, l.1, units-stand cells (place + len
 
 units-text : (table : TextSection) (xs : List (Piece UnitState)) → path_fields table xs ≡ fields_in (field_by table) role_of unit_place xs
 units-text table [] = refl
-units-text table (x ∷ xs) = ap (λ (fs : List PathField). field_by table (role_of x) x.state.place (length x.cells) ++ fs) (units-text table xs)
+units-text table (x ∷ xs) = ap (λ (fs : List TextField). field_by table (role_of x) x.state.place (length x.cells) ++ fs) (units-text table xs)
 
 units-start : (xs : List (Piece UnitState)) → start_fields xs ≡ fields_in start_by role_of unit_place xs
 units-start [] = refl
-units-start (x ∷ xs) = ap (λ (fs : List PathField). start_by (role_of x) x.state.place (length x.cells) ++ fs) (units-start xs)
+units-start (x ∷ xs) = ap (λ (fs : List TextField). start_by (role_of x) x.state.place (length x.cells) ++ fs) (units-start xs)
 
 pub make-units : (c : TableChanges) (a : Around) (cells : List Cell) (xs : List (Piece UnitState)) → (c.new Str).plan ≡ appending c.map (a.stands Str).bytes
-    → (c.new LineStr).plan ≡ appending c.map (a.stands LineStr).bytes → PlacedCells cells 0 xs → FieldsMake (text_source a cells in_str) (str_asked c a) (path_fields in_str xs)
-    → FieldsMake (text_source a cells in_line_str) (line_str_asked c a) (path_fields in_line_str xs) → FieldsMake (start_source a cells) (starts_asked c a) (start_fields xs)
+    → (c.new LineStr).plan ≡ appending c.map (a.stands LineStr).bytes → PlacedCells cells 0 xs → FieldsMake (text_source a cells InStr) (str_asked c a) (path_fields InStr xs)
+    → FieldsMake (text_source a cells InLineStr) (line_str_asked c a) (path_fields InLineStr xs) → FieldsMake (start_source a cells) (starts_asked c a) (start_fields xs)
     → EachPiece (λ x. MakesRole (role_of x) c a x.cells) xs
 make-units c a cells xs str line l hs hl ht =
     pieces-make role_of unit_place c a cells 0 xs str line (units-stand cells 0 xs l)
-    (subst (FieldsMake (text_source a cells in_str) (str_asked c a)) (units-text in_str xs) hs)
-    (subst (FieldsMake (text_source a cells in_line_str) (line_str_asked c a)) (units-text in_line_str xs) hl)
+    (subst (FieldsMake (text_source a cells InStr) (str_asked c a)) (units-text InStr xs) hs)
+    (subst (FieldsMake (text_source a cells InLineStr) (line_str_asked c a)) (units-text InLineStr xs) hl)
     (subst (FieldsMake (start_source a cells) (starts_asked c a)) (units-start xs) ht)
 
 pub miss-units-str : (c : TableChanges) (a : Around) (cells : List Cell) (number : ℕ) (xs : List (Piece UnitState)) (r : Refusal) → PlacedCells cells 0 xs
-    → Sized (path_fields in_str xs) → AnyMisses (text_source a cells in_str) (str_asked c a) number (path_fields in_str xs) r → PieceFails role_of unit_place c a number xs r
+    → Sized (path_fields InStr xs) → AnyMisses (text_source a cells InStr) (str_asked c a) number (path_fields InStr xs) r → PieceFails role_of unit_place c a number xs r
 miss-units-str c a cells number xs r l sized h =
-    pieces-miss (field_by in_str) role_of unit_place c a (text_source a cells in_str) (str_asked c a) number 0 xs r (str-misses c a cells) (units-stand cells 0 xs l)
-    (subst Sized (units-text in_str xs) sized)
-    (subst (λ (fs : List PathField). AnyMisses (text_source a cells in_str) (str_asked c a) number fs r) (units-text in_str xs) h)
+    pieces-miss (field_by InStr) role_of unit_place c a (text_source a cells InStr) (str_asked c a) number 0 xs r (str-misses c a cells) (units-stand cells 0 xs l)
+    (subst Sized (units-text InStr xs) sized)
+    (subst (λ (fs : List TextField). AnyMisses (text_source a cells InStr) (str_asked c a) number fs r) (units-text InStr xs) h)
 
 pub miss-units-line_str : (c : TableChanges) (a : Around) (cells : List Cell) (number : ℕ) (xs : List (Piece UnitState)) (r : Refusal) → PlacedCells cells 0 xs
-    → Sized (path_fields in_line_str xs) → AnyMisses (text_source a cells in_line_str) (line_str_asked c a) number (path_fields in_line_str xs) r
+    → Sized (path_fields InLineStr xs) → AnyMisses (text_source a cells InLineStr) (line_str_asked c a) number (path_fields InLineStr xs) r
     → PieceFails role_of unit_place c a number xs r
 miss-units-line_str c a cells number xs r l sized h =
-    pieces-miss (field_by in_line_str) role_of unit_place c a (text_source a cells in_line_str) (line_str_asked c a) number 0 xs r (line_str-misses c a cells) (units-stand cells 0 xs l)
-    (subst Sized (units-text in_line_str xs) sized)
-    (subst (λ (fs : List PathField). AnyMisses (text_source a cells in_line_str) (line_str_asked c a) number fs r) (units-text in_line_str xs) h)
+    pieces-miss (field_by InLineStr) role_of unit_place c a (text_source a cells InLineStr) (line_str_asked c a) number 0 xs r (line_str-misses c a cells) (units-stand cells 0 xs l)
+    (subst Sized (units-text InLineStr xs) sized)
+    (subst (λ (fs : List TextField). AnyMisses (text_source a cells InLineStr) (line_str_asked c a) number fs r) (units-text InLineStr xs) h)
 
 pub miss-units-start : (c : TableChanges) (a : Around) (cells : List Cell) (number : ℕ) (xs : List (Piece UnitState)) (r : Refusal) → PlacedCells cells 0 xs
     → Sized (start_fields xs) → AnyMisses (start_source a cells) (starts_asked c a) number (start_fields xs) r → PieceFails role_of unit_place c a number xs r
 miss-units-start c a cells number xs r l sized h =
     pieces-miss start_by role_of unit_place c a (start_source a cells) (starts_asked c a) number 0 xs r (start-misses c a cells) (units-stand cells 0 xs l)
     (subst Sized (units-start xs) sized)
-    (subst (λ (fs : List PathField). AnyMisses (start_source a cells) (starts_asked c a) number fs r) (units-start xs) h)
+    (subst (λ (fs : List TextField). AnyMisses (start_source a cells) (starts_asked c a) number fs r) (units-start xs) h)
 
 -- string offsets
 abbrev pub slot_place : OffsetState → ℕ
@@ -322,31 +323,31 @@ slots-stand cells place (x ∷ xs) l = (l.0, l.1, slots-stand cells (place + len
 
 slots-text : (table : TextSection) (paths : List ℕ) (xs : List (Piece OffsetState)) → offset_fields table paths xs ≡ fields_in (field_by table) (slot_piece_role paths) slot_place xs
 slots-text table paths [] = refl
-slots-text table paths (x ∷ xs) = ap (λ (fs : List PathField). field_by table (slot_role paths x.state) x.state.place (length x.cells) ++ fs) (slots-text table paths xs)
+slots-text table paths (x ∷ xs) = ap (λ (fs : List TextField). field_by table (slot_role paths x.state) x.state.place (length x.cells) ++ fs) (slots-text table paths xs)
 
 slots-start : (paths : List ℕ) (xs : List (Piece OffsetState)) → fields_in start_by (slot_piece_role paths) slot_place xs ≡ []
 slots-start paths [] = refl
 slots-start paths (x ∷ xs) =
-    ap (λ (fs : List PathField). fs ++ fields_in start_by (slot_piece_role paths) slot_place xs) (no-start paths x.state.mode x.state.slot x.state.place (length x.cells))
+    ap (λ (fs : List TextField). fs ++ fields_in start_by (slot_piece_role paths) slot_place xs) (no-start paths x.state.mode x.state.slot x.state.place (length x.cells))
     ∙ slots-start paths xs
 
 pub make-slots : (c : TableChanges) (a : Around) (cells : List Cell) (paths : List ℕ) (xs : List (Piece OffsetState)) → (c.new Str).plan ≡ appending c.map (a.stands Str).bytes
-    → (c.new LineStr).plan ≡ appending c.map (a.stands LineStr).bytes → SlotsIn cells 0 xs → FieldsMake (text_source a cells in_str) (str_asked c a) (offset_fields in_str paths xs)
-    → FieldsMake (text_source a cells in_line_str) (line_str_asked c a) (offset_fields in_line_str paths xs)
+    → (c.new LineStr).plan ≡ appending c.map (a.stands LineStr).bytes → SlotsIn cells 0 xs → FieldsMake (text_source a cells InStr) (str_asked c a) (offset_fields InStr paths xs)
+    → FieldsMake (text_source a cells InLineStr) (line_str_asked c a) (offset_fields InLineStr paths xs)
     → EachPiece (λ x. MakesRole (slot_role paths x.state) c a x.cells) xs
 make-slots c a cells paths xs str line l hs hl =
     pieces-make (slot_piece_role paths) slot_place c a cells 0 xs str line (slots-stand cells 0 xs l)
-    (subst (FieldsMake (text_source a cells in_str) (str_asked c a)) (slots-text in_str paths xs) hs)
-    (subst (FieldsMake (text_source a cells in_line_str) (line_str_asked c a)) (slots-text in_line_str paths xs) hl)
+    (subst (FieldsMake (text_source a cells InStr) (str_asked c a)) (slots-text InStr paths xs) hs)
+    (subst (FieldsMake (text_source a cells InLineStr) (line_str_asked c a)) (slots-text InLineStr paths xs) hl)
     (subst (FieldsMake (start_source a cells) (starts_asked c a)) (sym (slots-start paths xs)) tt)
 
 pub miss-slots : (c : TableChanges) (a : Around) (cells : List Cell) (paths : List ℕ) (number : ℕ) (xs : List (Piece OffsetState)) (r : Refusal) → SlotsIn cells 0 xs
-    → Sized (offset_fields in_str paths xs) → AnyMisses (text_source a cells in_str) (str_asked c a) number (offset_fields in_str paths xs) r
+    → Sized (offset_fields InStr paths xs) → AnyMisses (text_source a cells InStr) (str_asked c a) number (offset_fields InStr paths xs) r
     → PieceFails (slot_piece_role paths) slot_place c a number xs r
 miss-slots c a cells paths number xs r l sized h =
-    pieces-miss (field_by in_str) (slot_piece_role paths) slot_place c a (text_source a cells in_str) (str_asked c a) number 0 xs r (str-misses c a cells) (slots-stand cells 0 xs l)
-    (subst Sized (slots-text in_str paths xs) sized)
-    (subst (λ (fs : List PathField). AnyMisses (text_source a cells in_str) (str_asked c a) number fs r) (slots-text in_str paths xs) h)
+    pieces-miss (field_by InStr) (slot_piece_role paths) slot_place c a (text_source a cells InStr) (str_asked c a) number 0 xs r (str-misses c a cells) (slots-stand cells 0 xs l)
+    (subst Sized (slots-text InStr paths xs) sized)
+    (subst (λ (fs : List TextField). AnyMisses (text_source a cells InStr) (str_asked c a) number fs r) (slots-text InStr paths xs) h)
 
 -- macro units
 abbrev pub macro_place : MacroState → ℕ
@@ -367,20 +368,20 @@ macros-stand order cells s place (x ∷ xs) stands chain e =
 
 macros-start : (xs : List (Piece MacroState)) → macro_starts xs ≡ fields_in start_by macro_piece_role macro_place xs
 macros-start [] = refl
-macros-start (x ∷ xs) = ap (λ (fs : List PathField). start_by (macro_role x.state) x.state.place (length x.cells) ++ fs) (macros-start xs)
+macros-start (x ∷ xs) = ap (λ (fs : List TextField). start_by (macro_role x.state) x.state.place (length x.cells) ++ fs) (macros-start xs)
 
 macros-text : (table : TextSection) (xs : List (Piece MacroState)) → fields_in (field_by table) macro_piece_role macro_place xs ≡ []
 macros-text table [] = refl
 macros-text table (x ∷ xs) =
-    ap (λ (fs : List PathField). fs ++ fields_in (field_by table) macro_piece_role macro_place xs) (no-path table x.state.mode x.state.place (length x.cells)) ∙ macros-text table xs
+    ap (λ (fs : List TextField). fs ++ fields_in (field_by table) macro_piece_role macro_place xs) (no-path table x.state.mode x.state.place (length x.cells)) ∙ macros-text table xs
 
 pub make-macros : (c : TableChanges) (a : Around) (order : Order) (cells : List Cell) (s : MacroState) (xs : List (Piece MacroState)) → (c.new Str).plan ≡ appending c.map (a.stands Str).bytes
     → (c.new LineStr).plan ≡ appending c.map (a.stands LineStr).bytes → s.place ≡ 0 → Chain (macro_grammar order) s xs → joined xs ≡ cells
     → FieldsMake (start_source a cells) (starts_asked c a) (macro_starts xs) → EachPiece (λ x. MakesRole (macro_role x.state) c a x.cells) xs
 make-macros c a order cells s xs str line stands chain e ht =
     pieces-make macro_piece_role macro_place c a cells 0 xs str line (macros-stand order cells s 0 xs stands chain e)
-    (subst (FieldsMake (text_source a cells in_str) (str_asked c a)) (sym (macros-text in_str xs)) tt)
-    (subst (FieldsMake (text_source a cells in_line_str) (line_str_asked c a)) (sym (macros-text in_line_str xs)) tt)
+    (subst (FieldsMake (text_source a cells InStr) (str_asked c a)) (sym (macros-text InStr xs)) tt)
+    (subst (FieldsMake (text_source a cells InLineStr) (line_str_asked c a)) (sym (macros-text InLineStr xs)) tt)
     (subst (FieldsMake (start_source a cells) (starts_asked c a)) (macros-start xs) ht)
 
 pub miss-macros : (c : TableChanges) (a : Around) (order : Order) (cells : List Cell) (s : MacroState) (number : ℕ) (xs : List (Piece MacroState)) (r : Refusal) → s.place ≡ 0
@@ -389,7 +390,7 @@ pub miss-macros : (c : TableChanges) (a : Around) (order : Order) (cells : List 
 miss-macros c a order cells s number xs r stands chain e sized h =
     pieces-miss start_by macro_piece_role macro_place c a (start_source a cells) (starts_asked c a) number 0 xs r (start-misses c a cells)
     (macros-stand order cells s 0 xs stands chain e) (subst Sized (macros-start xs) sized)
-    (subst (λ (fs : List PathField). AnyMisses (start_source a cells) (starts_asked c a) number fs r) (macros-start xs) h)
+    (subst (λ (fs : List TextField). AnyMisses (start_source a cells) (starts_asked c a) number fs r) (macros-start xs) h)
 
 -- the string offsets of name tables aren't those of paths
 name-makes : (mode : NameMode) (c : TableChanges) (a : Around) (p : List Cell) → (c.new Str).plan ≡ appending c.map (a.stands Str).bytes → MakesRole (name_role_by mode) c a p
@@ -397,7 +398,7 @@ name-makes at_table c a p str = tt
 name-makes (at_rest end) c a p str = tt
 name-makes no_names c a p str = tt
 name-makes (at_string width left end) c a p str =
-    let none = no_path-asks c.map (a.stands Str).bytes (c.new Str).plan (mention_at a in_str false p).text str in
+    let none = no_path-asks c.map (a.stands Str).bytes (c.new Str).plan (mention_at a InStr false p).text str in
     rw none tt
 
 pub make-names : (c : TableChanges) (a : Around) (xs : List (Piece NameState)) → (c.new Str).plan ≡ appending c.map (a.stands Str).bytes → EachPiece (λ x. MakesRole (name_role x.state) c a x.cells) xs

@@ -11,7 +11,7 @@ use Rattle.dw_rewrite.specs.NewTables.{bodies_known}
 use Rattle.dw_find.specs.SlotPaths.{count_of, lines_count}
 use Rattle.dw_rewrite.specs.PushedBodies.{kept_body, macros_among, macros_count, names_body, one_body, pushed_bodies, slots_among, slots_count, some_sections, without_macros, without_slots}
 use Rattle.dw_find.specs.FoundPaths.{without_lines}
-use Rattle.dw_find.specs.UnitPaths.{UnitPaths}
+use Rattle.dw_find.specs.SectionFields.{SectionFields}
 
 -- how many sections of string offsets there are
 pub count-some : (v : View) (i : ℕ) → Some i ≡ section_named v (name_of StrOffsets) → 1 ≡ slots_count v
@@ -29,18 +29,18 @@ lines-none v e = ap count_of e
 pub ruleset count_rules = (count-some, count-none, lines-some, lines-none)
 
 -- sections without the last
-pub without-taken : (v : View) (us part : List UnitPaths) (n : ℕ) → n ≡ lines_count v → part ≡ take (length us - n) us → part ≡ without_lines v us
+pub without-taken : (v : View) (us part : List SectionFields) (n : ℕ) → n ≡ lines_count v → part ≡ take (length us - n) us → part ≡ without_lines v us
 without-taken v us part n count is = is ∙ ap (λ (k : ℕ). take (length us - k) us) count
 
 pub ruleset without_rules = (without-taken)
 
 -- the section of string offsets
-pub slots-none : (m : PathMap) (v : View) (ks kl kt : ℕ → Option ℕ) (us : List UnitPaths) (old new : List Body) (x : Body) → length us ≡ 0 → x ≡ record { number = 0; bytes = [] }
+pub slots-none : (m : PathMap) (v : View) (ks kl kt : ℕ → Option ℕ) (us : List SectionFields) (old new : List Body) (x : Body) → length us ≡ 0 → x ≡ record { number = 0; bytes = [] }
     → new ≡ old ++ x ∷ [] → new ≡ old ++ one_body (bodies_known m v ks kl kt us)
 slots-none m v ks kl kt [] old new x none is e = e ∙ ap (λ (b : Body). old ++ b ∷ []) is
 slots-none m v ks kl kt (u ∷ us) old new x none is e = absurd (omega (arith, none))
 
-pub slots-some : (m : PathMap) (v : View) (ks kl kt : ℕ → Option ℕ) (us : List UnitPaths) (old new : List Body) → 0 < length us
+pub slots-some : (m : PathMap) (v : View) (ks kl kt : ℕ → Option ℕ) (us : List SectionFields) (old new : List Body) → 0 < length us
     → new ≡ old ++ bodies_known m v ks kl kt us → new ≡ old ++ one_body (bodies_known m v ks kl kt us)
 slots-some m v ks kl kt [] old new some e = absurd (omega (arith, some))
 slots-some m v ks kl kt (u ∷ us) old new some e = e
@@ -60,39 +60,39 @@ names-pushed v old new x is e = e ∙ ap (λ (b : Body). old ++ b ∷ []) is
 pub ruleset name_rules = (names-some, names-none, names-pushed)
 
 -- parts of sections that have places and offsets have them
-have-parts : (v : View) (xs ys : List UnitPaths) → AllHavePlaces v (xs ++ ys) → AllHavePlaces v xs × AllHavePlaces v ys
+have-parts : (v : View) (xs ys : List SectionFields) → AllHavePlaces v (xs ++ ys) → AllHavePlaces v xs × AllHavePlaces v ys
 have-parts v [] ys h = (tt, h)
 have-parts v (x ∷ xs) ys h = let rest = have-parts v xs ys h.1 in ((h.0, rest.0), rest.1)
 
-offsets-parts : (v : View) (xs ys : List UnitPaths) → AllHaveOffsets v (xs ++ ys) → AllHaveOffsets v xs × AllHaveOffsets v ys
+offsets-parts : (v : View) (xs ys : List SectionFields) → AllHaveOffsets v (xs ++ ys) → AllHaveOffsets v xs × AllHaveOffsets v ys
 offsets-parts v [] ys h = (tt, h)
 offsets-parts v (x ∷ xs) ys h = let rest = offsets-parts v xs ys h.1 in ((h.0, rest.0), rest.1)
 
-rooms-parts : (m : PathMap) (v : View) (xs ys : List UnitPaths) → AllRoomsFit m v (xs ++ ys) → AllRoomsFit m v xs × AllRoomsFit m v ys
+rooms-parts : (m : PathMap) (v : View) (xs ys : List SectionFields) → AllRoomsFit m v (xs ++ ys) → AllRoomsFit m v xs × AllRoomsFit m v ys
 rooms-parts m v [] ys h = (tt, h)
 rooms-parts m v (x ∷ xs) ys h = let rest = rooms-parts m v xs ys h.1 in ((h.0, rest.0), rest.1)
 
-pub have-front : (v : View) (n : ℕ) (us part : List UnitPaths) → part ≡ take n us → AllHavePlaces v us → AllHavePlaces v part
+pub have-front : (v : View) (n : ℕ) (us part : List SectionFields) → part ≡ take n us → AllHavePlaces v us → AllHavePlaces v part
 have-front v n us part e h =
     subst (AllHavePlaces v) (sym e) (have-parts v (take n us) (drop n us) (subst (AllHavePlaces v) (sym (take-append-drop n us)) h)).0
 
-pub have-back : (v : View) (n : ℕ) (us part : List UnitPaths) → part ≡ drop n us → AllHavePlaces v us → AllHavePlaces v part
+pub have-back : (v : View) (n : ℕ) (us part : List SectionFields) → part ≡ drop n us → AllHavePlaces v us → AllHavePlaces v part
 have-back v n us part e h =
     subst (AllHavePlaces v) (sym e) (have-parts v (take n us) (drop n us) (subst (AllHavePlaces v) (sym (take-append-drop n us)) h)).1
 
-pub offsets-front : (v : View) (n : ℕ) (us part : List UnitPaths) → part ≡ take n us → AllHaveOffsets v us → AllHaveOffsets v part
+pub offsets-front : (v : View) (n : ℕ) (us part : List SectionFields) → part ≡ take n us → AllHaveOffsets v us → AllHaveOffsets v part
 offsets-front v n us part e h =
     subst (AllHaveOffsets v) (sym e) (offsets-parts v (take n us) (drop n us) (subst (AllHaveOffsets v) (sym (take-append-drop n us)) h)).0
 
-pub offsets-back : (v : View) (n : ℕ) (us part : List UnitPaths) → part ≡ drop n us → AllHaveOffsets v us → AllHaveOffsets v part
+pub offsets-back : (v : View) (n : ℕ) (us part : List SectionFields) → part ≡ drop n us → AllHaveOffsets v us → AllHaveOffsets v part
 offsets-back v n us part e h =
     subst (AllHaveOffsets v) (sym e) (offsets-parts v (take n us) (drop n us) (subst (AllHaveOffsets v) (sym (take-append-drop n us)) h)).1
 
-pub rooms-front : (m : PathMap) (v : View) (n : ℕ) (us part : List UnitPaths) → part ≡ take n us → AllRoomsFit m v us → AllRoomsFit m v part
+pub rooms-front : (m : PathMap) (v : View) (n : ℕ) (us part : List SectionFields) → part ≡ take n us → AllRoomsFit m v us → AllRoomsFit m v part
 rooms-front m v n us part e h =
     subst (AllRoomsFit m v) (sym e) (rooms-parts m v (take n us) (drop n us) (subst (AllRoomsFit m v) (sym (take-append-drop n us)) h)).0
 
-pub rooms-back : (m : PathMap) (v : View) (n : ℕ) (us part : List UnitPaths) → part ≡ drop n us → AllRoomsFit m v us → AllRoomsFit m v part
+pub rooms-back : (m : PathMap) (v : View) (n : ℕ) (us part : List SectionFields) → part ≡ drop n us → AllRoomsFit m v us → AllRoomsFit m v part
 rooms-back m v n us part e h =
     subst (AllRoomsFit m v) (sym e) (rooms-parts m v (take n us) (drop n us) (subst (AllRoomsFit m v) (sym (take-append-drop n us)) h)).1
 
@@ -107,7 +107,7 @@ all-joined old slots macros units first with_lines second third fourth back fron
     ∙ ap (λ (bs : List Body). old ++ (slots ++ lines ∷ names ∷ (macros ++ bs))) f
 
 -- one after another
-pub all-pushed : (m : PathMap) (v : View) (ks kl kt : ℕ → Option ℕ) (us front macros units slots : List UnitPaths) (k n : ℕ) (lines : Body) (old first with_lines second third fourth : List Body)
+pub all-pushed : (m : PathMap) (v : View) (ks kl kt : ℕ → Option ℕ) (us front macros units slots : List SectionFields) (k n : ℕ) (lines : Body) (old first with_lines second third fourth : List Body)
     → k ≡ macros_count v → n ≡ slots_count v → front ≡ take (length us - k) us → macros ≡ drop (length us - k) us → units ≡ take (length front - n) front
     → slots ≡ drop (length front - n) front → first ≡ old ++ one_body (bodies_known m v ks kl kt slots)
     → with_lines ≡ first ++ lines ∷ [] → second ≡ with_lines ++ names_body v ∷ [] → third ≡ second ++ bodies_known m v ks kl kt macros
@@ -121,19 +121,19 @@ all-pushed m v ks kl kt us front macros units slots k n lines old first with_lin
     s ∙ ap (λ (i : ℕ). drop (length front - i) front) some ∙ ap (slots_among v) front_is in
     all-joined old (one_body (bodies_known m v ks kl kt (slots_among v (without_macros v us)))) (bodies_known m v ks kl kt (macros_among v us))
     (bodies_known m v ks kl kt (without_slots v (without_macros v us))) first with_lines second third fourth (bodies_known m v ks kl kt macros) (bodies_known m v ks kl kt units) lines (names_body v)
-    (x ∙ ap (λ (xs : List UnitPaths). old ++ one_body (bodies_known m v ks kl kt xs)) slots_are) w y z last
+    (x ∙ ap (λ (xs : List SectionFields). old ++ one_body (bodies_known m v ks kl kt xs)) slots_are) w y z last
     (ap (bodies_known m v ks kl kt) macros_are) (ap (bodies_known m v ks kl kt) units_are)
 
 -- there are as many
-pub macros-within : (v : View) (us : List UnitPaths) (k : ℕ) → k ≡ macros_count v → some_sections v ≤ length us → k ≤ length us
+pub macros-within : (v : View) (us : List SectionFields) (k : ℕ) → k ≡ macros_count v → some_sections v ≤ length us → k ≤ length us
 macros-within v us k many among =
     let all : slots_count v + macros_count v ≤ length us = among in
     omega (arith, many, all)
 
-pub slots-within : (v : View) (us front : List UnitPaths) (k n : ℕ) → front ≡ take (length us - k) us → k ≡ macros_count v → n ≡ slots_count v → some_sections v ≤ length us
+pub slots-within : (v : View) (us front : List SectionFields) (k n : ℕ) → front ≡ take (length us - k) us → k ≡ macros_count v → n ≡ slots_count v → some_sections v ≤ length us
     → n ≤ length front
 slots-within v us front k n f many some among =
-    let size : length front ≡ length (take (length us - k) us) = ap (λ (l : List UnitPaths). length l) f in
+    let size : length front ≡ length (take (length us - k) us) = ap (λ (l : List SectionFields). length l) f in
     let all : slots_count v + macros_count v ≤ length us = among in
     omega (arith, size, many, some, all, length-take (length us - k) us)
 

@@ -4,7 +4,6 @@ use Rattle.std.proofs.Common.{◌≡◌, ◌⊎◌, inl, inr, ℕ, ◌*◌, ◌<
 use Rattle.dw_base.specs.DebugData.{DataReadings, around_of, path_slots}
 use Rattle.dw_base.specs.Elf.{contents_of, word_size}
 use Rattle.dw_base.specs.FileViews.{View, view_of}
-use Rattle.dw_base.specs.Forms.{TextSection, in_str, in_line_str}
 use Rattle.dw_base.specs.LineTables.{LineTable}
 use Rattle.dw_base.specs.MacroReadings.{EachMacro}
 use Rattle.dw_base.specs.Paths.{PathMap}
@@ -20,6 +19,8 @@ use Rattle.dw_base.specs.ViewData.{debug_data}
 use Rattle.dw_base.specs.declared.fault.Refusal.{Refusal}
 use Rattle.dw_base.proofs.NumberLaws.{spelled-lt}
 use Rattle.dw_base.specs.declared.debug_sections.DebugSection.TheVariants.{Info}
+use Rattle.dw_base.specs.declared.texts.TextSection.{TextSection}
+use Rattle.dw_base.specs.declared.texts.TextSection.TheVariants.{InStr, InLineStr}
 use Rattle.dw_meaning.specs.DataOutput.{changes_of, table_change}
 use Rattle.dw_meaning.specs.FileMeanings.{file_data}
 use Rattle.dw_meaning.specs.NewAddends.{AddendsFail, MakesRole}
@@ -29,7 +30,7 @@ use Rattle.dw_patch.specs.RecordMoves.{PlacesFit}
 use Rattle.dw_find.specs.FoundPaths.{PathsFound, without_lines}
 use Rattle.dw_find.specs.MacroSections.{macros_read}
 use Rattle.dw_find.specs.SlotPaths.{slots_read}
-use Rattle.dw_find.specs.UnitPaths.{UnitPaths, paths_of}
+use Rattle.dw_find.specs.SectionFields.{SectionFields, paths_of}
 use Rattle.dw_find.specs.ViewFields.{AllHaveOffsets, AllHavePlaces}
 use Rattle.dw_find.specs.ViewLines.{lines_of_view}
 use Rattle.dw_find.proofs.FoundUnitLaws.{without-is}
@@ -57,13 +58,13 @@ pub places-fit : (b : List ℕ) → ((n : ℕ) → slice_index b n < 256) → Al
 places-fit b small = record { each = λ i k lt is. source-fits (relocation_source (contents_of b) b k) (table-small b k small) }
 
 -- the sections that were found, but for that of line tables
-abbrev pub parts_of : View → DataReadings → List UnitPaths
+abbrev pub parts_of : View → DataReadings → List SectionFields
 parts_of v all = (paths_of all.units ++ slots_read v all) ++ macros_read all.macros
 
-without-parts : (m : PathMap) (v : View) (us : List UnitPaths) (ts : List LineTable) (f : PathsFound m v us ts) → without_lines v us ≡ parts_of v f.readings
+without-parts : (m : PathMap) (v : View) (us : List SectionFields) (ts : List LineTable) (f : PathsFound m v us ts) → without_lines v us ≡ parts_of v f.readings
 without-parts m v us ts f = without-is v us (parts_of v f.readings) ts f.is
 
-pub found-parts : (m : PathMap) (v : View) (us : List UnitPaths) (ts : List LineTable) (f : PathsFound m v us ts) → FoundParts v f.readings
+pub found-parts : (m : PathMap) (v : View) (us : List SectionFields) (ts : List LineTable) (f : PathsFound m v us ts) → FoundParts v f.readings
 found-parts m v us ts f =
     let offsets = offsets-parts v (parts_of v f.readings) (lines_of_view v ts) (subst (AllHaveOffsets v) f.is f.offsets) in
     let front = offsets-parts v (paths_of f.readings.units ++ slots_read v f.readings) (macros_read f.readings.macros) offsets.0 in
@@ -85,26 +86,26 @@ each-front : {X : Type 0} (P : X → Type 0) (xs ys : List X) → EachOf P (xs +
 each-front P [] ys h = tt
 each-front P (x ∷ xs) ys h = (h.0, each-front P xs ys h.1)
 
-parts-noted : (m : PathMap) (v : View) (table : TextSection) (us : List UnitPaths) (ts : List LineTable) (pool : TextTable) (known : ℕ → Option ℕ) (f : PathsFound m v us ts)
+parts-noted : (m : PathMap) (v : View) (table : TextSection) (us : List SectionFields) (ts : List LineTable) (pool : TextTable) (known : ℕ → Option ℕ) (f : PathsFound m v us ts)
     → TableMade m v table us pool known → EachOf (λ u. IsSectionNoted m v table u known) (parts_of v f.readings)
 parts-noted m v table us ts pool known f t =
     each-front (λ u. IsSectionNoted m v table u known) (parts_of v f.readings) (lines_of_view v ts)
     (subst (EachOf (λ u. IsSectionNoted m v table u known)) f.is (made-noted m v table us pool known t))
 
 -- the sections of relocations are those of the output
-pub records-held : (m : PathMap) (b : List ℕ) (us : List UnitPaths) (ts : List LineTable) (ps pl : TextTable) (ks kl kt : ℕ → Option ℕ) (f : PathsFound m (view_of b) us ts)
-    → TableMade m (view_of b) in_str us ps ks → TableMade m (view_of b) in_line_str us pl kl → kt ≡ starts_after m (view_of b) f.readings → RelocationSectionsRead (contents_of b) b
+pub records-held : (m : PathMap) (b : List ℕ) (us : List SectionFields) (ts : List LineTable) (ps pl : TextTable) (ks kl kt : ℕ → Option ℕ) (f : PathsFound m (view_of b) us ts)
+    → TableMade m (view_of b) InStr us ps ks → TableMade m (view_of b) InLineStr us pl kl → kt ≡ starts_after m (view_of b) f.readings → RelocationSectionsRead (contents_of b) b
     → records_known b (view_of b) ks kl kt (without_lines (view_of b) us)
     ≡ held_bodies b (new_cells m (file_data b) f.readings) (numbers_in (parts_of (view_of b) f.readings))
 records-held m b us ts ps pl ks kl kt f s l starts sections =
     let v : View = view_of b in
     let all : DataReadings = f.readings in
     ap (records_known b v ks kl kt) (without-parts m v us ts f)
-    ∙ records-asked m b v ps pl ks kl kt (parts_of v all) s.grown l.grown (parts-noted m v in_str us ts ps ks f s) (parts-noted m v in_line_str us ts pl kl f l)
-    ∙ ap (λ (xs : List (List ℕ)). records_known b (view_of b) (asked_in m (view_of b) in_str xs) (asked_in m (view_of b) in_line_str pl.texts) kt (parts_of (view_of b) f.readings))
-    (made-table m v in_str us ts ps ks f s)
-    ∙ ap (λ (xs : List (List ℕ)). records_known b (view_of b) (str_after m (view_of b) f.readings) (asked_in m (view_of b) in_line_str xs) kt (parts_of (view_of b) f.readings))
-    (made-table m v in_line_str us ts pl kl f l)
+    ∙ records-asked m b v ps pl ks kl kt (parts_of v all) s.grown l.grown (parts-noted m v InStr us ts ps ks f s) (parts-noted m v InLineStr us ts pl kl f l)
+    ∙ ap (λ (xs : List (List ℕ)). records_known b (view_of b) (asked_in m (view_of b) InStr xs) (asked_in m (view_of b) InLineStr pl.texts) kt (parts_of (view_of b) f.readings))
+    (made-table m v InStr us ts ps ks f s)
+    ∙ ap (λ (xs : List (List ℕ)). records_known b (view_of b) (str_after m (view_of b) f.readings) (asked_in m (view_of b) InLineStr xs) kt (parts_of (view_of b) f.readings))
+    (made-table m v InLineStr us ts pl kl f l)
     ∙ ap (λ (k : ℕ → Option ℕ). records_known b (view_of b) (str_after m (view_of b) f.readings) (line_str_after m (view_of b) f.readings) k (parts_of (view_of b) f.readings)) starts
     ∙ records-after m b f.readings sections f.reads (found-parts m v us ts f)
 
@@ -115,14 +116,14 @@ pub record SectionsFit (m : PathMap) (v : View) (all : DataReadings) : Type 0 wh
   pub macros : EachMacro (λ x. MakesRole (macro_role x.state) (edit_of m v all) (around_of (debug_data v) all) x.cells) all.macros
   pub names : EachPiece (λ x. MakesRole (name_role x.state) (edit_of m v all) (around_of (debug_data v) all) x.cells) all.names
 
-all-after : (m : PathMap) (v : View) (us : List UnitPaths) (ts : List LineTable) (ps pl : TextTable) (ks kl kt : ℕ → Option ℕ) (f : PathsFound m v us ts)
-    → TableMade m v in_str us ps ks → TableMade m v in_line_str us pl kl → kt ≡ starts_after m v f.readings → AllMake v ks kl kt (without_lines v us)
+all-after : (m : PathMap) (v : View) (us : List SectionFields) (ts : List LineTable) (ps pl : TextTable) (ks kl kt : ℕ → Option ℕ) (f : PathsFound m v us ts)
+    → TableMade m v InStr us ps ks → TableMade m v InLineStr us pl kl → kt ≡ starts_after m v f.readings → AllMake v ks kl kt (without_lines v us)
     → AllMake v (str_after m v f.readings) (line_str_after m v f.readings) (starts_after m v f.readings) (parts_of v f.readings)
 all-after m v us ts ps pl ks kl kt f s l starts h =
     subst (λ (k : ℕ → Option ℕ). AllMake v (str_after m v f.readings) (line_str_after m v f.readings) k (parts_of v f.readings)) starts
-    (subst (λ (xs : List (List ℕ)). AllMake v (str_after m v f.readings) (asked_in m v in_line_str xs) kt (parts_of v f.readings)) (made-table m v in_line_str us ts pl kl f l)
-    (subst (λ (xs : List (List ℕ)). AllMake v (asked_in m v in_str xs) (asked_in m v in_line_str pl.texts) kt (parts_of v f.readings)) (made-table m v in_str us ts ps ks f s)
-    (all-known m v ps pl ks kl kt (parts_of v f.readings) s.grown l.grown (parts-noted m v in_str us ts ps ks f s) (parts-noted m v in_line_str us ts pl kl f l)
+    (subst (λ (xs : List (List ℕ)). AllMake v (str_after m v f.readings) (asked_in m v InLineStr xs) kt (parts_of v f.readings)) (made-table m v InLineStr us ts pl kl f l)
+    (subst (λ (xs : List (List ℕ)). AllMake v (asked_in m v InStr xs) (asked_in m v InLineStr pl.texts) kt (parts_of v f.readings)) (made-table m v InStr us ts ps ks f s)
+    (all-known m v ps pl ks kl kt (parts_of v f.readings) s.grown l.grown (parts-noted m v InStr us ts ps ks f s) (parts-noted m v InLineStr us ts pl kl f l)
     (subst (AllMake v ks kl kt) (without-parts m v us ts f) h))))
 
 names-make : (m : PathMap) (v : View) (all : DataReadings)
@@ -130,8 +131,8 @@ names-make : (m : PathMap) (v : View) (all : DataReadings)
 unfolding table_change
 names-make m v all = make-names (edit_of m v all) (around_of (debug_data v) all) all.names refl
 
-pub addends-fit : (m : PathMap) (v : View) (us : List UnitPaths) (ts : List LineTable) (ps pl : TextTable) (ks kl kt : ℕ → Option ℕ) (f : PathsFound m v us ts)
-    → TableMade m v in_str us ps ks → TableMade m v in_line_str us pl kl → kt ≡ starts_after m v f.readings → AllMake v ks kl kt (without_lines v us) → SectionsFit m v f.readings
+pub addends-fit : (m : PathMap) (v : View) (us : List SectionFields) (ts : List LineTable) (ps pl : TextTable) (ks kl kt : ℕ → Option ℕ) (f : PathsFound m v us ts)
+    → TableMade m v InStr us ps ks → TableMade m v InLineStr us pl kl → kt ≡ starts_after m v f.readings → AllMake v ks kl kt (without_lines v us) → SectionsFit m v f.readings
 addends-fit m v us ts ps pl ks kl kt f s l starts h =
     let all : DataReadings = f.readings in
     let x : ℕ → Option ℕ = str_after m v f.readings in
@@ -147,17 +148,17 @@ addends-fit m v us ts ps pl ks kl kt f s l starts h =
     }
 
 -- what refuses them is a row of the edit
-any-after : (m : PathMap) (v : View) (us : List UnitPaths) (ts : List LineTable) (ps pl : TextTable) (ks kl kt : ℕ → Option ℕ) (f : PathsFound m v us ts) (r : Refusal)
-    → TableMade m v in_str us ps ks → TableMade m v in_line_str us pl kl → kt ≡ starts_after m v f.readings → AnySection v ks kl kt (without_lines v us) r
+any-after : (m : PathMap) (v : View) (us : List SectionFields) (ts : List LineTable) (ps pl : TextTable) (ks kl kt : ℕ → Option ℕ) (f : PathsFound m v us ts) (r : Refusal)
+    → TableMade m v InStr us ps ks → TableMade m v InLineStr us pl kl → kt ≡ starts_after m v f.readings → AnySection v ks kl kt (without_lines v us) r
     → AnySection v (str_after m v f.readings) (line_str_after m v f.readings) (starts_after m v f.readings) (parts_of v f.readings) r
 any-after m v us ts ps pl ks kl kt f r s l starts h =
     subst (λ (k : ℕ → Option ℕ). AnySection v (str_after m v f.readings) (line_str_after m v f.readings) k (parts_of v f.readings) r) starts
-    (subst (λ (xs : List (List ℕ)). AnySection v (str_after m v f.readings) (asked_in m v in_line_str xs) kt (parts_of v f.readings) r) (made-table m v in_line_str us ts pl kl f l)
-    (subst (λ (xs : List (List ℕ)). AnySection v (asked_in m v in_str xs) (asked_in m v in_line_str pl.texts) kt (parts_of v f.readings) r) (made-table m v in_str us ts ps ks f s)
-    (any-known m v ps pl ks kl kt (parts_of v f.readings) r s.grown l.grown (parts-noted m v in_str us ts ps ks f s) (parts-noted m v in_line_str us ts pl kl f l)
-    (subst (λ (ws : List UnitPaths). AnySection v ks kl kt ws r) (without-parts m v us ts f) h))))
+    (subst (λ (xs : List (List ℕ)). AnySection v (str_after m v f.readings) (asked_in m v InLineStr xs) kt (parts_of v f.readings) r) (made-table m v InLineStr us ts pl kl f l)
+    (subst (λ (xs : List (List ℕ)). AnySection v (asked_in m v InStr xs) (asked_in m v InLineStr pl.texts) kt (parts_of v f.readings) r) (made-table m v InStr us ts ps ks f s)
+    (any-known m v ps pl ks kl kt (parts_of v f.readings) r s.grown l.grown (parts-noted m v InStr us ts ps ks f s) (parts-noted m v InLineStr us ts pl kl f l)
+    (subst (λ (ws : List SectionFields). AnySection v ks kl kt ws r) (without-parts m v us ts f) h))))
 
-any-fails : (m : PathMap) (v : View) (us : List UnitPaths) (ts : List LineTable) (f : PathsFound m v us ts) (r : Refusal)
+any-fails : (m : PathMap) (v : View) (us : List SectionFields) (ts : List LineTable) (f : PathsFound m v us ts) (r : Refusal)
     → AnySection v (str_after m v f.readings) (line_str_after m v f.readings) (starts_after m v f.readings) (parts_of v f.readings) r
     → AddendsFail (edit_of m v f.readings) (debug_data v) (around_of (debug_data v) f.readings) f.readings r
 any-fails m v us ts f r h =
@@ -186,8 +187,8 @@ any-fails m v us ts f r h =
     by_macros (inl g) = by_slots (any-sections v x y z (paths_of f.readings.units) (slots_read v f.readings) r g)
     by_macros (inr g) = macros-miss m v f.readings r f.reads.macros parts.macro_offsets parts.macro_places g
 
-pub addends-fail : (m : PathMap) (v : View) (us : List UnitPaths) (ts : List LineTable) (ps pl : TextTable) (ks kl kt : ℕ → Option ℕ) (f : PathsFound m v us ts) (r : Refusal)
-    → TableMade m v in_str us ps ks → TableMade m v in_line_str us pl kl → kt ≡ starts_after m v f.readings → AllMiss v ks kl kt (without_lines v us) r
+pub addends-fail : (m : PathMap) (v : View) (us : List SectionFields) (ts : List LineTable) (ps pl : TextTable) (ks kl kt : ℕ → Option ℕ) (f : PathsFound m v us ts) (r : Refusal)
+    → TableMade m v InStr us ps ks → TableMade m v InLineStr us pl kl → kt ≡ starts_after m v f.readings → AllMiss v ks kl kt (without_lines v us) r
     → AddendsFail (changes_of m (around_of (debug_data v) f.readings) f.readings) (debug_data v) (around_of (debug_data v) f.readings) f.readings r
 addends-fail m v us ts ps pl ks kl kt f r s l starts h =
     any-fails m v us ts f r (any-after m v us ts ps pl ks kl kt f r s l starts (section-of v ks kl kt (without_lines v us) r h))

@@ -6,7 +6,6 @@ use Rattle.std.proofs.lemmas.List.{drop_all}
 use Rattle.dw_base.specs.Cells.{Relocation, plain_cells}
 use Rattle.dw_base.specs.Elf.{contents_of, section_count}
 use Rattle.dw_base.specs.FileViews.{View, view_cells, view_of}
-use Rattle.dw_base.specs.Forms.{in_str, in_line_str}
 use Rattle.dw_base.specs.Refusals.{Blames}
 use Rattle.dw_base.specs.SectionRelocations.{RelocationSource, cells_from, relocation_section, relocation_source, relocations_by, relocations_of, section_cells}
 use Rattle.dw_base.specs.declared.fault.Fault.{Fault}
@@ -17,9 +16,10 @@ use Rattle.dw_base.proofs.RelocationFieldLaws.{relocation_at-plain}
 use Rattle.dw_base.proofs.SectionRelocationLaws.{cells_from-none}
 use Rattle.dw_base.proofs.ViewCellLaws.{view_cells-view_of}
 use Rattle.dw_base.specs.declared.debug_sections.DebugSection.TheVariants.{Str, LineStr, Line}
-use Rattle.dw_find.specs.UnitPaths.{UnitPaths, fields_into}
+use Rattle.dw_base.specs.declared.texts.TextField.{TextField}
+use Rattle.dw_base.specs.declared.texts.TextSection.TheVariants.{InStr, InLineStr}
+use Rattle.dw_find.specs.SectionFields.{SectionFields, fields_into}
 use Rattle.dw_find.specs.ViewFields.{HasPlaces}
-use Rattle.dw_find.specs.declared.fields.PathField.{PathField}
 use Rattle.dw_meaning.specs.DataOutput.{Body}
 use Rattle.dw_meaning.specs.NewAddends.{Makes}
 use Rattle.dw_patch.specs.RecordMoves.{PlacesFit, moved_table}
@@ -32,12 +32,12 @@ use Rattle.dw_rewrite.specs.OffsetAddends.AllMiss.{one_section}
 use Rattle.dw_view.specs.Firsts.{held_source}
 
 -- a section is one of the file's
-own-there : (b : List ℕ) (v : View) (u : UnitPaths) → HasPlaces v u → v ≡ view_of b → u.number < section_count b
+own-there : (b : List ℕ) (v : View) (u : SectionFields) → HasPlaces v u → v ≡ view_of b → u.number < section_count b
 own-there b v u h v_is =
     let same : length v.sections ≡ section_count b = ap (λ (w : View). length w.sections) v_is ∙ length-view_of b in
     omega (arith, h.there, same)
 
-pub section-there : (b : List ℕ) (v : View) (u : UnitPaths) (n : ℕ) → n ≡ u.number → HasPlaces v u → v ≡ view_of b → n < section_count b
+pub section-there : (b : List ℕ) (v : View) (u : SectionFields) (n : ℕ) → n ≡ u.number → HasPlaces v u → v ≡ view_of b → n < section_count b
 section-there b v u n is h v_is = let own : u.number < section_count b = own-there b v u h v_is in omega (arith, is, own)
 
 -- none holds its relocations, or one does
@@ -81,7 +81,7 @@ none-pushed b told n i o old is held none =
     sym (append-nil old) ∙ ap (λ (x : Option ℕ). old ++ record_body b told x) (sym (none-by b (relocation_section b n) (sym none ∙ held)) ∙ ap (relocation_section b) is)
 
 -- where none holds its relocations no addend is asked
-fields-plain : (s : FieldSource) (known : ℕ → Option ℕ) (fs : List PathField) → IsPlain s.cells → FieldsMake s known fs
+fields-plain : (s : FieldSource) (known : ℕ → Option ℕ) (fs : List TextField) → IsPlain s.cells → FieldsMake s known fs
 fields-plain s known [] plain = tt
 fields-plain s known (f ∷ fs) plain = (by (known (offset_at s f)), fields-plain s known fs plain)
   where
@@ -96,54 +96,54 @@ cells-plain b i lt none =
     view_cells-view_of b i lt ∙ ap (λ (o : Option ℕ). cells_from (relocations_by (contents_of b) b o) 0 (contents_of b i)) none ∙ cells_from-none 0 (contents_of b i) in
     subst IsPlain (sym cells) (plain_cells-plain (contents_of b i))
 
-pub none-makes : (b : List ℕ) (v : View) (ks kl kt : ℕ → Option ℕ) (u : UnitPaths) (n : ℕ) (o : Option (ℕ × RelocationSource)) → n ≡ u.number → HasPlaces v u → v ≡ view_of b
+pub none-makes : (b : List ℕ) (v : View) (ks kl kt : ℕ → Option ℕ) (u : SectionFields) (n : ℕ) (o : Option (ℕ × RelocationSource)) → n ≡ u.number → HasPlaces v u → v ≡ view_of b
     → o ≡ option_map (held_source b) (relocation_section b n) → o ≡ None → SectionMakes v ks kl kt u
 none-makes b v ks kl kt u n o is h v_is held none =
     let own : relocation_section b u.number ≡ None = ap (relocation_section b) (sym is) ∙ none-by b (relocation_section b n) (sym none ∙ held) in
     let plain : IsPlain (view_cells v u.number) =
     subst (λ (w : View). IsPlain (view_cells w u.number)) (sym v_is) (cells-plain b u.number (own-there b v u h v_is) own) in
     record {
-      str = fields-plain (source_in v u.number in_str) ks (fields_into u Str) plain;
-      line_str = fields-plain (source_in v u.number in_line_str) kl (fields_into u LineStr) plain;
+      str = fields-plain (source_in v u.number InStr) ks (fields_into u Str) plain;
+      line_str = fields-plain (source_in v u.number InLineStr) kl (fields_into u LineStr) plain;
       starts = fields-plain (starts_in v u.number) kt (fields_into u Line) plain;
     }
 
 pub ruleset one_rules = (section-there, places-fit, one-pushed, none-pushed, none-makes)
 
 -- the sections up to one are appended, and their addends make the offsets
-pub record RecordPass (b : List ℕ) (v : View) (ks kl kt : ℕ → Option ℕ) (us : List UnitPaths) (front bodies : List Body) (i : ℕ) : Type 0 where
+pub record RecordPass (b : List ℕ) (v : View) (ks kl kt : ℕ → Option ℕ) (us : List SectionFields) (front bodies : List Body) (i : ℕ) : Type 0 where
   pub list : bodies ++ records_known b v ks kl kt (drop i us) ≡ front ++ records_known b v ks kl kt us
   pub made : AllMake v ks kl kt (drop i us) → AllMake v ks kl kt us
 
-pub records-start : (b : List ℕ) (v : View) (ks kl kt : ℕ → Option ℕ) (us : List UnitPaths) (front : List Body) → RecordPass b v ks kl kt us front front 0
+pub records-start : (b : List ℕ) (v : View) (ks kl kt : ℕ → Option ℕ) (us : List SectionFields) (front : List Body) → RecordPass b v ks kl kt us front front 0
 records-start b v ks kl kt us front = record { list = refl; made = λ h. h }
 
 -- one more
-pub records-step : (b : List ℕ) (v : View) (ks kl kt : ℕ → Option ℕ) (us : List UnitPaths) (i : ℕ) (u : UnitPaths) (bodies new front : List Body) → i < length us → u ≡ get_or us i u
+pub records-step : (b : List ℕ) (v : View) (ks kl kt : ℕ → Option ℕ) (us : List SectionFields) (i : ℕ) (u : SectionFields) (bodies new front : List Body) → i < length us → u ≡ get_or us i u
     → RecordPass b v ks kl kt us front bodies i → new ≡ bodies ++ record_body b (offsets_in v ks kl kt u) (relocation_section b u.number) → SectionMakes v ks kl kt u
     → RecordPass b v ks kl kt us front new (i + 1)
 records-step b v ks kl kt us i u bodies new front lt is before same makes =
     let next : suc i ≡ i + 1 = omega arith in
     let cut : drop i us ≡ u ∷ drop (i + 1) us =
-    drop-cons us i u lt ∙ ap (λ (n : ℕ). get_or us i u ∷ drop n us) next ∙ ap (λ (y : UnitPaths). y ∷ drop (i + 1) us) (sym is) in
+    drop-cons us i u lt ∙ ap (λ (n : ℕ). get_or us i u ∷ drop n us) next ∙ ap (λ (y : SectionFields). y ∷ drop (i + 1) us) (sym is) in
     record {
       list = ap (λ (bs : List Body). bs ++ records_known b v ks kl kt (drop (i + 1) us)) same
           ∙ append_assoc bodies (record_body b (offsets_in v ks kl kt u) (relocation_section b u.number)) (records_known b v ks kl kt (drop (i + 1) us))
-          ∙ sym (ap (λ (xs : List UnitPaths). bodies ++ records_known b v ks kl kt xs) cut) ∙ before.list;
+          ∙ sym (ap (λ (xs : List SectionFields). bodies ++ records_known b v ks kl kt xs) cut) ∙ before.list;
       made = λ h. before.made (subst (AllMake v ks kl kt) (sym cut) (makes, h));
     }
 
-pub records-end : (b : List ℕ) (v : View) (ks kl kt : ℕ → Option ℕ) (us : List UnitPaths) (i : ℕ) (bodies front : List Body) → RecordPass b v ks kl kt us front bodies i → length us ≤ i
+pub records-end : (b : List ℕ) (v : View) (ks kl kt : ℕ → Option ℕ) (us : List SectionFields) (i : ℕ) (bodies front : List Body) → RecordPass b v ks kl kt us front bodies i → length us ≤ i
     → bodies ≡ front ++ records_known b v ks kl kt us
 records-end b v ks kl kt us i bodies front p end =
-    sym (append-nil bodies) ∙ sym (ap (λ (xs : List UnitPaths). bodies ++ records_known b v ks kl kt xs) (drop_all i us end)) ∙ p.list
+    sym (append-nil bodies) ∙ sym (ap (λ (xs : List SectionFields). bodies ++ records_known b v ks kl kt xs) (drop_all i us end)) ∙ p.list
 
-pub records-made : (b : List ℕ) (v : View) (ks kl kt : ℕ → Option ℕ) (us : List UnitPaths) (i : ℕ) (bodies front : List Body) → RecordPass b v ks kl kt us front bodies i → length us ≤ i
+pub records-made : (b : List ℕ) (v : View) (ks kl kt : ℕ → Option ℕ) (us : List SectionFields) (i : ℕ) (bodies front : List Body) → RecordPass b v ks kl kt us front bodies i → length us ≤ i
     → AllMake v ks kl kt us
 records-made b v ks kl kt us i bodies front p end = p.made (subst (AllMake v ks kl kt) (sym (drop_all i us end)) tt)
 
 -- the fault of one of them
-pub records-fault : (v : View) (ks kl kt : ℕ → Option ℕ) (us : List UnitPaths) (i : ℕ) (u : UnitPaths) (f : Fault) → i < length us → u ≡ get_or us i u
+pub records-fault : (v : View) (ks kl kt : ℕ → Option ℕ) (us : List SectionFields) (i : ℕ) (u : SectionFields) (f : Fault) → i < length us → u ≡ get_or us i u
     → Blames (SectionMisses v ks kl kt u) f → Blames (AllMiss v ks kl kt us) f
 records-fault v ks kl kt us i u NoMemory lt is b = tt
 records-fault v ks kl kt us i u (Refused r) lt is b = one_section i u lt is b

@@ -4,7 +4,6 @@ use Rattle.std.specs.Bool.{⊤}
 use Rattle.std.proofs.lemmas.Bool.{eq-eqb, ne_eqb}
 use Rattle.dw_base.specs.Cells.{Cell, bytes_of, offset_of, with_bytes}
 use Rattle.dw_base.specs.DebugData.{Around, start_number, table_of}
-use Rattle.dw_base.specs.Forms.{TextSection, in_str, in_line_str}
 use Rattle.dw_base.specs.InlinePaths.{mapped_inline}
 use Rattle.dw_base.specs.LineReadings.{starts_from}
 use Rattle.dw_base.specs.NewOffsets.{with_offset}
@@ -14,6 +13,9 @@ use Rattle.dw_base.specs.TextChanges.{TableChanges, change_of, edited_by, mentio
 use Rattle.dw_base.specs.Texts.{text}
 use Rattle.dw_base.specs.declared.debug_sections.DebugSection.TheVariants.{Str, LineStr, Line}
 use Rattle.dw_base.specs.declared.shared.Order.{Order}
+use Rattle.dw_base.specs.declared.texts.TextField.{TextField}
+use Rattle.dw_base.specs.declared.texts.TextSection.{TextSection}
+use Rattle.dw_base.specs.declared.texts.TextSection.TheVariants.{InStr, InLineStr}
 use Rattle.elf_relocs.proofs.OffsetLaws.{same-bytes, same-self}
 use Rattle.dw_patch.specs.RecordMoves.{patch_for}
 use Rattle.elf_layout.specs.declared.patch.Patch.{Patch}
@@ -23,8 +25,7 @@ use Rattle.dw_rewrite.specs.NewOffsets.{asked, offset_by, offsets_after, offsets
 use Rattle.dw_rewrite.specs.UnitsAfter.{start_source, text_source}
 use Rattle.dw_rewrite.proofs.EditedLaws.{piece-there}
 use Rattle.dw_rewrite.proofs.UnitWrittenLaws.{no_path-asks}
-use Rattle.dw_find.specs.UnitPaths.{field_by, start_by}
-use Rattle.dw_find.specs.declared.fields.PathField.{PathField}
+use Rattle.dw_find.specs.SectionFields.{field_by, start_by}
 use Rattle.dw_find.proofs.PieceFieldLaws.{FieldsFrom}
 
 -- a list in front in which no field begins at a place, and one in which one does
@@ -44,23 +45,23 @@ pub patch-further : (x : Patch) (ys : List Patch) (q : ℕ) → (x.at ≡ q → 
 patch-further x ys q other = rw (ne_eqb x.at q other) refl
 
 -- fields that begin from a place on begin nowhere before it
-none-one : (f : PathField) (known : Option ℕ) (n q : ℕ) → n ≤ f.at → q < n → patch_for (offset_by f known) q ≡ None
+none-one : (f : TextField) (known : Option ℕ) (n q : ℕ) → n ≤ f.at → q < n → patch_for (offset_by f known) q ≡ None
 none-one f None n q le lt = refl
 none-one f (Some new) n q le lt = patch-further (record { at = f.at; size = f.size; value = new }) [] q (λ e. omega (arith, e, le, lt))
 
-none-below : (s : FieldSource) (known : ℕ → Option ℕ) (fs : List PathField) (n q : ℕ) → FieldsFrom n fs → q < n → patch_for (offsets_known s known fs) q ≡ None
+none-below : (s : FieldSource) (known : ℕ → Option ℕ) (fs : List TextField) (n q : ℕ) → FieldsFrom n fs → q < n → patch_for (offsets_known s known fs) q ≡ None
 none-below s known [] n q from lt = refl
 none-below s known (f ∷ fs) n q from lt =
     patch-skip (offset_by f (known (offset_at s f))) (offsets_known s known fs) q (none-one f (known (offset_at s f)) n q from.0 lt)
     ∙ none-below s known fs n q from.1 lt
 
 -- each field has bytes
-abbrev pub Sized : List PathField → Type 0
+abbrev pub Sized : List TextField → Type 0
 Sized [] = ⊤
 Sized (f ∷ fs) = (0 < f.size) × Sized fs
 
 -- from a place on the offsets are those of the fields that are left
-pub record FromHere (c : TableChanges) (a : Around) (cells : List Cell) (offs : List Patch) (place : ℕ) (fs gs hs : List PathField) : Type 0 where
+pub record FromHere (c : TableChanges) (a : Around) (cells : List Cell) (offs : List Patch) (place : ℕ) (fs gs hs : List TextField) : Type 0 where
   pub each : (q : ℕ) → place ≤ q → patch_for offs q ≡ patch_for (offsets_after c a cells fs gs hs) q
 
 -- what becomes of a field by its new offset
@@ -91,7 +92,7 @@ said-field offs place order (x ∷ xs) (Some n) some h =
 record NoneHere (list : List Patch) (place n : ℕ) : Type 0 where
   each : (q : ℕ) → place ≤ q → q < place + n → patch_for list q ≡ None
 
-none-here : (s : FieldSource) (known : ℕ → Option ℕ) (fs : List PathField) (place n : ℕ) → FieldsFrom (place + n) fs → NoneHere (offsets_known s known fs) place n
+none-here : (s : FieldSource) (known : ℕ → Option ℕ) (fs : List TextField) (place n : ℕ) → FieldsFrom (place + n) fs → NoneHere (offsets_known s known fs) place n
 none-here s known fs place n from = record { each = λ q le lt. none-below s known fs (place + n) q from lt }
 
 none-both : (xs ys : List Patch) (place n : ℕ) → NoneHere xs place n → NoneHere ys place n → NoneHere (xs ++ ys) place n
@@ -133,24 +134,24 @@ past-among offs as_ bs place n known some here q le =
     (patch-skip (offset_by (record { at = place; size = n }) known) bs q (off-here place n known q (λ e. omega (arith, e, le, some))))
 
 -- a piece without a field
-later : (c : TableChanges) (a : Around) (cells : List Cell) (offs : List Patch) (place n : ℕ) (fs gs hs : List PathField) → FromHere c a cells offs place fs gs hs
+later : (c : TableChanges) (a : Around) (cells : List Cell) (offs : List Patch) (place n : ℕ) (fs gs hs : List TextField) → FromHere c a cells offs place fs gs hs
     → FromHere c a cells offs (place + n) fs gs hs
 later c a cells offs place n fs gs hs here = record { each = λ q le. here.each q (omega (arith, le)) }
 
-none-left : (c : TableChanges) (a : Around) (cells : List Cell) (place n : ℕ) (fs gs hs : List PathField) → FieldsFrom (place + n) fs → FieldsFrom (place + n) gs → FieldsFrom (place + n) hs
+none-left : (c : TableChanges) (a : Around) (cells : List Cell) (place n : ℕ) (fs gs hs : List TextField) → FieldsFrom (place + n) fs → FieldsFrom (place + n) gs → FieldsFrom (place + n) hs
     → NoneHere (offsets_after c a cells fs gs hs) place n
 none-left c a cells place n fs gs hs from_fs from_gs from_hs =
-    none-both _ _ place n (none-here (text_source a cells in_str) (asked (c.new Str) c.map (a.stands Str).bytes) fs place n from_fs)
-    (none-both _ _ place n (none-here (text_source a cells in_line_str) (asked (c.new LineStr) c.map (a.stands LineStr).bytes) gs place n from_gs)
+    none-both _ _ place n (none-here (text_source a cells InStr) (asked (c.new Str) c.map (a.stands Str).bytes) fs place n from_fs)
+    (none-both _ _ place n (none-here (text_source a cells InLineStr) (asked (c.new LineStr) c.map (a.stands LineStr).bytes) gs place n from_gs)
     (none-here (start_source a cells) (start_known (a.stands Line).starts (starts_from 0 (c.new Line))) hs place n from_hs))
 
-said-none : (c : TableChanges) (a : Around) (cells : List Cell) (offs : List Patch) (place n : ℕ) (fs gs hs : List PathField) → FromHere c a cells offs place fs gs hs
+said-none : (c : TableChanges) (a : Around) (cells : List Cell) (offs : List Patch) (place n : ℕ) (fs gs hs : List TextField) → FromHere c a cells offs place fs gs hs
     → FieldsFrom (place + n) fs → FieldsFrom (place + n) gs → FieldsFrom (place + n) hs → NoneBegin offs place n
 said-none c a cells offs place n fs gs hs here from_fs from_gs from_hs k lt =
     here.each (place + k) (omega arith) ∙ (none-left c a cells place n fs gs hs from_fs from_gs from_hs).each (place + k) (omega arith) (omega (arith, lt))
 
 -- a piece by its role
-pub record SaidStep (c : TableChanges) (a : Around) (cells : List Cell) (offs : List Patch) (place : ℕ) (p q : List Cell) (fs gs hs : List PathField) : Type 0 where
+pub record SaidStep (c : TableChanges) (a : Around) (cells : List Cell) (offs : List Patch) (place : ℕ) (p q : List Cell) (fs gs hs : List TextField) : Type 0 where
   pub said : SaidAll offs place p q
   pub later : FromHere c a cells offs (place + length p) fs gs hs
 
@@ -186,11 +187,11 @@ edited-start c a cells p behind place e =
     by None = refl
     by (Some k) = refl
 
-pub said-step : (r : Role) (c : TableChanges) (a : Around) (cells : List Cell) (offs : List Patch) (p behind : List Cell) (place : ℕ) (fs gs hs : List PathField)
+pub said-step : (r : Role) (c : TableChanges) (a : Around) (cells : List Cell) (offs : List Patch) (p behind : List Cell) (place : ℕ) (fs gs hs : List TextField)
     → (c.new Str).plan ≡ appending c.map (a.stands Str).bytes → (c.new LineStr).plan ≡ appending c.map (a.stands LineStr).bytes → p ++ behind ≡ drop place cells
     → FieldsFrom (place + length p) fs → FieldsFrom (place + length p) gs → FieldsFrom (place + length p) hs
-    → Sized (field_by in_str r place (length p)) → Sized (field_by in_line_str r place (length p)) → Sized (start_by r place (length p))
-    → FromHere c a cells offs place (field_by in_str r place (length p) ++ fs) (field_by in_line_str r place (length p) ++ gs) (start_by r place (length p) ++ hs)
+    → Sized (field_by InStr r place (length p)) → Sized (field_by InLineStr r place (length p)) → Sized (start_by r place (length p))
+    → FromHere c a cells offs place (field_by InStr r place (length p) ++ fs) (field_by InLineStr r place (length p) ++ gs) (start_by r place (length p) ++ hs)
     → SaidStep c a cells offs place p (edited_by r c a p) fs gs hs
 said-step fixed c a cells offs p behind place fs gs hs str line e ff fg fh zs zl zt here = record {
   said = said-kept offs place p p (said-none c a cells offs place (length p) fs gs hs here ff fg fh) (same-self p);
@@ -201,61 +202,61 @@ said-step inline_path c a cells offs p behind place fs gs hs str line e ff fg fh
       (same-bytes p (mapped_inline c.map (text (bytes_of p))));
   later = later c a cells offs place (length p) fs gs hs here;
 }
-said-step (offset in_str false) c a cells offs p behind place fs gs hs str line e ff fg fh zs zl zt here =
-    let none = no_path-asks c.map (a.stands Str).bytes (c.new Str).plan (mention_at a in_str false p).text str in
-    let kept : edited_by (offset in_str false) c a p ≡ p = rw none refl in
+said-step (offset InStr false) c a cells offs p behind place fs gs hs str line e ff fg fh zs zl zt here =
+    let none = no_path-asks c.map (a.stands Str).bytes (c.new Str).plan (mention_at a InStr false p).text str in
+    let kept : edited_by (offset InStr false) c a p ≡ p = rw none refl in
     record {
-      said = same-cells offs place p p (edited_by (offset in_str false) c a p) (sym kept)
+      said = same-cells offs place p p (edited_by (offset InStr false) c a p) (sym kept)
           (said-kept offs place p p (said-none c a cells offs place (length p) fs gs hs here ff fg fh) (same-self p));
       later = later c a cells offs place (length p) fs gs hs here;
     }
-said-step (offset in_line_str false) c a cells offs p behind place fs gs hs str line e ff fg fh zs zl zt here =
-    let none = no_path-asks c.map (a.stands LineStr).bytes (c.new LineStr).plan (mention_at a in_line_str false p).text line in
-    let kept : edited_by (offset in_line_str false) c a p ≡ p = rw none refl in
+said-step (offset InLineStr false) c a cells offs p behind place fs gs hs str line e ff fg fh zs zl zt here =
+    let none = no_path-asks c.map (a.stands LineStr).bytes (c.new LineStr).plan (mention_at a InLineStr false p).text line in
+    let kept : edited_by (offset InLineStr false) c a p ≡ p = rw none refl in
     record {
-      said = same-cells offs place p p (edited_by (offset in_line_str false) c a p) (sym kept)
+      said = same-cells offs place p p (edited_by (offset InLineStr false) c a p) (sym kept)
           (said-kept offs place p p (said-none c a cells offs place (length p) fs gs hs here ff fg fh) (same-self p));
       later = later c a cells offs place (length p) fs gs hs here;
     }
-said-step (offset in_str true) c a cells offs p behind place fs gs hs str line e ff fg fh zs zl zt here =
-    let new : Option ℕ = asked (c.new Str) c.map (a.stands Str).bytes (offset_at (text_source a cells in_str) (record { at = place; size = length p })) in
+said-step (offset InStr true) c a cells offs p behind place fs gs hs str line e ff fg fh zs zl zt here =
+    let new : Option ℕ = asked (c.new Str) c.map (a.stands Str).bytes (offset_at (text_source a cells InStr) (record { at = place; size = length p })) in
     let tail : List Patch = offsets_after c a cells fs gs hs in
     let own : List Patch = offset_by (record { at = place; size = length p })
-    (asked (c.new Str) c.map (a.stands Str).bytes (offset_at (text_source a cells in_str) (record { at = place; size = length p }))) in
+    (asked (c.new Str) c.map (a.stands Str).bytes (offset_at (text_source a cells InStr) (record { at = place; size = length p }))) in
     let there : (q : ℕ) → place ≤ q → patch_for offs q ≡ patch_for ([] ++ (own ++ offsets_after c a cells fs gs hs)) q =
     λ q le. here.each q le ∙ ap (λ (l : List Patch). patch_for l q) (append_assoc own
-    (offsets_known (text_source a cells in_str) (asked (c.new Str) c.map (a.stands Str).bytes) fs)
-    (offsets_known (text_source a cells in_line_str) (asked (c.new LineStr) c.map (a.stands LineStr).bytes) gs
+    (offsets_known (text_source a cells InStr) (asked (c.new Str) c.map (a.stands Str).bytes) fs)
+    (offsets_known (text_source a cells InLineStr) (asked (c.new LineStr) c.map (a.stands LineStr).bytes) gs
     ++ offsets_known (start_source a cells) (start_known (a.stands Line).starts (starts_from 0 (c.new Line))) hs)) in
     record {
-      said = same-cells offs place p (by_new a.lasting.base.order p new) (edited_by (offset in_str true) c a p) (edited-path in_str c a cells p behind place e)
+      said = same-cells offs place p (by_new a.lasting.base.order p new) (edited_by (offset InStr true) c a p) (edited-path InStr c a cells p behind place e)
           (said-field offs place a.lasting.base.order p new zs.0
           (begins-among offs [] (offsets_after c a cells fs gs hs) place (length p) new zs.0 there (record { each = λ q le lt. refl })
           (none-left c a cells place (length p) fs gs hs ff fg fh)));
       later = record { each = past-among offs [] (offsets_after c a cells fs gs hs) place (length p) new zs.0 there };
     }
-said-step (offset in_line_str true) c a cells offs p behind place fs gs hs str line e ff fg fh zs zl zt here =
-    let new : Option ℕ = asked (c.new LineStr) c.map (a.stands LineStr).bytes (offset_at (text_source a cells in_line_str) (record { at = place; size = length p })) in
-    let first : List Patch = offsets_known (text_source a cells in_str) (asked (c.new Str) c.map (a.stands Str).bytes) fs in
-    let second : List Patch = offsets_known (text_source a cells in_line_str) (asked (c.new LineStr) c.map (a.stands LineStr).bytes) gs in
+said-step (offset InLineStr true) c a cells offs p behind place fs gs hs str line e ff fg fh zs zl zt here =
+    let new : Option ℕ = asked (c.new LineStr) c.map (a.stands LineStr).bytes (offset_at (text_source a cells InLineStr) (record { at = place; size = length p })) in
+    let first : List Patch = offsets_known (text_source a cells InStr) (asked (c.new Str) c.map (a.stands Str).bytes) fs in
+    let second : List Patch = offsets_known (text_source a cells InLineStr) (asked (c.new LineStr) c.map (a.stands LineStr).bytes) gs in
     let third : List Patch = offsets_known (start_source a cells) (start_known (a.stands Line).starts (starts_from 0 (c.new Line))) hs in
     let own : List Patch = offset_by (record { at = place; size = length p })
-    (asked (c.new LineStr) c.map (a.stands LineStr).bytes (offset_at (text_source a cells in_line_str) (record { at = place; size = length p }))) in
+    (asked (c.new LineStr) c.map (a.stands LineStr).bytes (offset_at (text_source a cells InLineStr) (record { at = place; size = length p }))) in
     let there : (q : ℕ) → place ≤ q → patch_for offs q ≡ patch_for (first ++ (own ++ (second ++ third))) q =
     λ q le. here.each q le ∙ ap (λ (l : List Patch). patch_for (first ++ l) q) (append_assoc own second third) in
     record {
-      said = same-cells offs place p (by_new a.lasting.base.order p new) (edited_by (offset in_line_str true) c a p) (edited-path in_line_str c a cells p behind place e)
+      said = same-cells offs place p (by_new a.lasting.base.order p new) (edited_by (offset InLineStr true) c a p) (edited-path InLineStr c a cells p behind place e)
           (said-field offs place a.lasting.base.order p new zl.0
           (begins-among offs first (second ++ third) place (length p) new zl.0 there
-          (none-here (text_source a cells in_str) (asked (c.new Str) c.map (a.stands Str).bytes) fs place (length p) ff)
-          (none-both second third place (length p) (none-here (text_source a cells in_line_str) (asked (c.new LineStr) c.map (a.stands LineStr).bytes) gs place (length p) fg)
+          (none-here (text_source a cells InStr) (asked (c.new Str) c.map (a.stands Str).bytes) fs place (length p) ff)
+          (none-both second third place (length p) (none-here (text_source a cells InLineStr) (asked (c.new LineStr) c.map (a.stands LineStr).bytes) gs place (length p) fg)
           (none-here (start_source a cells) (start_known (a.stands Line).starts (starts_from 0 (c.new Line))) hs place (length p) fh))));
       later = record { each = past-among offs first (second ++ third) place (length p) new zl.0 there };
     }
 said-step line_start c a cells offs p behind place fs gs hs str line e ff fg fh zs zl zt here =
     let new : Option ℕ = start_known (a.stands Line).starts (starts_from 0 (c.new Line)) (offset_at (start_source a cells) (record { at = place; size = length p })) in
-    let first : List Patch = offsets_known (text_source a cells in_str) (asked (c.new Str) c.map (a.stands Str).bytes) fs in
-    let second : List Patch = offsets_known (text_source a cells in_line_str) (asked (c.new LineStr) c.map (a.stands LineStr).bytes) gs in
+    let first : List Patch = offsets_known (text_source a cells InStr) (asked (c.new Str) c.map (a.stands Str).bytes) fs in
+    let second : List Patch = offsets_known (text_source a cells InLineStr) (asked (c.new LineStr) c.map (a.stands LineStr).bytes) gs in
     let third : List Patch = offsets_known (start_source a cells) (start_known (a.stands Line).starts (starts_from 0 (c.new Line))) hs in
     let own : List Patch = offset_by (record { at = place; size = length p })
     (start_known (a.stands Line).starts (starts_from 0 (c.new Line)) (offset_at (start_source a cells) (record { at = place; size = length p }))) in
@@ -265,8 +266,8 @@ said-step line_start c a cells offs p behind place fs gs hs str line e ff fg fh 
       said = same-cells offs place p (by_new a.lasting.base.order p new) (edited_by line_start c a p) (edited-start c a cells p behind place e)
           (said-field offs place a.lasting.base.order p new zt.0
           (begins-among offs (first ++ second) third place (length p) new zt.0 there
-          (none-both first second place (length p) (none-here (text_source a cells in_str) (asked (c.new Str) c.map (a.stands Str).bytes) fs place (length p) ff)
-          (none-here (text_source a cells in_line_str) (asked (c.new LineStr) c.map (a.stands LineStr).bytes) gs place (length p) fg))
+          (none-both first second place (length p) (none-here (text_source a cells InStr) (asked (c.new Str) c.map (a.stands Str).bytes) fs place (length p) ff)
+          (none-here (text_source a cells InLineStr) (asked (c.new LineStr) c.map (a.stands LineStr).bytes) gs place (length p) fg))
           (none-here (start_source a cells) (start_known (a.stands Line).starts (starts_from 0 (c.new Line))) hs place (length p) fh)));
       later = record {
         each = λ q le. past-among offs (first ++ second) third place (length p) new zt.0 there q le

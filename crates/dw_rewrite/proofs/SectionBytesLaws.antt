@@ -5,7 +5,6 @@ use Rattle.std.proofs.lemmas.List.{drop_all}
 use Rattle.dw_meaning.specs.DataOutput.{Body}
 use Rattle.dw_base.specs.Elf.{contents_of, section_count}
 use Rattle.dw_base.specs.FileViews.{View, section_bytes, view_cells, view_of}
-use Rattle.dw_base.specs.Forms.{in_str, in_line_str}
 use Rattle.dw_base.specs.InlinePaths.{inline_fits}
 use Rattle.dw_base.specs.Paths.{PathMap}
 use Rattle.dw_base.specs.Refusals.{Blames}
@@ -22,22 +21,23 @@ use Rattle.dw_find.specs.InlineRooms.{grows, Grows, one}
 use Rattle.dw_find.specs.ViewFields.{AllRoomsFit, HasOffsets, HasPlaces, info_of}
 use Rattle.dw_rewrite.specs.NewTables.{bodies_known, body_known, fields_known, section_known, source_in, source_into, starts_in}
 use Rattle.dw_find.specs.TextPlaces.{InlinesFit}
-use Rattle.dw_find.specs.UnitPaths.{UnitPaths, inline_text, fields_into}
+use Rattle.dw_find.specs.SectionFields.{SectionFields, inline_text, fields_into}
 use Rattle.dw_rewrite.specs.UnitsAfter.{inlined}
 use Rattle.dw_find.specs.declared.fields.InlinePath.{InlinePath}
-use Rattle.dw_find.specs.declared.fields.PathField.{PathField}
 use Rattle.dw_base.proofs.FileViewLaws.{length-view_of, section_bytes-view_of}
 use Rattle.dw_base.proofs.ViewCellLaws.{length-view_cells}
 use Rattle.dw_base.specs.declared.debug_sections.DebugSection.{DebugSection}
 use Rattle.dw_base.specs.declared.debug_sections.DebugSection.TheVariants.{Str, LineStr, Line}
+use Rattle.dw_base.specs.declared.texts.TextField.{TextField}
+use Rattle.dw_base.specs.declared.texts.TextSection.TheVariants.{InStr, InLineStr}
 use Rattle.dw_rewrite.proofs.FieldSetLaws.{all-put, apart-behind, apart-front, apart-skip, free-behind, free-first}
 use Rattle.dw_find.proofs.PlaceValueLaws.{EachOf, each-get}
 use Rattle.dw_find.proofs.SectionFactLaws.{FitsIn}
 
 -- fields of line tables are fields of the cells
-pub start-fields : (v : View) (u : UnitPaths) → HasPlaces v u → AreFieldsOf (starts_in v u.number) (fields_into u Line)
+pub start-fields : (v : View) (u : SectionFields) → HasPlaces v u → AreFieldsOf (starts_in v u.number) (fields_into u Line)
 start-fields v u h = record {
-  each = λ (k : ℕ) (d : PathField) (lt : k < length (fields_into u Line)).
+  each = λ (k : ℕ) (d : TextField) (lt : k < length (fields_into u Line)).
       let one : IsStartField (info_of v u) (get_or (fields_into u Line) k d) = h.starts.each k d lt in
       let inside : (get_or (fields_into u Line) k d).at + (get_or (fields_into u Line) k d).size ≤ length (info_of v u) = one.inside in
       let size : length (view_cells v u.number) ≡ length (info_of v u) = length-view_cells v u.number in
@@ -45,59 +45,59 @@ start-fields v u h = record {
 }
 
 -- and so are those of the tables of texts
-offsets-fields : (s : FieldSource) (fields : List PathField) → AreOffsetFields s.order s.table s.cells fields → AreFieldsOf s fields
+offsets-fields : (s : FieldSource) (fields : List TextField) → AreOffsetFields s.order s.table s.cells fields → AreFieldsOf s fields
 offsets-fields s fields h = record { each = λ k d lt. record { sized = (h.each k d lt).sized; inside = (h.each k d lt).inside } }
 
-pub str-fields : (v : View) (u : UnitPaths) → HasOffsets v u → AreFieldsOf (source_in v u.number in_str) (fields_into u Str)
-str-fields v u h = offsets-fields (source_in v u.number in_str) (fields_into u Str) h.str
+pub str-fields : (v : View) (u : SectionFields) → HasOffsets v u → AreFieldsOf (source_in v u.number InStr) (fields_into u Str)
+str-fields v u h = offsets-fields (source_in v u.number InStr) (fields_into u Str) h.str
 
-pub line_str-fields : (v : View) (u : UnitPaths) → HasOffsets v u → AreFieldsOf (source_in v u.number in_line_str) (fields_into u LineStr)
-line_str-fields v u h = offsets-fields (source_in v u.number in_line_str) (fields_into u LineStr) h.line_str
+pub line_str-fields : (v : View) (u : SectionFields) → HasOffsets v u → AreFieldsOf (source_in v u.number InLineStr) (fields_into u LineStr)
+line_str-fields v u h = offsets-fields (source_in v u.number InLineStr) (fields_into u LineStr) h.line_str
 
 -- as many cells as bytes
-pub size-into : (v : View) (u : UnitPaths) (into : DebugSection) (n : ℕ) (s : FieldSource) → n ≡ length (info_of v u) → s ≡ source_into v u.number into → n ≡ length s.cells
+pub size-into : (v : View) (u : SectionFields) (into : DebugSection) (n : ℕ) (s : FieldSource) → n ≡ length (info_of v u) → s ≡ source_into v u.number into → n ≡ length s.cells
 size-into v u into n s is e = is ∙ sym (length-view_cells v u.number) ∙ ap (λ (x : FieldSource). length x.cells) (sym e)
 
 -- they have no byte in common
-pub str-apart : (v : View) (u : UnitPaths) → HasPlaces v u → AllApart (fields_into u Str)
+pub str-apart : (v : View) (u : SectionFields) → HasPlaces v u → AllApart (fields_into u Str)
 str-apart v u h = apart-front (fields_into u Str) (fields_into u LineStr ++ fields_into u Line) h.apart
 
-pub line_str-apart : (v : View) (u : UnitPaths) → HasPlaces v u → AllApart (fields_into u LineStr)
+pub line_str-apart : (v : View) (u : SectionFields) → HasPlaces v u → AllApart (fields_into u LineStr)
 line_str-apart v u h = apart-front (fields_into u LineStr) (fields_into u Line) (apart-behind (fields_into u Str) (fields_into u LineStr ++ fields_into u Line) h.apart)
 
-pub starts-apart : (v : View) (u : UnitPaths) → HasPlaces v u → AllApart (fields_into u Line)
+pub starts-apart : (v : View) (u : SectionFields) → HasPlaces v u → AllApart (fields_into u Line)
 starts-apart v u h = apart-behind (fields_into u LineStr) (fields_into u Line) (apart-behind (fields_into u Str) (fields_into u LineStr ++ fields_into u Line) h.apart)
 
-apart-both : (u : UnitPaths) → AllApart (fields_into u Str ++ (fields_into u LineStr ++ fields_into u Line)) → AllApart ((fields_into u Str ++ fields_into u LineStr) ++ fields_into u Line)
+apart-both : (u : SectionFields) → AllApart (fields_into u Str ++ (fields_into u LineStr ++ fields_into u Line)) → AllApart ((fields_into u Str ++ fields_into u LineStr) ++ fields_into u Line)
 apart-both u h = subst AllApart (sym (append_assoc (fields_into u Str) (fields_into u LineStr) (fields_into u Line))) h
 
 -- those of both tables, one after the other
-pub none-free : (v : View) (u : UnitPaths) (p : PatchList) (n size : ℕ) → p ≡ no_patches v.order n size → AreFree p.list (fields_into u Str)
+pub none-free : (v : View) (u : SectionFields) (p : PatchList) (n size : ℕ) → p ≡ no_patches v.order n size → AreFree p.list (fields_into u Str)
 none-free v u p n size is = rw is (free-first (fields_into u Str))
 
-pub line-free : (v : View) (u : UnitPaths) (p q : PatchList) (known : ℕ → Option ℕ) (n size : ℕ) → HasPlaces v u → p ≡ no_patches v.order n size
-    → AreSet (source_in v u.number in_str) known (fields_into u Str) p q → AreFree q.list (fields_into u LineStr)
+pub line-free : (v : View) (u : SectionFields) (p q : PatchList) (known : ℕ → Option ℕ) (n size : ℕ) → HasPlaces v u → p ≡ no_patches v.order n size
+    → AreSet (source_in v u.number InStr) known (fields_into u Str) p q → AreFree q.list (fields_into u LineStr)
 line-free v u p q known n size h is s =
     let list : q.list ≡ s.more = s.list ∙ ap (λ (x : PatchList). x.list ++ s.more) is in
     subst (λ (ps : List Patch). AreFree ps (fields_into u LineStr)) (sym list)
-    (free-behind (source_in v u.number in_str) known [] s.more (fields_into u Str) (fields_into u LineStr) s.said (apart-front (fields_into u Str ++ fields_into u LineStr) (fields_into u Line) (apart-both u h.apart)) (free-first (fields_into u LineStr)))
+    (free-behind (source_in v u.number InStr) known [] s.more (fields_into u Str) (fields_into u LineStr) s.said (apart-front (fields_into u Str ++ fields_into u LineStr) (fields_into u Line) (apart-both u h.apart)) (free-first (fields_into u LineStr)))
 
-pub start-free : (v : View) (u : UnitPaths) (p q r : PatchList) (ks kl : ℕ → Option ℕ) (n size : ℕ) → HasPlaces v u → p ≡ no_patches v.order n size
-    → AreSet (source_in v u.number in_str) ks (fields_into u Str) p q → AreSet (source_in v u.number in_line_str) kl (fields_into u LineStr) q r → AreFree r.list (fields_into u Line)
+pub start-free : (v : View) (u : SectionFields) (p q r : PatchList) (ks kl : ℕ → Option ℕ) (n size : ℕ) → HasPlaces v u → p ≡ no_patches v.order n size
+    → AreSet (source_in v u.number InStr) ks (fields_into u Str) p q → AreSet (source_in v u.number InLineStr) kl (fields_into u LineStr) q r → AreFree r.list (fields_into u Line)
 start-free v u p q r ks kl n size h is s l =
     let list : r.list ≡ s.more ++ l.more =
     l.list ∙ ap (λ (ps : List Patch). ps ++ l.more) (s.list ∙ ap (λ (x : PatchList). x.list ++ s.more) is) in
     let behind : AllApart (fields_into u LineStr ++ fields_into u Line) = apart-behind (fields_into u Str) (fields_into u LineStr ++ fields_into u Line) h.apart in
     let first : AreFree s.more (fields_into u Line) =
-    free-behind (source_in v u.number in_str) ks [] s.more (fields_into u Str) (fields_into u Line) s.said (apart-skip (fields_into u Str) (fields_into u LineStr) (fields_into u Line) h.apart) (free-first (fields_into u Line)) in
+    free-behind (source_in v u.number InStr) ks [] s.more (fields_into u Str) (fields_into u Line) s.said (apart-skip (fields_into u Str) (fields_into u LineStr) (fields_into u Line) h.apart) (free-first (fields_into u Line)) in
     subst (λ (ps : List Patch). AreFree ps (fields_into u Line)) (sym list)
-    (free-behind (source_in v u.number in_line_str) kl s.more l.more (fields_into u LineStr) (fields_into u Line) l.said behind first)
+    (free-behind (source_in v u.number InLineStr) kl s.more l.more (fields_into u LineStr) (fields_into u Line) l.said behind first)
 
-pub fields-put : (v : View) (u : UnitPaths) (ks kl kt : ℕ → Option ℕ) (out new : List ℕ) (p q r w : PatchList) (n size : ℕ) → p ≡ no_patches v.order n size
-    → AreSet (source_in v u.number in_str) ks (fields_into u Str) p q → AreSet (source_in v u.number in_line_str) kl (fields_into u LineStr) q r
+pub fields-put : (v : View) (u : SectionFields) (ks kl kt : ℕ → Option ℕ) (out new : List ℕ) (p q r w : PatchList) (n size : ℕ) → p ≡ no_patches v.order n size
+    → AreSet (source_in v u.number InStr) ks (fields_into u Str) p q → AreSet (source_in v u.number InLineStr) kl (fields_into u LineStr) q r
     → AreSet (starts_in v u.number) kt (fields_into u Line) r w → new ≡ with_patches w.order out w.list → new ≡ fields_known v ks kl kt u out
 fields-put v u ks kl kt out new p q r w n size is first second third put =
-    all-put (source_in v u.number in_str) (source_in v u.number in_line_str) (starts_in v u.number) out new ks kl kt (fields_into u Str) (fields_into u LineStr) (fields_into u Line) p q r w
+    all-put (source_in v u.number InStr) (source_in v u.number InLineStr) (starts_in v u.number) out new ks kl kt (fields_into u Str) (fields_into u LineStr) (fields_into u Line) p q r w
     (ap (λ (x : PatchList). x.order) is) refl refl (ap (λ (x : PatchList). x.list) is) first second third put
 
 -- a section whose paths all fit isn't refused
@@ -111,15 +111,15 @@ grows-never m section info ps r fits (one k p lt is (grows over)) =
     let fit : inline_fits m (inline_text info p) ≡ true = subst (λ (q : InlinePath). IsTrue (inline_fits m (inline_text info q))) (sym is) (fits-at m info ps k p lt fits) in
     cc
 
-pub memory-only : (m : PathMap) (v : View) (u : UnitPaths) (f : Fault) → FitsIn m v u → Blames (Grows m u.number (info_of v u) u.inline) f → f ≡ NoMemory
+pub memory-only : (m : PathMap) (v : View) (u : SectionFields) (f : Fault) → FitsIn m v u → Blames (Grows m u.number (info_of v u) u.inline) f → f ≡ NoMemory
 memory-only m v u NoMemory fits b = refl
 memory-only m v u (Refused r) fits b = absurd (grows-never m u.number (info_of v u) u.inline r fits b)
 
-fit-each : (m : PathMap) (v : View) (us : List UnitPaths) → AllRoomsFit m v us → EachOf (FitsIn m v) us
+fit-each : (m : PathMap) (v : View) (us : List SectionFields) → AllRoomsFit m v us → EachOf (FitsIn m v) us
 fit-each m v [] fits = tt
 fit-each m v (u ∷ us) fits = (fits.0, fit-each m v us fits.1)
 
-pub fit-at : (m : PathMap) (v : View) (us : List UnitPaths) (i : ℕ) (u : UnitPaths) → AllRoomsFit m v us → i < length us → u ≡ get_or us i u → FitsIn m v u
+pub fit-at : (m : PathMap) (v : View) (us : List SectionFields) (i : ℕ) (u : SectionFields) → AllRoomsFit m v us → i < length us → u ≡ get_or us i u → FitsIn m v u
 fit-at m v us i u fits lt is = subst (FitsIn m v) (sym is) (each-get (FitsIn m v) us i u lt (fit-each m v us fits))
 
 -- what is written into the bytes of a section
@@ -130,14 +130,14 @@ room-written m info here out second third ps qs o list here_is out_is put is sam
     ∙ ap (inlined m info (with_patches o info list)) same
 
 -- are its new bytes
-pub section-written : (m : PathMap) (v : View) (ks kl kt : ℕ → Option ℕ) (u : UnitPaths) (o : Order) (list : List Patch) (new : List ℕ)
+pub section-written : (m : PathMap) (v : View) (ks kl kt : ℕ → Option ℕ) (u : SectionFields) (o : Order) (list : List Patch) (new : List ℕ)
     → with_patches o (info_of v u) list ≡ fields_known v ks kl kt u (info_of v u) → new ≡ inlined m (info_of v u) (with_patches o (info_of v u) list) u.inline
     → new ≡ section_known m v ks kl kt u
 unfolding section_known
 section-written m v ks kl kt u o list new put is = is ∙ ap (λ (bs : List ℕ). inlined m (info_of v u) bs u.inline) put
 
 -- where no path stands in its value, the numbers of the fields are all that is new
-pub body-patched : (m : PathMap) (v : View) (ks kl kt : ℕ → Option ℕ) (u : UnitPaths) (n : ℕ) (o : Order) (list : List Patch) (old : List ℕ) (b : Body)
+pub body-patched : (m : PathMap) (v : View) (ks kl kt : ℕ → Option ℕ) (u : SectionFields) (n : ℕ) (o : Order) (list : List Patch) (old : List ℕ) (b : Body)
     → b ≡ record { number = n; bytes = with_patches o old list } → n ≡ u.number → old ≡ info_of v u
     → with_patches o (info_of v u) list ≡ fields_known v ks kl kt u (info_of v u) → u.inline ≡ [] → b ≡ body_known m v ks kl kt u
 unfolding section_known
@@ -151,22 +151,22 @@ none-long : (ps : List InlinePath) → (length ps == 0) ≡ true → ps ≡ []
 none-long [] e = refl
 none-long (p ∷ ps) e = absurd (true≢false (sym e ∙ ne_eqb (length (p ∷ ps)) 0 (λ (same : length (p ∷ ps) ≡ 0). omega (arith, same))))
 
-pub no-rooms : (u : UnitPaths) (ps : List InlinePath) (t : Bool) → t ≡ (length ps == 0) → ps ≡ u.inline → t ≡ true → u.inline ≡ []
+pub no-rooms : (u : SectionFields) (ps : List InlinePath) (t : Bool) → t ≡ (length ps == 0) → ps ≡ u.inline → t ≡ true → u.inline ≡ []
 no-rooms u ps t is same holds = sym same ∙ none-long ps (sym is ∙ holds)
 
 pub ruleset room_rules = (no-rooms)
 
 -- the section with those bytes
-pub body-is : (m : PathMap) (v : View) (ks kl kt : ℕ → Option ℕ) (u : UnitPaths) (n : ℕ) (bytes new : List ℕ) → n ≡ u.number → bytes ≡ new → new ≡ section_known m v ks kl kt u
+pub body-is : (m : PathMap) (v : View) (ks kl kt : ℕ → Option ℕ) (u : SectionFields) (n : ℕ) (bytes new : List ℕ) → n ≡ u.number → bytes ≡ new → new ≡ section_known m v ks kl kt u
     → record { number = n; bytes = bytes } ≡ body_known m v ks kl kt u
 body-is m v ks kl kt u n bytes new number same is =
     ap (λ (k : ℕ). record { number = k; bytes = bytes }) number ∙ ap (λ (bs : List ℕ). record { number = u.number; bytes = bs }) (same ∙ is)
 
-pub places-there : (v : View) (u : UnitPaths) → HasPlaces v u → u.number < length v.sections
+pub places-there : (v : View) (u : SectionFields) → HasPlaces v u → u.number < length v.sections
 places-there v u h = h.there
 
 -- it is one of the file, which lends its bytes
-pub file-there : (v : View) (b : List ℕ) (u : UnitPaths) (n : ℕ) → v ≡ view_of b → HasPlaces v u → n ≡ u.number → n < length (view_of b).sections
+pub file-there : (v : View) (b : List ℕ) (u : SectionFields) (n : ℕ) → v ≡ view_of b → HasPlaces v u → n ≡ u.number → n < length (view_of b).sections
 file-there v b u n same h is = subst (λ (x : View). n < length x.sections) same (omega (arith, h.there, is))
 
 pub ruleset one_rules = (places-there, file-there, str-fields, line_str-fields, start-fields, str-apart, line_str-apart, starts-apart)
@@ -179,9 +179,9 @@ lent-bytes b bytes i lt is = is ∙ sym (section_bytes-view_of b i (lent-there b
 
 pub ruleset lent_rules = (lent-there, lent-bytes)
 
-pub bodies-end : (m : PathMap) (v : View) (ks kl kt : ℕ → Option ℕ) (us : List UnitPaths) (i : ℕ) (bodies front : List Body) → length us ≤ i
+pub bodies-end : (m : PathMap) (v : View) (ks kl kt : ℕ → Option ℕ) (us : List SectionFields) (i : ℕ) (bodies front : List Body) → length us ≤ i
     → bodies ++ bodies_known m v ks kl kt (drop i us) ≡ front ++ bodies_known m v ks kl kt us → bodies ≡ front ++ bodies_known m v ks kl kt us
 bodies-end m v ks kl kt us i bodies front end e =
-    sym (append-nil bodies) ∙ sym (ap (λ (xs : List UnitPaths). bodies ++ bodies_known m v ks kl kt xs) (drop_all i us end)) ∙ e
+    sym (append-nil bodies) ∙ sym (ap (λ (xs : List SectionFields). bodies ++ bodies_known m v ks kl kt xs) (drop_all i us end)) ∙ e
 
 pub ruleset all_rules = (bodies-end)

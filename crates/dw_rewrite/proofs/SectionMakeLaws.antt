@@ -6,7 +6,6 @@ use Rattle.dw_base.specs.Cells.{CellSection}
 use Rattle.dw_base.specs.DebugData.{DataReadings, ReadsAll, around_of, path_slots, units_in}
 use Rattle.dw_base.specs.DebugSections.{name_of}
 use Rattle.dw_base.specs.FileViews.{View, section_named, view_cells}
-use Rattle.dw_base.specs.Forms.{in_str, in_line_str}
 use Rattle.dw_base.specs.MacroPieces.{ReadsMacros, at_unit, macros_at}
 use Rattle.dw_base.specs.MacroReadings.{EachMacro, MacroReading, ReadsAllMacros}
 use Rattle.dw_base.specs.OffsetPieces.{ReadsOffsets}
@@ -25,15 +24,16 @@ use Rattle.dw_base.specs.ViewData.{cells_located, debug_data}
 use Rattle.dw_base.specs.declared.debug_sections.DebugSection.TheVariants.{Info, Str, LineStr, StrOffsets, Line, Macro}
 use Rattle.dw_base.specs.declared.fault.Kind.TheVariants.{TooWide}
 use Rattle.dw_base.specs.declared.fault.Refusal.{Refusal}
+use Rattle.dw_base.specs.declared.texts.TextField.{TextField}
+use Rattle.dw_base.specs.declared.texts.TextSection.TheVariants.{InStr, InLineStr}
 use Rattle.dw_meaning.specs.DataOutput.{changes_of, table_change}
 use Rattle.dw_meaning.specs.NewAddends.{AddendsFail, MakesRole}
 use Rattle.dw_meaning.specs.NewAddends.AddendsFail.{in_unit, in_slots, in_macros}
 use Rattle.dw_meaning.proofs.MacroPieceLaws.{CellsOf}
 use Rattle.dw_find.specs.MacroSections.{macro_starts, macros_read, macros_with}
 use Rattle.dw_find.specs.SlotPaths.{offset_fields, read_fields, slots_by, slots_read, slots_with}
-use Rattle.dw_find.specs.UnitPaths.{UnitPaths, paths_in, paths_of, fields_into}
+use Rattle.dw_find.specs.SectionFields.{SectionFields, paths_in, paths_of, fields_into}
 use Rattle.dw_find.specs.ViewFields.{AllHaveOffsets, AllHavePlaces, HasOffsets, HasPlaces}
-use Rattle.dw_find.specs.declared.fields.PathField.{PathField}
 use Rattle.dw_find.proofs.MacroHaveLaws.{AllCells}
 use Rattle.dw_find.proofs.MacroStartLaws.{all-cells}
 use Rattle.dw_find.proofs.OffsetPlaceLaws.{offsets-in, offsets-of}
@@ -56,57 +56,57 @@ use Rattle.dw_rewrite.proofs.PieceMakeLaws.{AnyMisses, PieceFails, any-of, line_
 use Rattle.dw_rewrite.proofs.SlotWrittenLaws.{no-offsets}
 
 -- what is known is the same at each of these fields
-abbrev pub SameKnown : FieldSource → (ℕ → Option ℕ) → (ℕ → Option ℕ) → List PathField → Type 0
+abbrev pub SameKnown : FieldSource → (ℕ → Option ℕ) → (ℕ → Option ℕ) → List TextField → Type 0
 SameKnown s k j [] = ⊤
 SameKnown s k j (f ∷ fs) = (k (offset_at s f) ≡ j (offset_at s f)) × SameKnown s k j fs
 
-same-asked : (plan : Plan) (m : PathMap) (s : FieldSource) (ts : List (List ℕ)) (fields : List PathField) (known : ℕ → Option ℕ) → Knows plan m s.table.bytes ts known
+same-asked : (plan : Plan) (m : PathMap) (s : FieldSource) (ts : List (List ℕ)) (fields : List TextField) (known : ℕ → Option ℕ) → Knows plan m s.table.bytes ts known
     → AreNoted plan s fields (length fields) known → SameKnown s known (asked (record { plan = plan; texts = ts }) m s.table.bytes) fields
 same-asked plan m s ts [] known knows noted = tt
 same-asked plan m s ts (f ∷ fs) known knows noted =
     let rest : AreNoted plan s fs (length fs) known =
-    record { each = λ (k : ℕ) (d : PathField) (lt : k < length fs) (within : k < length fs). noted.each (suc k) d (omega arith) (omega arith) } in
+    record { each = λ (k : ℕ) (d : TextField) (lt : k < length fs) (within : k < length fs). noted.each (suc k) d (omega arith) (omega arith) } in
     (known-asked plan m s.table.bytes ts known (offset_at s f) knows (noted.each 0 f (omega arith) (omega arith)), same-asked plan m s ts fs known knows rest)
 
-makes-same : (s : FieldSource) (k j : ℕ → Option ℕ) (fs : List PathField) → SameKnown s k j fs → FieldsMake s k fs → FieldsMake s j fs
+makes-same : (s : FieldSource) (k j : ℕ → Option ℕ) (fs : List TextField) → SameKnown s k j fs → FieldsMake s k fs → FieldsMake s j fs
 makes-same s k j [] same h = tt
 makes-same s k j (f ∷ fs) same h = (subst (FieldMakes s f) same.0 h.0, makes-same s k j fs same.1 h.1)
 
-any-same : (s : FieldSource) (k j : ℕ → Option ℕ) (number : ℕ) (fs : List PathField) (r : Refusal) → SameKnown s k j fs → AnyMisses s k number fs r → AnyMisses s j number fs r
+any-same : (s : FieldSource) (k j : ℕ → Option ℕ) (number : ℕ) (fs : List TextField) (r : Refusal) → SameKnown s k j fs → AnyMisses s k number fs r → AnyMisses s j number fs r
 any-same s k j number [] r same h = absurd h
 any-same s k j number (f ∷ fs) r same (inl h) = inl (subst (λ (o : Option ℕ). FieldMisses s number f o r) same.0 h)
 any-same s k j number (f ∷ fs) r same (inr h) = inr (any-same s k j number fs r same.1 h)
 
 -- the row of a section, by its lists of fields
-abbrev pub AnyField : View → (ℕ → Option ℕ) → (ℕ → Option ℕ) → (ℕ → Option ℕ) → UnitPaths → Refusal → Type 0
+abbrev pub AnyField : View → (ℕ → Option ℕ) → (ℕ → Option ℕ) → (ℕ → Option ℕ) → SectionFields → Refusal → Type 0
 AnyField v ks kl kt u r =
-    AnyMisses (source_in v u.number in_str) ks u.number (fields_into u Str) r ⊎ (AnyMisses (source_in v u.number in_line_str) kl u.number (fields_into u LineStr) r ⊎ AnyMisses (starts_in v u.number) kt u.number (fields_into u Line) r)
+    AnyMisses (source_in v u.number InStr) ks u.number (fields_into u Str) r ⊎ (AnyMisses (source_in v u.number InLineStr) kl u.number (fields_into u LineStr) r ⊎ AnyMisses (starts_in v u.number) kt u.number (fields_into u Line) r)
 
-field-of : (v : View) (ks kl kt : ℕ → Option ℕ) (u : UnitPaths) (r : Refusal) → SectionMisses v ks kl kt u r → AnyField v ks kl kt u r
-field-of v ks kl kt u r (in_str_field h) = inl (any-of (source_in v u.number in_str) ks u.number (fields_into u Str) r h)
-field-of v ks kl kt u r (in_line_str_field h) = inr (inl (any-of (source_in v u.number in_line_str) kl u.number (fields_into u LineStr) r h))
+field-of : (v : View) (ks kl kt : ℕ → Option ℕ) (u : SectionFields) (r : Refusal) → SectionMisses v ks kl kt u r → AnyField v ks kl kt u r
+field-of v ks kl kt u r (in_str_field h) = inl (any-of (source_in v u.number InStr) ks u.number (fields_into u Str) r h)
+field-of v ks kl kt u r (in_line_str_field h) = inr (inl (any-of (source_in v u.number InLineStr) kl u.number (fields_into u LineStr) r h))
 field-of v ks kl kt u r (in_start_field h) = inr (inr (any-of (starts_in v u.number) kt u.number (fields_into u Line) r h))
 
 -- and of sections, by the list
-abbrev pub AnySection : View → (ℕ → Option ℕ) → (ℕ → Option ℕ) → (ℕ → Option ℕ) → List UnitPaths → Refusal → Type 0
+abbrev pub AnySection : View → (ℕ → Option ℕ) → (ℕ → Option ℕ) → (ℕ → Option ℕ) → List SectionFields → Refusal → Type 0
 AnySection v ks kl kt [] r = ⊥
 AnySection v ks kl kt (u ∷ us) r = AnyField v ks kl kt u r ⊎ AnySection v ks kl kt us r
 
-section-at : (v : View) (ks kl kt : ℕ → Option ℕ) (us : List UnitPaths) (i : ℕ) (u : UnitPaths) (r : Refusal) → i < length us → u ≡ get_or us i u → AnyField v ks kl kt u r
+section-at : (v : View) (ks kl kt : ℕ → Option ℕ) (us : List SectionFields) (i : ℕ) (u : SectionFields) (r : Refusal) → i < length us → u ≡ get_or us i u → AnyField v ks kl kt u r
     → AnySection v ks kl kt us r
 section-at v ks kl kt [] i u r lt is h = absurd (omega (arith, lt))
-section-at v ks kl kt (w ∷ ws) zero u r lt is h = inl (subst (λ (x : UnitPaths). AnyField v ks kl kt x r) is h)
+section-at v ks kl kt (w ∷ ws) zero u r lt is h = inl (subst (λ (x : SectionFields). AnyField v ks kl kt x r) is h)
 section-at v ks kl kt (w ∷ ws) (suc i) u r lt is h = inr (section-at v ks kl kt ws i u r (omega (arith, lt)) is h)
 
-pub section-of : (v : View) (ks kl kt : ℕ → Option ℕ) (us : List UnitPaths) (r : Refusal) → AllMiss v ks kl kt us r → AnySection v ks kl kt us r
+pub section-of : (v : View) (ks kl kt : ℕ → Option ℕ) (us : List SectionFields) (r : Refusal) → AllMiss v ks kl kt us r → AnySection v ks kl kt us r
 section-of v ks kl kt us r (one_section i u lt is h) = section-at v ks kl kt us i u _ lt is (field-of v ks kl kt u _ h)
 
 -- parts of sections
-pub all-parts : (v : View) (ks kl kt : ℕ → Option ℕ) (us ws : List UnitPaths) → AllMake v ks kl kt (us ++ ws) → AllMake v ks kl kt us × AllMake v ks kl kt ws
+pub all-parts : (v : View) (ks kl kt : ℕ → Option ℕ) (us ws : List SectionFields) → AllMake v ks kl kt (us ++ ws) → AllMake v ks kl kt us × AllMake v ks kl kt ws
 all-parts v ks kl kt [] ws h = (tt, h)
 all-parts v ks kl kt (u ∷ us) ws h = let rest = all-parts v ks kl kt us ws h.1 in ((h.0, rest.0), rest.1)
 
-pub any-sections : (v : View) (ks kl kt : ℕ → Option ℕ) (us ws : List UnitPaths) (r : Refusal) → AnySection v ks kl kt (us ++ ws) r
+pub any-sections : (v : View) (ks kl kt : ℕ → Option ℕ) (us ws : List SectionFields) (r : Refusal) → AnySection v ks kl kt (us ++ ws) r
     → AnySection v ks kl kt us r ⊎ AnySection v ks kl kt ws r
 any-sections v ks kl kt [] ws r h = inr h
 any-sections v ks kl kt (u ∷ us) ws r (inl h) = inl (inl h)
@@ -116,57 +116,57 @@ any-sections v ks kl kt (u ∷ us) ws r (inr h) = by (any-sections v ks kl kt us
     by (inl x) = inl (inr x)
     by (inr x) = inr x
 
-pub offsets-parts : (v : View) (us ws : List UnitPaths) → AllHaveOffsets v (us ++ ws) → AllHaveOffsets v us × AllHaveOffsets v ws
+pub offsets-parts : (v : View) (us ws : List SectionFields) → AllHaveOffsets v (us ++ ws) → AllHaveOffsets v us × AllHaveOffsets v ws
 offsets-parts v [] ws h = (tt, h)
 offsets-parts v (u ∷ us) ws h = let rest = offsets-parts v us ws h.1 in ((h.0, rest.0), rest.1)
 
-pub places-parts : (v : View) (us ws : List UnitPaths) → AllHavePlaces v (us ++ ws) → AllHavePlaces v us × AllHavePlaces v ws
+pub places-parts : (v : View) (us ws : List SectionFields) → AllHavePlaces v (us ++ ws) → AllHavePlaces v us × AllHavePlaces v ws
 places-parts v [] ws h = (tt, h)
 places-parts v (u ∷ us) ws h = let rest = places-parts v us ws h.1 in ((h.0, rest.0), rest.1)
 
 -- what is known of new places is what paths ask for
-section-known : (m : PathMap) (v : View) (ps pl : TextTable) (ks kl kt : ℕ → Option ℕ) (u : UnitPaths) → Growing m v in_str ps ks → Growing m v in_line_str pl kl
-    → IsSectionNoted m v in_str u ks → IsSectionNoted m v in_line_str u kl → SectionMakes v ks kl kt u
-    → SectionMakes v (asked_in m v in_str ps.texts) (asked_in m v in_line_str pl.texts) kt u
+section-known : (m : PathMap) (v : View) (ps pl : TextTable) (ks kl kt : ℕ → Option ℕ) (u : SectionFields) → Growing m v InStr ps ks → Growing m v InLineStr pl kl
+    → IsSectionNoted m v InStr u ks → IsSectionNoted m v InLineStr u kl → SectionMakes v ks kl kt u
+    → SectionMakes v (asked_in m v InStr ps.texts) (asked_in m v InLineStr pl.texts) kt u
 section-known m v ps pl ks kl kt u gs gl ns nl h = record {
-  str = makes-same (source_in v u.number in_str) ks (asked_in m v in_str ps.texts) (fields_into u Str)
-      (same-asked (plan_in m v in_str) m (source_in v u.number in_str) ps.texts (fields_into u Str) ks gs.knows ns) h.str;
-  line_str = makes-same (source_in v u.number in_line_str) kl (asked_in m v in_line_str pl.texts) (fields_into u LineStr)
-      (same-asked (plan_in m v in_line_str) m (source_in v u.number in_line_str) pl.texts (fields_into u LineStr) kl gl.knows nl) h.line_str;
+  str = makes-same (source_in v u.number InStr) ks (asked_in m v InStr ps.texts) (fields_into u Str)
+      (same-asked (plan_in m v InStr) m (source_in v u.number InStr) ps.texts (fields_into u Str) ks gs.knows ns) h.str;
+  line_str = makes-same (source_in v u.number InLineStr) kl (asked_in m v InLineStr pl.texts) (fields_into u LineStr)
+      (same-asked (plan_in m v InLineStr) m (source_in v u.number InLineStr) pl.texts (fields_into u LineStr) kl gl.knows nl) h.line_str;
   starts = h.starts;
 }
 
-field-known : (m : PathMap) (v : View) (ps pl : TextTable) (ks kl kt : ℕ → Option ℕ) (u : UnitPaths) (r : Refusal) → Growing m v in_str ps ks → Growing m v in_line_str pl kl
-    → IsSectionNoted m v in_str u ks → IsSectionNoted m v in_line_str u kl → AnyField v ks kl kt u r
-    → AnyField v (asked_in m v in_str ps.texts) (asked_in m v in_line_str pl.texts) kt u r
+field-known : (m : PathMap) (v : View) (ps pl : TextTable) (ks kl kt : ℕ → Option ℕ) (u : SectionFields) (r : Refusal) → Growing m v InStr ps ks → Growing m v InLineStr pl kl
+    → IsSectionNoted m v InStr u ks → IsSectionNoted m v InLineStr u kl → AnyField v ks kl kt u r
+    → AnyField v (asked_in m v InStr ps.texts) (asked_in m v InLineStr pl.texts) kt u r
 field-known m v ps pl ks kl kt u r gs gl ns nl (inl h) =
-    inl (any-same (source_in v u.number in_str) ks (asked_in m v in_str ps.texts) u.number (fields_into u Str) r
-    (same-asked (plan_in m v in_str) m (source_in v u.number in_str) ps.texts (fields_into u Str) ks gs.knows ns) h)
+    inl (any-same (source_in v u.number InStr) ks (asked_in m v InStr ps.texts) u.number (fields_into u Str) r
+    (same-asked (plan_in m v InStr) m (source_in v u.number InStr) ps.texts (fields_into u Str) ks gs.knows ns) h)
 field-known m v ps pl ks kl kt u r gs gl ns nl (inr (inl h)) =
-    inr (inl (any-same (source_in v u.number in_line_str) kl (asked_in m v in_line_str pl.texts) u.number (fields_into u LineStr) r
-    (same-asked (plan_in m v in_line_str) m (source_in v u.number in_line_str) pl.texts (fields_into u LineStr) kl gl.knows nl) h))
+    inr (inl (any-same (source_in v u.number InLineStr) kl (asked_in m v InLineStr pl.texts) u.number (fields_into u LineStr) r
+    (same-asked (plan_in m v InLineStr) m (source_in v u.number InLineStr) pl.texts (fields_into u LineStr) kl gl.knows nl) h))
 field-known m v ps pl ks kl kt u r gs gl ns nl (inr (inr h)) = inr (inr h)
 
-pub all-known : (m : PathMap) (v : View) (ps pl : TextTable) (ks kl kt : ℕ → Option ℕ) (us : List UnitPaths) → Growing m v in_str ps ks → Growing m v in_line_str pl kl
-    → EachOf (λ u. IsSectionNoted m v in_str u ks) us → EachOf (λ u. IsSectionNoted m v in_line_str u kl) us → AllMake v ks kl kt us
-    → AllMake v (asked_in m v in_str ps.texts) (asked_in m v in_line_str pl.texts) kt us
+pub all-known : (m : PathMap) (v : View) (ps pl : TextTable) (ks kl kt : ℕ → Option ℕ) (us : List SectionFields) → Growing m v InStr ps ks → Growing m v InLineStr pl kl
+    → EachOf (λ u. IsSectionNoted m v InStr u ks) us → EachOf (λ u. IsSectionNoted m v InLineStr u kl) us → AllMake v ks kl kt us
+    → AllMake v (asked_in m v InStr ps.texts) (asked_in m v InLineStr pl.texts) kt us
 all-known m v ps pl ks kl kt [] gs gl ns nl h = tt
 all-known m v ps pl ks kl kt (u ∷ us) gs gl ns nl h =
     (section-known m v ps pl ks kl kt u gs gl ns.0 nl.0 h.0, all-known m v ps pl ks kl kt us gs gl ns.1 nl.1 h.1)
 
-pub any-known : (m : PathMap) (v : View) (ps pl : TextTable) (ks kl kt : ℕ → Option ℕ) (us : List UnitPaths) (r : Refusal) → Growing m v in_str ps ks → Growing m v in_line_str pl kl
-    → EachOf (λ u. IsSectionNoted m v in_str u ks) us → EachOf (λ u. IsSectionNoted m v in_line_str u kl) us → AnySection v ks kl kt us r
-    → AnySection v (asked_in m v in_str ps.texts) (asked_in m v in_line_str pl.texts) kt us r
+pub any-known : (m : PathMap) (v : View) (ps pl : TextTable) (ks kl kt : ℕ → Option ℕ) (us : List SectionFields) (r : Refusal) → Growing m v InStr ps ks → Growing m v InLineStr pl kl
+    → EachOf (λ u. IsSectionNoted m v InStr u ks) us → EachOf (λ u. IsSectionNoted m v InLineStr u kl) us → AnySection v ks kl kt us r
+    → AnySection v (asked_in m v InStr ps.texts) (asked_in m v InLineStr pl.texts) kt us r
 any-known m v ps pl ks kl kt [] r gs gl ns nl h = absurd h
 any-known m v ps pl ks kl kt (u ∷ us) r gs gl ns nl (inl h) = inl (field-known m v ps pl ks kl kt u r gs gl ns.0 nl.0 h)
 any-known m v ps pl ks kl kt (u ∷ us) r gs gl ns nl (inr h) = inr (any-known m v ps pl ks kl kt us r gs gl ns.1 nl.1 h)
 
 -- what paths ask for in an edit
 abbrev pub str_after : PathMap → View → DataReadings → ℕ → Option ℕ
-str_after m v all = asked_in m v in_str (table_change m in_str (around_of (debug_data v) all) all).texts
+str_after m v all = asked_in m v InStr (table_change m InStr (around_of (debug_data v) all) all).texts
 
 abbrev pub line_str_after : PathMap → View → DataReadings → ℕ → Option ℕ
-line_str_after m v all = asked_in m v in_line_str (table_change m in_line_str (around_of (debug_data v) all) all).texts
+line_str_after m v all = asked_in m v InLineStr (table_change m InLineStr (around_of (debug_data v) all) all).texts
 
 abbrev pub edit_of : PathMap → View → DataReadings → TableChanges
 edit_of m v all = changes_of m (around_of (debug_data v) all) all
@@ -235,9 +235,9 @@ slots-make-by m v all None reads h =
     subst (EachPiece (λ x. MakesRole (slot_role (path_slots (around_of (debug_data v) all)) x.state) (edit_of m v all) (around_of (debug_data v) all) x.cells))
     (sym (no-offsets v.order all.offsets reads)) tt
 slots-make-by m v all (Some i) reads h =
-    let none : offset_fields in_line_str (path_slots (around_of (debug_data v) all)) all.offsets ≡ [] = line-fields (path_slots (around_of (debug_data v) all)) all.offsets in
+    let none : offset_fields InLineStr (path_slots (around_of (debug_data v) all)) all.offsets ≡ [] = line-fields (path_slots (around_of (debug_data v) all)) all.offsets in
     make-slots (edit_of m v all) (around_of (debug_data v) all) (view_cells v i) (path_slots (around_of (debug_data v) all)) all.offsets refl refl (offsets-in v (Some i) all.offsets reads)
-    h.0.str (subst (FieldsMake (text_source (around_of (debug_data v) all) (view_cells v i) in_line_str) (line_str_asked (edit_of m v all) (around_of (debug_data v) all))) (sym none) tt)
+    h.0.str (subst (FieldsMake (text_source (around_of (debug_data v) all) (view_cells v i) InLineStr) (line_str_asked (edit_of m v all) (around_of (debug_data v) all))) (sym none) tt)
 
 pub slots-make : (m : PathMap) (v : View) (all : DataReadings) → ReadsOffsets (debug_data v).base.order ((debug_data v).found StrOffsets).contents all.offsets
     → AllMake v (str_after m v all) (line_str_after m v all) (starts_after m v all) (slots_read v all)

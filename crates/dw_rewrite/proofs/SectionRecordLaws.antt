@@ -4,7 +4,6 @@ use Rattle.std.proofs.Common.{◌≡◌, ℕ, List, [], Some, refl, sym, ap, ◌
 use Rattle.dw_base.specs.Cells.{Cell, CellSection}
 use Rattle.dw_base.specs.DebugData.{Around, DataReadings, around_of, path_slots}
 use Rattle.dw_base.specs.FileViews.{View, view_cells}
-use Rattle.dw_base.specs.Forms.{in_str, in_line_str}
 use Rattle.dw_base.specs.MacroPieces.{ReadsMacros, at_unit, macros_at}
 use Rattle.dw_base.specs.MacroReadings.{MacroReading}
 use Rattle.dw_base.specs.OffsetPieces.{ReadsOffsets}
@@ -19,6 +18,8 @@ use Rattle.dw_base.specs.UnitHeaders.{UnitSection}
 use Rattle.dw_base.specs.UnitPieces.{ReadsUnits}
 use Rattle.dw_base.specs.UnitStates.{before_unit}
 use Rattle.dw_base.specs.ViewData.{cells_located, debug_data}
+use Rattle.dw_base.specs.declared.texts.TextField.{TextField}
+use Rattle.dw_base.specs.declared.texts.TextSection.TheVariants.{InStr, InLineStr}
 use Rattle.dw_meaning.specs.DataOutput.{changes_of, table_change}
 use Rattle.dw_meaning.proofs.MacroPieceLaws.{CellsOf}
 use Rattle.dw_meaning.proofs.RecordMoveLaws.{RecordsApart}
@@ -27,8 +28,7 @@ use Rattle.elf_layout.specs.declared.patch.Patch.{Patch}
 use Rattle.dw_patch.proofs.SaidCellLaws.{SaidAll}
 use Rattle.dw_find.specs.MacroSections.{macro_starts, macros_with}
 use Rattle.dw_find.specs.SlotPaths.{offset_fields, read_fields, slots_with}
-use Rattle.dw_find.specs.UnitPaths.{UnitPaths, path_fields, paths_in, start_fields}
-use Rattle.dw_find.specs.declared.fields.PathField.{PathField}
+use Rattle.dw_find.specs.SectionFields.{SectionFields, path_fields, paths_in, start_fields}
 use Rattle.dw_find.specs.ViewFields.{HasOffsets, HasPlaces}
 use Rattle.dw_find.proofs.OffsetPlaceLaws.{offsets-in}
 use Rattle.dw_find.proofs.PlacedLaws.{placed-cells}
@@ -41,10 +41,10 @@ use Rattle.dw_rewrite.proofs.PieceSayLaws.{said-macros, said-slots, said-units}
 use Rattle.dw_rewrite.proofs.SaidLaws.{Sized}
 
 -- the offsets that a section says
-abbrev pub told_in : PathMap → View → DataReadings → UnitPaths → List Patch
+abbrev pub told_in : PathMap → View → DataReadings → SectionFields → List Patch
 told_in m v all u =
-    offsets_in v (asked_in m v in_str (table_change m in_str (around_of (debug_data v) all) all).texts)
-    (asked_in m v in_line_str (table_change m in_line_str (around_of (debug_data v) all) all).texts) (starts_after m v all) u
+    offsets_in v (asked_in m v InStr (table_change m InStr (around_of (debug_data v) all) all).texts)
+    (asked_in m v InLineStr (table_change m InLineStr (around_of (debug_data v) all) all).texts) (starts_after m v all) u
 
 -- relocations of a section of a view are read from a source
 pub record IsReadFrom (v : View) (i : ℕ) (g : RelocationSource) (bytes : List ℕ) : Type 0 where
@@ -66,7 +66,7 @@ unfolding table_change
 units-moved m v all z first r g bytes reads same offsets places from =
     let sized = section-sized v (paths_in r) offsets places in
     let offs : List Patch = offsets_after (changes_of m (around_of (debug_data v) all) all) (around_of (debug_data v) all) (view_cells v r.number)
-    (path_fields in_str r.pieces) (path_fields in_line_str r.pieces) (start_fields r.pieces) in
+    (path_fields InStr r.pieces) (path_fields InLineStr r.pieces) (start_fields r.pieces) in
     moved v r.number g bytes offs (told_in m v all (paths_in r)) (joined r.pieces)
     (joined (edited_all (changes_of m (around_of (debug_data v) all) all) (around_of (debug_data v) all) r.pieces)) from (section-after m v all (paths_in r)) (reads.cells ∙ same)
     (said-units (changes_of m (around_of (debug_data v) all) all) (around_of (debug_data v) all) (view_cells v r.number) offs 0 r.pieces refl refl
@@ -85,14 +85,14 @@ slots-moved m v all i g bytes reads offsets places from =
     let paths : List ℕ = path_slots (around_of (debug_data v) all) in
     let a : Around = around_of (debug_data v) all in
     let sized = section-sized v (slots_with i (read_fields (debug_data v) all)) offsets places in
-    let none : offset_fields in_line_str (path_slots (around_of (debug_data v) all)) all.offsets ≡ [] = line-fields (path_slots (around_of (debug_data v) all)) all.offsets in
+    let none : offset_fields InLineStr (path_slots (around_of (debug_data v) all)) all.offsets ≡ [] = line-fields (path_slots (around_of (debug_data v) all)) all.offsets in
     let offs : List Patch = offsets_after (changes_of m (around_of (debug_data v) all) all) (around_of (debug_data v) all) (view_cells v i)
-    (offset_fields in_str (path_slots (around_of (debug_data v) all)) all.offsets) (offset_fields in_line_str (path_slots (around_of (debug_data v) all)) all.offsets) [] in
+    (offset_fields InStr (path_slots (around_of (debug_data v) all)) all.offsets) (offset_fields InLineStr (path_slots (around_of (debug_data v) all)) all.offsets) [] in
     moved v i g bytes offs (told_in m v all (slots_with i (read_fields (debug_data v) all))) (joined all.offsets)
     (joined (edited_with (slot_role (path_slots (around_of (debug_data v) all))) (changes_of m (around_of (debug_data v) all) all) (around_of (debug_data v) all) all.offsets)) from
     (section-after m v all (slots_with i (read_fields (debug_data v) all))
-    ∙ ap (λ (gs : List PathField). offsets_after (changes_of m (around_of (debug_data v) all) all) (around_of (debug_data v) all) (view_cells v i)
-    (offset_fields in_str (path_slots (around_of (debug_data v) all)) all.offsets) gs []) (sym none)) reads.cells
+    ∙ ap (λ (gs : List TextField). offsets_after (changes_of m (around_of (debug_data v) all) all) (around_of (debug_data v) all) (view_cells v i)
+    (offset_fields InStr (path_slots (around_of (debug_data v) all)) all.offsets) gs []) (sym none)) reads.cells
     (said-slots (changes_of m (around_of (debug_data v) all) all) (around_of (debug_data v) all) (view_cells v i) offs 0 (path_slots (around_of (debug_data v) all)) all.offsets refl refl
     (offsets-in v (Some i) all.offsets reads) sized.0 (subst Sized (sym none) tt) (record { each = λ q le. refl }))
 

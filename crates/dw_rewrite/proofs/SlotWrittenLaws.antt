@@ -4,7 +4,6 @@ use Rattle.std.proofs.Common.{false, ◌≡◌, ℕ, ◌+◌, List, [], ◌∷�
 use Rattle.std.proofs.lemmas.List.{length-append}
 use Rattle.dw_base.specs.Cells.{Cell, bytes_of}
 use Rattle.dw_base.specs.DebugData.{Around, table_of}
-use Rattle.dw_base.specs.Forms.{TextSection, in_str, in_line_str}
 use Rattle.dw_base.specs.NamePieces.{NameMode, at_table, at_string, at_rest, no_names, NameState}
 use Rattle.dw_base.specs.OffsetPieces.{OffsetMode, at_contribution, at_slot, no_offsets, OffsetState, IsOffsetsHeader, FitsOffsets, ReadsOffsets}
 use Rattle.dw_base.specs.Paths.{PathMap}
@@ -17,12 +16,14 @@ use Rattle.dw_base.specs.declared.shared.Order.{Order}
 use Rattle.dw_base.proofs.UnitEditLaws.{length-bytes_of}
 use Rattle.dw_base.proofs.UnitHeaderLaws.{bytes_of-append}
 use Rattle.dw_base.specs.declared.debug_sections.DebugSection.TheVariants.{Str, LineStr}
+use Rattle.dw_base.specs.declared.texts.TextField.{TextField}
+use Rattle.dw_base.specs.declared.texts.TextSection.{TextSection}
+use Rattle.dw_base.specs.declared.texts.TextSection.TheVariants.{InStr, InLineStr}
 use Rattle.dw_rewrite.specs.Changes.{texts_at}
 use Rattle.dw_find.specs.SlotPaths.{offset_fields}
-use Rattle.dw_find.specs.UnitPaths.{field_by, inline_by}
+use Rattle.dw_find.specs.SectionFields.{field_by, inline_by}
 use Rattle.dw_rewrite.specs.UnitsAfter.{text_source}
 use Rattle.dw_find.specs.declared.fields.InlinePath.{InlinePath}
-use Rattle.dw_find.specs.declared.fields.PathField.{PathField}
 use Rattle.dw_rewrite.proofs.EditedLaws.{bytes-there, piece_texts}
 use Rattle.dw_rewrite.proofs.UnitWrittenLaws.{length-edited, no_path-asks, piece_written, unit_by}
 use Rattle.dw_find.proofs.SlotPlaceLaws.{SlotsIn, SlotsPlaced, from-place, no-start}
@@ -66,31 +67,31 @@ slots-bytes cells place (x ∷ xs) l = (l.0, bytes-there x.cells (joined xs) cel
 -- what pieces become
 pub slots_written : (c : TableChanges) (a : Around) (cells : List Cell) (front : List ℕ) (place : ℕ) (paths : List ℕ) (xs : List (Piece OffsetState))
     → (c.new Str).plan ≡ appending c.map (a.stands Str).bytes → (c.new LineStr).plan ≡ appending c.map (a.stands LineStr).bytes → length front ≡ place → SlotsIn cells place xs
-    → unit_by c a cells (offset_fields in_str paths xs) (offset_fields in_line_str paths xs) [] [] (front ++ bytes_of (joined xs))
+    → unit_by c a cells (offset_fields InStr paths xs) (offset_fields InLineStr paths xs) [] [] (front ++ bytes_of (joined xs))
     ≡ front ++ bytes_of (joined (edited_with (slot_role paths) c a xs))
 slots_written c a cells front place paths [] str line at l = refl
 slots_written c a cells front place paths (x ∷ xs) str line at l =
     let r : Role = slot_role paths x.state in
     let q : List Cell = edited_by (slot_role paths x.state) c a x.cells in
     let rest : List ℕ = bytes_of (joined xs) in
-    let fs : List PathField = offset_fields in_str paths xs in
-    let gs : List PathField = offset_fields in_line_str paths xs in
+    let fs : List TextField = offset_fields InStr paths xs in
+    let gs : List TextField = offset_fields InLineStr paths xs in
     let fits : InlineFitsBy (slot_role paths x.state) c.map x.cells = fits-inline paths x.state.mode x.state.slot c.map x.cells in
     let size : length q ≡ length x.cells = length-edited (slot_role paths x.state) c a x.cells in
     let next : length (front ++ bytes_of q) ≡ place + length x.cells = length-append front (bytes_of q) ∙ omega (arith, at, size, length-bytes_of q) in
-    ap (λ (i : ℕ). unit_by c a cells (field_by in_str (slot_role paths x.state) i (length x.cells) ++ fs) (field_by in_line_str (slot_role paths x.state) i (length x.cells) ++ gs) [] []
+    ap (λ (i : ℕ). unit_by c a cells (field_by InStr (slot_role paths x.state) i (length x.cells) ++ fs) (field_by InLineStr (slot_role paths x.state) i (length x.cells) ++ gs) [] []
     (front ++ bytes_of (x.cells ++ joined xs))) l.0
-    ∙ ap (λ (b : List ℕ). unit_by c a cells (field_by in_str (slot_role paths x.state) place (length x.cells) ++ fs)
-    (field_by in_line_str (slot_role paths x.state) place (length x.cells) ++ gs) [] [] (front ++ b)) (bytes_of-append x.cells (joined xs))
-    ∙ ap (λ (is : List InlinePath). unit_by c a cells (field_by in_str (slot_role paths x.state) place (length x.cells) ++ fs)
-    (field_by in_line_str (slot_role paths x.state) place (length x.cells) ++ gs) [] (is ++ []) (front ++ (bytes_of x.cells ++ rest)))
+    ∙ ap (λ (b : List ℕ). unit_by c a cells (field_by InStr (slot_role paths x.state) place (length x.cells) ++ fs)
+    (field_by InLineStr (slot_role paths x.state) place (length x.cells) ++ gs) [] [] (front ++ b)) (bytes_of-append x.cells (joined xs))
+    ∙ ap (λ (is : List InlinePath). unit_by c a cells (field_by InStr (slot_role paths x.state) place (length x.cells) ++ fs)
+    (field_by InLineStr (slot_role paths x.state) place (length x.cells) ++ gs) [] (is ++ []) (front ++ (bytes_of x.cells ++ rest)))
     (sym (no-inline paths x.state.mode x.state.slot place x.cells))
-    ∙ ap (λ (hs : List PathField). unit_by c a cells (field_by in_str (slot_role paths x.state) place (length x.cells) ++ fs)
-    (field_by in_line_str (slot_role paths x.state) place (length x.cells) ++ gs) (hs ++ []) (inline_by (slot_role paths x.state) place x.cells ++ []) (front ++ (bytes_of x.cells ++ rest)))
+    ∙ ap (λ (hs : List TextField). unit_by c a cells (field_by InStr (slot_role paths x.state) place (length x.cells) ++ fs)
+    (field_by InLineStr (slot_role paths x.state) place (length x.cells) ++ gs) (hs ++ []) (inline_by (slot_role paths x.state) place x.cells ++ []) (front ++ (bytes_of x.cells ++ rest)))
     (sym (no-start paths x.state.mode x.state.slot place (length x.cells)))
     ∙ piece_written (slot_role paths x.state) c a cells front x.cells (joined xs) rest place fs gs [] [] str line at l.1 fits
-    (from-place in_str (bytes_of cells) (place + length x.cells) paths xs (slots-bytes cells (place + length x.cells) xs l.2))
-    (from-place in_line_str (bytes_of cells) (place + length x.cells) paths xs (slots-bytes cells (place + length x.cells) xs l.2)) tt
+    (from-place InStr (bytes_of cells) (place + length x.cells) paths xs (slots-bytes cells (place + length x.cells) xs l.2))
+    (from-place InLineStr (bytes_of cells) (place + length x.cells) paths xs (slots-bytes cells (place + length x.cells) xs l.2)) tt
     ∙ ap (unit_by c a cells fs gs [] []) (sym (append_assoc front (bytes_of q) rest))
     ∙ slots_written c a cells (front ++ bytes_of q) (place + length x.cells) paths xs str line next l.2
     ∙ append_assoc front (bytes_of q) (bytes_of (joined (edited_with (slot_role paths) c a xs)))
@@ -99,16 +100,16 @@ slots_written c a cells front place paths (x ∷ xs) str line at l =
 -- name tables add no text
 name-texts : (mode : NameMode) (table : TextSection) (plan : Plan) (m : PathMap) (around : Around) (ts : List (List ℕ)) (p : List Cell) (more : List Mention)
     → plan ≡ appending m (table_of around table).bytes → texts_after plan m ts (mentions_by (name_role_by mode) table around p ++ more) ≡ texts_after plan m ts more
-name-texts at_table in_str plan m around ts p more is = refl
-name-texts at_table in_line_str plan m around ts p more is = refl
-name-texts (at_string w left end) in_str plan m around ts p more is =
-    let none : with_mention plan m ts (mention_at around in_str false p) ≡ ts = rw is refl in
+name-texts at_table InStr plan m around ts p more is = refl
+name-texts at_table InLineStr plan m around ts p more is = refl
+name-texts (at_string w left end) InStr plan m around ts p more is =
+    let none : with_mention plan m ts (mention_at around InStr false p) ≡ ts = rw is refl in
     ap (λ (us : List (List ℕ)). texts_after plan m us more) none
-name-texts (at_string w left end) in_line_str plan m around ts p more is = refl
-name-texts (at_rest end) in_str plan m around ts p more is = refl
-name-texts (at_rest end) in_line_str plan m around ts p more is = refl
-name-texts no_names in_str plan m around ts p more is = refl
-name-texts no_names in_line_str plan m around ts p more is = refl
+name-texts (at_string w left end) InLineStr plan m around ts p more is = refl
+name-texts (at_rest end) InStr plan m around ts p more is = refl
+name-texts (at_rest end) InLineStr plan m around ts p more is = refl
+name-texts no_names InStr plan m around ts p more is = refl
+name-texts no_names InLineStr plan m around ts p more is = refl
 
 pub names-texts : (table : TextSection) (plan : Plan) (m : PathMap) (around : Around) (ts : List (List ℕ)) (xs : List (Piece NameState))
     → plan ≡ appending m (table_of around table).bytes → texts_after plan m ts (mentions_with name_role table around xs) ≡ ts
@@ -120,7 +121,7 @@ names-texts table plan m around ts (x ∷ xs) is =
 name-kept : (mode : NameMode) (c : TableChanges) (a : Around) (p : List Cell) → (c.new Str).plan ≡ appending c.map (a.stands Str).bytes → edited_by (name_role_by mode) c a p ≡ p
 name-kept at_table c a p str = refl
 name-kept (at_string w left end) c a p str =
-    let none = no_path-asks c.map (a.stands Str).bytes (c.new Str).plan (mention_at a in_str false p).text str in
+    let none = no_path-asks c.map (a.stands Str).bytes (c.new Str).plan (mention_at a InStr false p).text str in
     rw none refl
 name-kept (at_rest end) c a p str = refl
 name-kept no_names c a p str = refl

@@ -4,7 +4,6 @@ use Rattle.dw_base.specs.Cells.{Cell}
 use Rattle.dw_base.specs.DebugData.{DataReadings, around_of, line_source, path_slots, ReadsAll}
 use Rattle.dw_base.specs.DebugSections.{name_of}
 use Rattle.dw_base.specs.FileViews.{View, section_named}
-use Rattle.dw_base.specs.Forms.{TextSection, in_str, in_line_str}
 use Rattle.dw_base.specs.LineChanges.{line_mentions}
 use Rattle.dw_base.specs.LineReadings.{LineReading, AreTables}
 use Rattle.dw_base.specs.LineSources.{LineSource}
@@ -17,6 +16,8 @@ use Rattle.dw_base.specs.TextChanges.{all_mentions}
 use Rattle.dw_base.specs.Texts.{laid_texts}
 use Rattle.dw_base.specs.ViewData.{debug_data}
 use Rattle.dw_base.specs.declared.debug_sections.DebugSection.TheVariants.{Info, StrOffsets, Line}
+use Rattle.dw_base.specs.declared.texts.TextSection.{TextSection}
+use Rattle.dw_base.specs.declared.texts.TextSection.TheVariants.{InStr, InLineStr}
 use Rattle.dw_lines.specs.ViewTables.{tables_read}
 use Rattle.dw_lines.proofs.ViewTableLaws.{source-none}
 use Rattle.dw_meaning.specs.DataOutput.{table_change}
@@ -27,7 +28,7 @@ use Rattle.dw_rewrite.specs.Changes.{FieldSource, texts_at}
 use Rattle.dw_find.specs.ViewFields.{fields_of}
 use Rattle.dw_rewrite.specs.NewTables.{TableMade, all_texts_at, plan_in, source_in, texts_of}
 use Rattle.dw_find.specs.SlotPaths.{slots_read}
-use Rattle.dw_find.specs.UnitPaths.{UnitPaths, paths_of}
+use Rattle.dw_find.specs.SectionFields.{SectionFields, paths_of}
 use Rattle.dw_find.specs.ViewLines.{lines_by, lines_of_view, lines_with, table_fields}
 use Rattle.dw_rewrite.proofs.LineMentionLaws.{IsWhole, line_texts, lines-texts}
 use Rattle.dw_rewrite.proofs.MacroWrittenLaws.{macros-say, macros-texts}
@@ -46,12 +47,12 @@ lines-whole v = record { apart = view-apart v; own = refl }
 pub same-texts : (v : View) (table : TextSection) (i : ℕ) → Some i ≡ section_named v (name_of Line)
     → line_texts (line_source (debug_data v)) table ≡ source_in v (line_source (debug_data v)).number table
 unfolding debug_data
-same-texts v in_str i e = ap (λ (cells : List Cell). record { order = v.order; cells = cells; table = texts_of v in_str }) (cells-some v i e)
-same-texts v in_line_str i e = ap (λ (cells : List Cell). record { order = v.order; cells = cells; table = texts_of v in_line_str }) (cells-some v i e)
+same-texts v InStr i e = ap (λ (cells : List Cell). record { order = v.order; cells = cells; table = texts_of v InStr }) (cells-some v i e)
+same-texts v InLineStr i e = ap (λ (cells : List Cell). record { order = v.order; cells = cells; table = texts_of v InLineStr }) (cells-some v i e)
 
 pub same-lines : (g : LineSource) (table : TextSection) (ts : List LineTable) → table_fields g.number g.str.number table ts ≡ fields_of table (lines_with g ts)
-same-lines g in_str ts = refl
-same-lines g in_line_str ts = refl
+same-lines g InStr ts = refl
+same-lines g InLineStr ts = refl
 
 -- their texts
 lines-texts-by : (m : PathMap) (v : View) (table : TextSection) (ts : List (List ℕ)) (rs : List LineReading) (o : Option ℕ) → o ≡ section_named v (name_of Line)
@@ -69,11 +70,11 @@ lines-texts-by m v table ts rs (Some i) e are =
     (same-lines (line_source (debug_data v)) table (tables_read (line_source (debug_data v)) rs))
 
 -- those of all sections, of which macro units say none
-parts-texts : (m : PathMap) (v : View) (table : TextSection) (rs : DataReadings) (ls : List UnitPaths)
+parts-texts : (m : PathMap) (v : View) (table : TextSection) (rs : DataReadings) (ls : List SectionFields)
     → all_texts_at m v table [] (((paths_of rs.units ++ slots_read v rs) ++ macros_read rs.macros) ++ ls)
     ≡ all_texts_at m v table (all_texts_at m v table (all_texts_at m v table [] (paths_of rs.units)) (slots_read v rs)) ls
 parts-texts m v table rs ls =
-    let front : List UnitPaths = paths_of rs.units ++ slots_read v rs in
+    let front : List SectionFields = paths_of rs.units ++ slots_read v rs in
     all_texts-append m v table [] (front ++ macros_read rs.macros) ls
     ∙ ap (λ (xs : List (List ℕ)). all_texts_at m v table xs ls)
     (all_texts-append m v table [] front (macros_read rs.macros) ∙ macros-say m v table (all_texts_at m v table [] front) rs.macros
@@ -111,12 +112,12 @@ table-texts m v rs ts table reads offsets lines is =
     ∙ ap (λ (ts_ : List LineTable). all_texts_at m v table [] (((paths_of rs.units ++ slots_read v rs) ++ macros_read rs.macros) ++ lines_of_view v ts_)) (sym is)
 
 -- the table after the paths of all sections
-pub made-table : (m : PathMap) (v : View) (table : TextSection) (us : List UnitPaths) (ts : List LineTable) (pool : TextTable) (known : ℕ → Option ℕ) (f : PathsFound m v us ts)
+pub made-table : (m : PathMap) (v : View) (table : TextSection) (us : List SectionFields) (ts : List LineTable) (pool : TextTable) (known : ℕ → Option ℕ) (f : PathsFound m v us ts)
     → TableMade m v table us pool known → pool.texts ≡ (table_change m table (around_of (debug_data v) f.readings) f.readings).texts
 made-table m v table us ts pool known f t =
     t.texts ∙ ap (all_texts_at m v table []) f.is ∙ sym (table-texts m v f.readings ts table f.reads.units f.reads.offsets f.reads.lines f.tables)
 
-pub table-bytes : (m : PathMap) (v : View) (table : TextSection) (us : List UnitPaths) (ts : List LineTable) (pool : TextTable) (known : ℕ → Option ℕ) (f : PathsFound m v us ts)
+pub table-bytes : (m : PathMap) (v : View) (table : TextSection) (us : List SectionFields) (ts : List LineTable) (pool : TextTable) (known : ℕ → Option ℕ) (f : PathsFound m v us ts)
     → TableMade m v table us pool known
     → table_bytes pool ≡ (texts_of v table).bytes ++ laid_texts (table_change m table (around_of (debug_data v) f.readings) f.readings).texts
 table-bytes m v table us ts pool known f t =

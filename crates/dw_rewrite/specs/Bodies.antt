@@ -5,7 +5,6 @@ use Rattle.dw_meaning.specs.DataOutput.{Body, DataReads, DataFits, PathsFit, cha
 use Rattle.dw_base.specs.DebugData.{DebugData, DataReadings, around_of, line_source, table_of}
 use Rattle.dw_base.specs.DebugSections.{name_of}
 use Rattle.dw_base.specs.FileViews.{View, section_named, view_of}
-use Rattle.dw_base.specs.Forms.{TextSection}
 use Rattle.dw_base.specs.Layout.{output_limit}
 use Rattle.dw_base.specs.LineChanges.{line_place}
 use Rattle.dw_base.specs.LineReadings.{LineReading, all_lines, table_read}
@@ -18,13 +17,14 @@ use Rattle.dw_base.specs.TextChanges.{TableChange}
 use Rattle.dw_base.specs.declared.debug_sections.DebugSection.TheVariants.{Str, LineStr, Line}
 use Rattle.dw_base.specs.declared.fault.Kind.TheVariants.{TooLarge}
 use Rattle.dw_base.specs.declared.fault.Refusal.{Refusal}
+use Rattle.dw_base.specs.declared.texts.TextSection.{TextSection}
 use Rattle.dw_meaning.specs.FileMeanings.{file_data}
 use Rattle.dw_meaning.specs.NewAddends.{AddendsFail}
 use Rattle.dw_meaning.specs.RelocatedBodies.{CellBody, new_cells, relocated_body}
 use Rattle.dw_meaning.specs.RelocationFails.{RelocationsRead}
 use Rattle.dw_find.specs.MacroSections.{macros_read}
 use Rattle.dw_find.specs.SlotPaths.{slots_read}
-use Rattle.dw_find.specs.UnitPaths.{UnitPaths, paths_of}
+use Rattle.dw_find.specs.SectionFields.{SectionFields, paths_of}
 
 -- the section that holds relocations of another, if there is one, as it is where these are the new contents
 abbrev pub held_body : List ℕ → List CellBody → Option ℕ → List Body
@@ -37,7 +37,7 @@ held_bodies b cells [] = []
 held_bodies b cells (i ∷ is) = held_body b cells (relocation_section b i) ++ held_bodies b cells is
 
 -- the numbers of sections that say something of paths, and of that of line tables, if there is one
-abbrev pub numbers_in : List UnitPaths → List ℕ
+abbrev pub numbers_in : List SectionFields → List ℕ
 numbers_in [] = []
 numbers_in (u ∷ us) = u.number ∷ numbers_in us
 

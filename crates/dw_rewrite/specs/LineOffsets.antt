@@ -21,7 +21,7 @@ use Rattle.elf_relocs.specs.declared.runs.Run.{Run}
 use Rattle.dw_patch.specs.RecordMoves.{PlacesFit, moved_table}
 use Rattle.elf_layout.specs.declared.patch.Patch.{Patch}
 use Rattle.dw_lines.specs.TableMoves.{PathsInOrder, new_end, offsets_from, runs_from}
-use Rattle.dw_lines.specs.declared.moves.FieldOffset.{FieldOffset}
+use Rattle.dw_lines.specs.declared.moves.NewFieldOffset.{NewFieldOffset}
 use Rattle.dw_rewrite.specs.NewLines.{StandsIn, lines_known}
 
 -- what tables one behind another become, stretch by stretch, from the new places that are known in each table of texts
@@ -33,14 +33,14 @@ stretches_known m g ks kl (t ∷ ts) = table_stretches g m (new_place g ks kl) t
 abbrev pub line_runs : PathMap → LineSource → (ℕ → Option ℕ) → (ℕ → Option ℕ) → List LineTable → List Run
 line_runs m g ks kl ts = runs_from 0 0 (stretches_known m g ks kl ts)
 
-abbrev pub line_offsets : PathMap → LineSource → (ℕ → Option ℕ) → (ℕ → Option ℕ) → List LineTable → List FieldOffset
+abbrev pub line_offsets : PathMap → LineSource → (ℕ → Option ℕ) → (ℕ → Option ℕ) → List LineTable → List NewFieldOffset
 line_offsets m g ks kl ts = offsets_from 0 (stretches_known m g ks kl ts)
 
 -- the same for the records
-abbrev pub said_field : FieldOffset → Patch
+abbrev pub said_field : NewFieldOffset → Patch
 said_field f = record { at = f.at; size = f.size; value = f.offset }
 
-abbrev pub said_fields : List FieldOffset → List Patch
+abbrev pub said_fields : List NewFieldOffset → List Patch
 said_fields fs = map said_field fs
 
 -- a table starts at a place, its new bytes at another, below which all new bytes lie, and its paths stand in their order
@@ -65,25 +65,25 @@ pub record StartsKnown (m : PathMap) (g : LineSource) (ks kl : ℕ → Option �
   pub small : length (all_lines (lines_known m g ks kl ts)) ≤ output_limit
 
 -- fields lie in so many bytes, each has the size of an offset, and each begins behind the one before it
-abbrev pub OffsetsInside : ℕ → List FieldOffset → Type 0
+abbrev pub OffsetsInside : ℕ → List NewFieldOffset → Type 0
 OffsetsInside n [] = ⊤
 OffsetsInside n (f ∷ fs) = (f.at + f.size ≤ n) × OffsetsInside n fs
 
-abbrev pub OffsetsSized : List FieldOffset → Type 0
+abbrev pub OffsetsSized : List NewFieldOffset → Type 0
 OffsetsSized [] = ⊤
 OffsetsSized (f ∷ fs) = ((f.size ≡ 4) ⊎ (f.size ≡ 8)) × OffsetsSized fs
 
-abbrev pub OffsetsRise : ℕ → List FieldOffset → Type 0
+abbrev pub OffsetsRise : ℕ → List NewFieldOffset → Type 0
 OffsetsRise p [] = ⊤
 OffsetsRise p (f ∷ fs) = (p ≤ f.at) × OffsetsRise (suc f.at) fs
 
 -- the addend of the relocation that begins at each, where one does, makes its offset
-abbrev pub OffsetsMake : List Cell → List FieldOffset → Type 0
+abbrev pub OffsetsMake : List Cell → List NewFieldOffset → Type 0
 OffsetsMake cells [] = ⊤
 OffsetsMake cells (f ∷ fs) = Makes (relocation_at cells f.at) f.size f.offset × OffsetsMake cells fs
 
 -- or that of one doesn't, in the section of a number
-abbrev pub OffsetMisses : ℕ → List Cell → List FieldOffset → Refusal → Type 0
+abbrev pub OffsetMisses : ℕ → List Cell → List NewFieldOffset → Refusal → Type 0
 OffsetMisses number cells [] r = ⊥
 OffsetMisses number cells (f ∷ fs) r =
     ((r ≡ at TooWide number f.at) × Misses (relocation_at cells f.at) f.size f.offset) ⊎ OffsetMisses number cells fs r

@@ -3,12 +3,12 @@
 use Rattle.std.specs.Prelude.{ℕ, Option}
 use Rattle.dw_base.specs.declared.debug_sections.DebugSection.{DebugSection}
 use Rattle.dw_base.specs.declared.debug_sections.DebugSection.TheVariants.{Line}
-use Rattle.dw_lines.specs.NewTexts.{NewPlaces, texts_known}
+use Rattle.dw_lines.specs.NewTexts.{KnownTexts, texts_known}
 use Rattle.dw_rewrite.specs.NewStarts.{StartChange, known_starts}
 
 -- those of texts, and where line tables start anew
 pub record AllPlaces : Type 0 where
-  pub texts : NewPlaces
+  pub texts : KnownTexts
   pub starts : StartChange
 
 -- those of a section, by the old ones

@@ -4,7 +4,6 @@ use Rattle.std.specs.Prelude.{◌≡◌, ◌≢◌, ℕ, ◌≤◌, ◌<◌, Lis
 use Rattle.dw_meaning.specs.DataOutput.{Body}
 use Rattle.dw_base.specs.Cells.{Located, located_cells}
 use Rattle.dw_base.specs.FileViews.{View, view_cells}
-use Rattle.dw_base.specs.Forms.{TextSection, in_str, in_line_str}
 use Rattle.dw_base.specs.Layout.{output_limit}
 use Rattle.dw_base.specs.Paths.{PathMap}
 use Rattle.dw_base.specs.Refusals.{at}
@@ -17,8 +16,10 @@ use Rattle.dw_base.specs.declared.fault.Fault.{Fault}
 use Rattle.dw_base.specs.declared.fault.Fault.TheVariants.{NoMemory, Refused}
 use Rattle.dw_base.specs.declared.fault.Kind.TheVariants.{TooLarge}
 use Rattle.dw_base.specs.declared.fault.Refusal.{Refusal}
+use Rattle.dw_base.specs.declared.texts.TextSection.{TextSection}
+use Rattle.dw_base.specs.declared.texts.TextSection.TheVariants.{InStr, InLineStr}
 use Rattle.dw_rewrite.specs.Changes.{AreNoted, FieldSource, Knows, Remembers, patched, texts_at, with_all_known}
-use Rattle.dw_find.specs.UnitPaths.{UnitPaths, fields_into}
+use Rattle.dw_find.specs.SectionFields.{SectionFields, fields_into}
 use Rattle.dw_rewrite.specs.UnitsAfter.{inlined}
 use Rattle.dw_find.specs.ViewFields.{fields_of, info_of, table_number, texts_in}
 
@@ -38,8 +39,8 @@ starts_in v section = record { order = v.order; cells = view_cells v section; ta
 
 -- and into a section of debug data
 abbrev pub table_into : View → DebugSection → Located
-table_into v Str = texts_of v in_str
-table_into v LineStr = texts_of v in_line_str
+table_into v Str = texts_of v InStr
+table_into v LineStr = texts_of v InLineStr
 table_into v Line = located_cells ((debug_data v).found Line)
 table_into v s = located v s
 
@@ -47,19 +48,19 @@ abbrev pub source_into : View → ℕ → DebugSection → FieldSource
 source_into v section s = record { order = v.order; cells = view_cells v section; table = table_into v s }
 
 -- the new texts of a table after the paths of a section, and of sections
-abbrev pub section_texts_at : PathMap → View → TextSection → List (List ℕ) → UnitPaths → List (List ℕ)
+abbrev pub section_texts_at : PathMap → View → TextSection → List (List ℕ) → SectionFields → List (List ℕ)
 section_texts_at m v table ts u = texts_at (plan_in m v table) m (source_in v u.number table) ts (fields_of table u)
 
-abbrev pub all_texts_at : PathMap → View → TextSection → List (List ℕ) → List UnitPaths → List (List ℕ)
+abbrev pub all_texts_at : PathMap → View → TextSection → List (List ℕ) → List SectionFields → List (List ℕ)
 all_texts_at m v table ts [] = ts
 all_texts_at m v table ts (u ∷ us) = all_texts_at m v table (section_texts_at m v table ts u) us
 
 -- the new places of the paths of a section are noted, and of so many sections
-abbrev pub IsSectionNoted : PathMap → View → TextSection → UnitPaths → (ℕ → Option ℕ) → Type 0
+abbrev pub IsSectionNoted : PathMap → View → TextSection → SectionFields → (ℕ → Option ℕ) → Type 0
 IsSectionNoted m v table u known = AreNoted (plan_in m v table) (source_in v u.number table) (fields_of table u) (length (fields_of table u)) known
 
-pub record AllNoted (m : PathMap) (v : View) (table : TextSection) (us : List UnitPaths) (count : ℕ) (known : ℕ → Option ℕ) : Type 0 where
-  pub each : (k : ℕ) (d : UnitPaths) → k < count → k < length us → IsSectionNoted m v table (get_or us k d) known
+pub record AllNoted (m : PathMap) (v : View) (table : TextSection) (us : List SectionFields) (count : ℕ) (known : ℕ → Option ℕ) : Type 0 where
+  pub each : (k : ℕ) (d : SectionFields) → k < count → k < length us → IsSectionNoted m v table (get_or us k d) known
 
 -- a table that grows, with the new places of paths that are known
 pub record Growing (m : PathMap) (v : View) (table : TextSection) (pool : TextTable) (known : ℕ → Option ℕ) : Type 0 where
@@ -68,14 +69,14 @@ pub record Growing (m : PathMap) (v : View) (table : TextSection) (pool : TextTa
   pub knows : Knows (plan_in m v table) m (texts_of v table).bytes pool.texts known
 
 -- it has grown by the paths of a section
-pub record GrownBy (m : PathMap) (v : View) (table : TextSection) (u : UnitPaths) (old new : TextTable) (was known : ℕ → Option ℕ) : Type 0 where
+pub record GrownBy (m : PathMap) (v : View) (table : TextSection) (u : SectionFields) (old new : TextTable) (was known : ℕ → Option ℕ) : Type 0 where
   pub grown : Growing m v table new known
   pub texts : new.texts ≡ section_texts_at m v table old.texts u
   pub noted : IsSectionNoted m v table u known
   pub remembers : Remembers was known
 
 -- and by those of all sections
-pub record TableMade (m : PathMap) (v : View) (table : TextSection) (us : List UnitPaths) (pool : TextTable) (known : ℕ → Option ℕ) : Type 0 where
+pub record TableMade (m : PathMap) (v : View) (table : TextSection) (us : List SectionFields) (pool : TextTable) (known : ℕ → Option ℕ) : Type 0 where
   pub grown : Growing m v table pool known
   pub texts : pool.texts ≡ all_texts_at m v table [] us
   pub noted : AllNoted m v table us (length us) known
@@ -89,16 +90,16 @@ abbrev pub change_in : PathMap → View → TextSection → List (List ℕ) → 
 change_in m v table ts = record { plan = plan_in m v table; texts = ts }
 
 -- the new bytes of a section, where these are the new texts of the two tables, and the new starts of line tables by their old ones
-unfoldable pub section_after : PathMap → View → List (List ℕ) → List (List ℕ) → (ℕ → Option ℕ) → UnitPaths → List ℕ
+unfoldable pub section_after : PathMap → View → List (List ℕ) → List (List ℕ) → (ℕ → Option ℕ) → SectionFields → List ℕ
 section_after m v ts ls kt u =
-    let with_str = patched (change_in m v in_str ts) m (source_in v u.number in_str) (info_of v u) (fields_into u Str) in
-    let with_both = patched (change_in m v in_line_str ls) m (source_in v u.number in_line_str) with_str (fields_into u LineStr) in
+    let with_str = patched (change_in m v InStr ts) m (source_in v u.number InStr) (info_of v u) (fields_into u Str) in
+    let with_both = patched (change_in m v InLineStr ls) m (source_in v u.number InLineStr) with_str (fields_into u LineStr) in
     inlined m (info_of v u) (with_all_known (starts_in v u.number) kt with_both (fields_into u Line)) u.inline
 
-abbrev pub body_after : PathMap → View → List (List ℕ) → List (List ℕ) → (ℕ → Option ℕ) → UnitPaths → Body
+abbrev pub body_after : PathMap → View → List (List ℕ) → List (List ℕ) → (ℕ → Option ℕ) → SectionFields → Body
 body_after m v ts ls kt u = record { number = u.number; bytes = section_after m v ts ls kt u }
 
-abbrev pub bodies_after : PathMap → View → List (List ℕ) → List (List ℕ) → (ℕ → Option ℕ) → List UnitPaths → List Body
+abbrev pub bodies_after : PathMap → View → List (List ℕ) → List (List ℕ) → (ℕ → Option ℕ) → List SectionFields → List Body
 bodies_after m v ts ls kt [] = []
 bodies_after m v ts ls kt (u ∷ us) = body_after m v ts ls kt u ∷ bodies_after m v ts ls kt us
 
@@ -108,27 +109,27 @@ fault_at NoMemory section = NoMemory
 fault_at (Refused r) section = Refused (at r.kind section r.offset)
 
 -- a table of texts, of a section that is there, would be longer than a file that is written
-pub data LongTable (m : PathMap) (v : View) (table : TextSection) (us : List UnitPaths) : Refusal → Type 0 where
+pub data LongTable (m : PathMap) (v : View) (table : TextSection) (us : List SectionFields) : Refusal → Type 0 where
   long_table : table_number (debug_data v) table ≢ 0 → output_limit < length (table_bytes (table_with v table (all_texts_at m v table [] us)))
       → LongTable m v table us (at TooLarge (table_number (debug_data v) table) 0)
 
 -- the same from the new places that are known
-unfoldable pub section_known : PathMap → View → (ℕ → Option ℕ) → (ℕ → Option ℕ) → (ℕ → Option ℕ) → UnitPaths → List ℕ
+unfoldable pub section_known : PathMap → View → (ℕ → Option ℕ) → (ℕ → Option ℕ) → (ℕ → Option ℕ) → SectionFields → List ℕ
 section_known m v ks kl kt u =
-    let with_str = with_all_known (source_in v u.number in_str) ks (info_of v u) (fields_into u Str) in
-    let with_both = with_all_known (source_in v u.number in_line_str) kl with_str (fields_into u LineStr) in
+    let with_str = with_all_known (source_in v u.number InStr) ks (info_of v u) (fields_into u Str) in
+    let with_both = with_all_known (source_in v u.number InLineStr) kl with_str (fields_into u LineStr) in
     inlined m (info_of v u) (with_all_known (starts_in v u.number) kt with_both (fields_into u Line)) u.inline
 
 -- the bytes of a section with the new offsets that are known in its fields of both tables, and the new starts of line tables
-abbrev pub fields_known : View → (ℕ → Option ℕ) → (ℕ → Option ℕ) → (ℕ → Option ℕ) → UnitPaths → List ℕ → List ℕ
+abbrev pub fields_known : View → (ℕ → Option ℕ) → (ℕ → Option ℕ) → (ℕ → Option ℕ) → SectionFields → List ℕ → List ℕ
 fields_known v ks kl kt u out =
     with_all_known (starts_in v u.number) kt
-    (with_all_known (source_in v u.number in_line_str) kl (with_all_known (source_in v u.number in_str) ks out (fields_into u Str)) (fields_into u LineStr)) (fields_into u Line)
+    (with_all_known (source_in v u.number InLineStr) kl (with_all_known (source_in v u.number InStr) ks out (fields_into u Str)) (fields_into u LineStr)) (fields_into u Line)
 
-abbrev pub body_known : PathMap → View → (ℕ → Option ℕ) → (ℕ → Option ℕ) → (ℕ → Option ℕ) → UnitPaths → Body
+abbrev pub body_known : PathMap → View → (ℕ → Option ℕ) → (ℕ → Option ℕ) → (ℕ → Option ℕ) → SectionFields → Body
 body_known m v ks kl kt u = record { number = u.number; bytes = section_known m v ks kl kt u }
 
-abbrev pub bodies_known : PathMap → View → (ℕ → Option ℕ) → (ℕ → Option ℕ) → (ℕ → Option ℕ) → List UnitPaths → List Body
+abbrev pub bodies_known : PathMap → View → (ℕ → Option ℕ) → (ℕ → Option ℕ) → (ℕ → Option ℕ) → List SectionFields → List Body
 bodies_known m v ks kl kt [] = []
 bodies_known m v ks kl kt (u ∷ us) = body_known m v ks kl kt u ∷ bodies_known m v ks kl kt us
 

@@ -7,7 +7,7 @@ use Rattle.dw_base.specs.ViewData.{debug_data}
 use Rattle.dw_base.specs.declared.debug_sections.DebugSection.TheVariants.{StrOffsets, Macro, Names}
 use Rattle.dw_meaning.specs.DataOutput.{Body}
 use Rattle.dw_rewrite.specs.NewTables.{bodies_known}
-use Rattle.dw_find.specs.UnitPaths.{UnitPaths}
+use Rattle.dw_find.specs.SectionFields.{SectionFields}
 use Rattle.dw_find.specs.SlotPaths.{count_of}
 
 -- the body of a section that keeps its bytes: number 0 and no bytes where there is none
@@ -34,22 +34,22 @@ abbrev pub some_sections : View → ℕ
 some_sections v = slots_count v + macros_count v
 
 -- what sections say of paths without those of macro units, which are the last, and what these say
-abbrev pub without_macros : View → List UnitPaths → List UnitPaths
+abbrev pub without_macros : View → List SectionFields → List SectionFields
 without_macros v us = take (length us - macros_count v) us
 
-abbrev pub macros_among : View → List UnitPaths → List UnitPaths
+abbrev pub macros_among : View → List SectionFields → List SectionFields
 macros_among v us = drop (length us - macros_count v) us
 
 -- the same without that of string offsets, which is then the last, if there is one
-abbrev pub without_slots : View → List UnitPaths → List UnitPaths
+abbrev pub without_slots : View → List SectionFields → List SectionFields
 without_slots v us = take (length us - slots_count v) us
 
-abbrev pub slots_among : View → List UnitPaths → List UnitPaths
+abbrev pub slots_among : View → List SectionFields → List SectionFields
 slots_among v us = drop (length us - slots_count v) us
 
 -- the bodies behind the tables of texts, by what all sections but that of line tables say of paths: string offsets, line tables, name tables,
 -- macro units, and units
-abbrev pub pushed_bodies : PathMap → View → (ℕ → Option ℕ) → (ℕ → Option ℕ) → (ℕ → Option ℕ) → Body → List UnitPaths → List Body
+abbrev pub pushed_bodies : PathMap → View → (ℕ → Option ℕ) → (ℕ → Option ℕ) → (ℕ → Option ℕ) → Body → List SectionFields → List Body
 pushed_bodies m v ks kl kt lines us =
     one_body (bodies_known m v ks kl kt (slots_among v (without_macros v us)))
     ++ lines ∷ names_body v

@@ -2,13 +2,13 @@
 use Rattle.std.specs.Prelude.{ℕ, ◌+◌, List, [], ◌∷◌, ◌++◌, take, drop}
 use Rattle.dw_base.specs.Cells.{Cell}
 use Rattle.dw_base.specs.DebugData.{Around, table_of}
-use Rattle.dw_base.specs.Forms.{TextSection}
 use Rattle.dw_base.specs.InlinePaths.{mapped_inline}
 use Rattle.dw_base.specs.Paths.{PathMap}
 use Rattle.dw_base.specs.declared.debug_sections.DebugSection.TheVariants.{Line}
+use Rattle.dw_base.specs.declared.texts.TextSection.{TextSection}
 use Rattle.dw_rewrite.specs.Changes.{FieldSource}
 use Rattle.dw_find.specs.declared.fields.InlinePath.{InlinePath}
-use Rattle.dw_find.specs.UnitPaths.{inline_text}
+use Rattle.dw_find.specs.SectionFields.{inline_text}
 
 -- where fields of cells hold offsets into a table of texts, and into the line tables
 abbrev pub text_source : Around → List Cell → TextSection → FieldSource

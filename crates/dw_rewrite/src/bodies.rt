@@ -8,13 +8,13 @@ ghost use Rattle.dw_base.specs.DebugData.{line_source};
 ghost use Rattle.dw_base.specs.DebugSections.{name_of};
 ghost use Rattle.dw_base.specs.Elf.{contents_of};
 ghost use Rattle.dw_base.specs.FileViews.{section_named, view_of};
-ghost use Rattle.dw_base.specs.Forms.{in_line_str, in_str};
 ghost use Rattle.dw_base.specs.Refusals.{Blames, at};
 ghost use Rattle.dw_base.specs.RelocationRows.{moving_sections};
 ghost use Rattle.dw_base.specs.RelocationSectionFails.{RelocationSectionsRead};
 ghost use Rattle.dw_base.specs.ViewData.{debug_data};
 ghost use Rattle.dw_base.specs.declared.debug_sections.DebugSection.TheVariants.{Str, LineStr, Line};
 ghost use Rattle.dw_base.specs.declared.fault.Fault.TheVariants.{NoMemory};
+ghost use Rattle.dw_base.specs.declared.texts.TextSection.TheVariants.{InLineStr, InStr};
 ghost use Rattle.dw_lines.specs.ViewTables.{TablesFound};
 ghost use Rattle.dw_meaning.specs.RelocationFails.{LeftRelocationsRead};
 ghost use Rattle.dw_find.specs.ViewFields.{AllHaveOffsets, AllHavePlaces, AllRoomsFit};
@@ -36,8 +36,8 @@ use crate::new_sections::{Body, new_sections};
 use crate::records::push_records;
 use crate::starts::NewStarts;
 use crate::tables::{NewTable, new_table};
-use dw_base::{DebugSection, Fault, Kind, OUTPUT_LIMIT, Refusal};
-use dw_find::{MacroSection, TextsOf, UnitPaths, starts_of, table_number};
+use dw_base::{DebugSection, Fault, Kind, OUTPUT_LIMIT, Refusal, TextSection};
+use dw_find::{MacroSection, SectionFields, starts_of, table_number};
 use dw_lines::{LineTable, NewTexts};
 use dw_paths::Maps;
 use dw_strings::Pool;
@@ -60,7 +60,7 @@ pub(crate) fn new_bodies<'a>(
     maps: &Maps,
     tables: &[LineTable],
     macros: &[MacroSection],
-    paths: &[UnitPaths],
+    paths: &[SectionFields],
 ) -> Result<Vec<Body<'a>>, Fault>
     requires file { view.now ≡ view_of elf.now.bytes.now }
     requires view { view.now ≡ view_of sources.now }
@@ -72,11 +72,11 @@ pub(crate) fn new_bodies<'a>(
     ensures refused { IfErr result (Blames (BodiesRefuse maps.now (debug_data view.now))) }
 {
     let old = starts_of(alloc, tables)?;
-    let NewTable { pool, new_offsets } = new_table(alloc, view, maps, TextsOf::Str, paths)?;
+    let NewTable { pool, new_offsets } = new_table(alloc, view, maps, TextSection::InStr, paths)?;
     let NewTable {
         pool: line_pool,
         new_offsets: line_offsets,
-    } = new_table(alloc, view, maps, TextsOf::LineStr, paths)?;
+    } = new_table(alloc, view, maps, TextSection::InLineStr, paths)?;
     let texts = NewTexts::new(new_offsets, line_offsets);
     let lines = new_lines(alloc, view, maps, &texts, tables)?;
     if lines.bytes.len() as u64 > OUTPUT_LIMIT {
@@ -120,15 +120,15 @@ fn table_bodies<'v>(
     pool: Pool,
     line_pool: Pool,
 ) -> Result<Vec<Body<'v>>, AllocError>
-    ensures bodies { IfOk result (λ b. b.items ≡ table_body_of view.now in_str pool ∷ table_body_of view.now in_line_str line_pool ∷ []) }
+    ensures bodies { IfOk result (λ b. b.items ≡ table_body_of view.now InStr pool ∷ table_body_of view.now InLineStr line_pool ∷ []) }
 {
     let mut bodies = Vec::new(alloc);
     bodies.push(Body {
-        section: table_number(view, TextsOf::Str),
+        section: table_number(view, TextSection::InStr),
         bytes: NewBody::whole(pool.into_bytes()),
     })?;
     bodies.push(Body {
-        section: table_number(view, TextsOf::LineStr),
+        section: table_number(view, TextSection::InLineStr),
         bytes: NewBody::whole(line_pool.into_bytes()),
     })?;
     Ok(bodies)
@@ -164,7 +164,7 @@ fn long_lines(view: &View) -> Refusal
 
 /// What the sections say of paths without that of line tables, which is the last, if there is one.
 #[tactic(auto, using(crate::proofs::PushLaws::without_rules))]
-fn without_lines<'a>(view: &View, paths: &'a [UnitPaths]) -> &'a [UnitPaths]
+fn without_lines<'a>(view: &View, paths: &'a [SectionFields]) -> &'a [SectionFields]
     requires lines { lines_count view.now ≤ length paths.now }
     ensures { result.now ≡ without_lines view.now paths.now }
 {
@@ -193,7 +193,7 @@ fn push_bodies<'a>(
     new_places: &NewPlaces,
     lines: Body<'a>,
     macro_count: usize,
-    paths: &[UnitPaths],
+    paths: &[SectionFields],
     bodies: &mut Vec<Body<'a>>,
 ) -> Result<(), Fault>
     requires file { view.now ≡ view_of elf.now.bytes.now }
@@ -226,7 +226,7 @@ fn push_relocations(
     new_places: &NewPlaces,
     new: &[u64],
     tables: &[LineTable],
-    paths: &[UnitPaths],
+    paths: &[SectionFields],
     bodies: &mut Vec<Body>,
 ) -> Result<(), Fault>
     requires view { view.now ≡ view_of sources.now }
@@ -267,7 +267,7 @@ fn push_slots_body<'a>(
     view: &View,
     maps: &Maps,
     new_places: &NewPlaces,
-    slots: &[UnitPaths],
+    slots: &[SectionFields],
     bodies: &mut Vec<Body<'a>>,
 ) -> Result<(), Fault>
     requires file { view.now ≡ view_of elf.now.bytes.now }

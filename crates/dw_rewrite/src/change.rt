@@ -19,8 +19,7 @@ ghost use Rattle.dw_rewrite.specs.NewPlaces.{places_known};
 use crate::new_offsets::note_path;
 use crate::new_places::NewPlaces;
 use crate::sources::FieldSource;
-use dw_base::{DebugSection, Fault};
-use dw_find::PathField;
+use dw_base::{DebugSection, Fault, TextField};
 use dw_patch::{NewPlace, Patches};
 use dw_paths::Maps;
 use dw_strings::Pool;
@@ -32,7 +31,7 @@ pub(crate) fn note_fields(
     alloc: Global,
     source: &FieldSource,
     maps: &Maps,
-    fields: &[PathField],
+    fields: &[TextField],
     pool: &mut Pool,
     new_offsets: &mut HashMap<u64, u64>,
 ) -> Result<(), Fault>
@@ -58,7 +57,7 @@ pub(crate) fn note_fields(
 #[tactic(auto, using(crate::proofs::FieldSetLaws::set_rules))]
 pub(crate) fn set_fields(
     source: &FieldSource,
-    fields: &[PathField],
+    fields: &[TextField],
     into: DebugSection,
     new_places: &NewPlaces,
     patches: &mut Patches,
@@ -82,7 +81,7 @@ pub(crate) fn set_fields(
 #[tactic(auto, using(crate::proofs::FieldSetLaws::known_rules))]
 fn set_known(
     source: &FieldSource,
-    field: PathField,
+    field: TextField,
     new: Option<u64>,
     patches: &mut Patches,
 ) -> Result<(), Fault>

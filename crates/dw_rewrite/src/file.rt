@@ -26,7 +26,7 @@ use crate::loaded_sections::check_unloaded;
 use crate::new_sections::Body;
 use crate::refusal::{fixed, too_large};
 use dw_base::{Fault, Kind, Refusal};
-use dw_find::{MacroSection, UnitPaths, found_paths, macro_sections};
+use dw_find::{MacroSection, SectionFields, found_paths, macro_sections};
 use dw_lines::{LineTable, line_tables};
 use dw_paths::Maps;
 use dw_view::{RelocationSources, View};
@@ -181,7 +181,7 @@ fn paths_in(
     maps: &Maps,
     tables: &[LineTable],
     macros: &[MacroSection],
-) -> Result<Vec<UnitPaths>, Fault>
+) -> Result<Vec<SectionFields>, Fault>
     requires checked { IsChecked elf.now.bytes.now }
     requires view { view.now ≡ view_of elf.now.bytes.now }
     requires tables { TablesFound (view_of elf.now.bytes.now) tables.now }
@@ -203,7 +203,7 @@ fn bodies_in<'a>(
     maps: &Maps,
     tables: &[LineTable],
     macros: &[MacroSection],
-    paths: &[UnitPaths],
+    paths: &[SectionFields],
 ) -> Result<Vec<Body<'a>>, Fault>
     requires small { length elf.now.bytes.now ≤ output_limit }
     requires checked { IsChecked elf.now.bytes.now }

@@ -32,9 +32,8 @@ ghost use Rattle.dw_lines.specs.NewTexts.{texts_known};
 
 use crate::new_sections::Body;
 use crate::sources::FieldSource;
-use dw_base::{DebugSection, Fault, Kind, Refusal};
-use dw_find::PathField;
-use dw_lines::{FieldOffset, LineTable, NewTexts, Run};
+use dw_base::{DebugSection, Fault, Kind, Refusal, TextField};
+use dw_lines::{LineTable, NewFieldOffset, NewTexts, Run};
 use dw_patch::{Offsets, RelocSource};
 use dw_paths::Maps;
 use dw_view::{RelocationSources, View};
@@ -47,7 +46,7 @@ struct LineMoves {
     /// Where their bytes come to stand.
     runs: Vec<Run>,
     /// The offsets that their fields are to say, where these become others.
-    offsets: Vec<FieldOffset>,
+    offsets: Vec<NewFieldOffset>,
 }
 
 /// Appends the section that holds the relocations of the section of line tables, if one does, with its records as
@@ -188,7 +187,7 @@ fn push_table(
     table: &LineTable,
     new: u64,
     runs: &mut Vec<Run>,
-    offsets: &mut Vec<FieldOffset>,
+    offsets: &mut Vec<NewFieldOffset>,
 ) -> Result<(), AllocError>
     requires there { section < length view.now.sections }
     requires stands { StandsIn (view_source view.now section) table.now }
@@ -208,7 +207,7 @@ fn said_offsets(
     alloc: Global,
     lines: &FieldSource,
     section: u32,
-    fields: &[FieldOffset],
+    fields: &[NewFieldOffset],
 ) -> Result<Offsets, Fault>
     requires inside { OffsetsInside (length lines.now.cells) fields.now }
     requires sized { OffsetsSized fields.now }
@@ -228,13 +227,13 @@ fn said_offsets(
 }
 
 /// The addend of the relocation at a field, if there is one, can make its offset.
-fn field_makes(lines: &FieldSource, field: FieldOffset) -> bool
+fn field_makes(lines: &FieldSource, field: NewFieldOffset) -> bool
     requires sized { (field.size ≡ 4) ⊎ (field.size ≡ 8) }
     requires inside { field.at + field.size ≤ length lines.now.cells }
     ensures makes { OnTrue result (Makes (relocation_at lines.now.cells field.at) field.size field.offset) }
     ensures misses { OnFalse result (Misses (relocation_at lines.now.cells field.at) field.size field.offset) }
 {
-    let path = PathField {
+    let path = TextField {
         at: field.at,
         size: field.size,
     };

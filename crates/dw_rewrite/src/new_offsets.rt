@@ -17,8 +17,7 @@ ghost use Rattle.dw_find.specs.Fields.{IsOffsetField};
 use crate::changed_texts::changes_text;
 use crate::refusal::too_large;
 use crate::sources::FieldSource;
-use dw_base::{Fault, OUTPUT_LIMIT};
-use dw_find::PathField;
+use dw_base::{Fault, OUTPUT_LIMIT, TextField};
 use dw_paths::{Maps, map_path};
 use dw_strings::{Pool, text_at};
 use std::alloc::Global;
@@ -31,7 +30,7 @@ pub(crate) fn note_path(
     alloc: Global,
     source: &FieldSource,
     maps: &Maps,
-    field: PathField,
+    field: TextField,
     pool: &mut Pool,
     new_offsets: &mut HashMap<u64, u64>,
 ) -> Result<(), Fault>
@@ -60,7 +59,7 @@ pub(crate) fn note_path(
 }
 
 /// The offset that a field of a path holds.
-fn path_offset(source: &FieldSource, field: PathField) -> u64
+fn path_offset(source: &FieldSource, field: TextField) -> u64
     requires path { IsOffsetField source.now.order source.now.table source.now.cells field }
     ensures value { result ≡ offset_at source.now field }
     ensures ends { ends_in source.now.table.bytes result ≡ true }

@@ -16,7 +16,7 @@ ghost use Rattle.elf_layout.specs.Patched.{with_patches};
 ghost use Rattle.dw_find.specs.Fields.{AllApart};
 ghost use Rattle.dw_find.specs.InlineRooms.{Grows};
 ghost use Rattle.dw_find.specs.ViewFields.{AllHaveOffsets, AllHavePlaces, AllRoomsFit, HasOffsets, HasPlaces, info_of};
-ghost use Rattle.dw_find.specs.UnitPaths.{fields_into};
+ghost use Rattle.dw_find.specs.SectionFields.{fields_into};
 ghost use Rattle.dw_rewrite.specs.NewTables.{bodies_known, body_known, fields_known, source_into};
 ghost use Rattle.dw_rewrite.specs.UnitsAfter.{inlined};
 ghost use Rattle.dw_rewrite.specs.NewPlaces.{places_known};
@@ -26,7 +26,7 @@ use crate::inline::map_rooms;
 use crate::new_places::NewPlaces;
 use crate::sources::FieldSource;
 use dw_base::{DebugSection, Fault};
-use dw_find::UnitPaths;
+use dw_find::SectionFields;
 use dw_patch::Patches;
 use dw_paths::Maps;
 use dw_view::View;
@@ -59,7 +59,7 @@ pub(crate) fn new_sections<'a>(
     view: &View,
     maps: &Maps,
     new_places: &NewPlaces,
-    paths: &[UnitPaths],
+    paths: &[SectionFields],
     bodies: &mut Vec<Body<'a>>,
 ) -> Result<(), Fault>
     requires file { view.now ≡ view_of elf.now.bytes.now }
@@ -84,7 +84,7 @@ fn new_section<'a>(
     view: &View,
     maps: &Maps,
     new_places: &NewPlaces,
-    found: &UnitPaths,
+    found: &SectionFields,
 ) -> Result<Body<'a>, Fault>
     requires file { view.now ≡ view_of elf.now.bytes.now }
     requires offsets { HasOffsets view.now found.now }
@@ -116,7 +116,7 @@ fn old_bytes<'a>(elf: &ElfFile<'a>, section: u32) -> &'a [u8]
 
 /// No path of a section stands in its value.
 #[tactic(auto, using(crate::proofs::SectionBytesLaws::room_rules))]
-fn has_no_rooms(found: &UnitPaths) -> bool
+fn has_no_rooms(found: &SectionFields) -> bool
     ensures none { OnTrue result (found.now.inline ≡ []) }
 {
     found.inline.as_slice().is_empty()
@@ -140,7 +140,7 @@ fn write_section(
     view: &View,
     maps: &Maps,
     patches: &Patches,
-    found: &UnitPaths,
+    found: &SectionFields,
     out: &mut [u8],
 ) -> Result<(), Fault>
     requires places { HasPlaces view.now found.now }
@@ -169,7 +169,7 @@ fn new_fields(
     alloc: Global,
     view: &View,
     new_places: &NewPlaces,
-    found: &UnitPaths,
+    found: &SectionFields,
 ) -> Result<Patches, Fault>
     requires offsets { HasOffsets view.now found.now }
     requires places { HasPlaces view.now found.now }
@@ -188,7 +188,7 @@ fn new_fields(
 fn set_section(
     view: &View,
     into: DebugSection,
-    found: &UnitPaths,
+    found: &SectionFields,
     new_places: &NewPlaces,
     patches: &mut Patches,
 ) -> Result<(), Fault>

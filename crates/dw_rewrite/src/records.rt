@@ -12,7 +12,7 @@ ghost use Rattle.dw_find.specs.ViewFields.{AllHaveOffsets, AllHavePlaces, HasOff
 ghost use Rattle.dw_patch.specs.RecordMoves.{PlacesFit, moved_table, patch_for};
 ghost use Rattle.dw_rewrite.specs.Changes.{AreFieldsOf, IsFieldOf};
 ghost use Rattle.dw_rewrite.specs.NewOffsets.{AllPlacesFit, AreAbsent, NoneTogether, offset_by, offsets_in, offsets_known, record_body, records_known};
-ghost use Rattle.dw_find.specs.UnitPaths.{fields_into};
+ghost use Rattle.dw_find.specs.SectionFields.{fields_into};
 ghost use Rattle.dw_rewrite.specs.NewTables.{source_into};
 ghost use Rattle.dw_rewrite.specs.OffsetAddends.{AllMake, AllMiss, FieldMakes, FieldMisses, FieldsMake, FieldsMiss, SectionMakes, SectionMisses};
 ghost use Rattle.dw_rewrite.specs.NewPlaces.{places_known};
@@ -20,8 +20,8 @@ ghost use Rattle.dw_rewrite.specs.NewPlaces.{places_known};
 use crate::new_places::NewPlaces;
 use crate::new_sections::{Body, field_source};
 use crate::sources::FieldSource;
-use dw_base::{DebugSection, Fault, Kind, Refusal};
-use dw_find::{PathField, UnitPaths};
+use dw_base::{DebugSection, Fault, Kind, Refusal, TextField};
+use dw_find::SectionFields;
 use dw_patch::{Offsets, RelocSource};
 use dw_view::{RelocationSources, View};
 use elf_layout::NewBody;
@@ -36,7 +36,7 @@ pub(crate) fn push_records(
     view: &View,
     sources: &RelocationSources,
     new_places: &NewPlaces,
-    paths: &[UnitPaths],
+    paths: &[SectionFields],
     bodies: &mut Vec<Body>,
 ) -> Result<(), Fault>
     requires view { view.now ≡ view_of sources.now }
@@ -60,7 +60,7 @@ fn push_record(
     view: &View,
     sources: &RelocationSources,
     new_places: &NewPlaces,
-    found: &UnitPaths,
+    found: &SectionFields,
     bodies: &mut Vec<Body>,
 ) -> Result<(), Fault>
     requires view { view.now ≡ view_of sources.now }
@@ -85,7 +85,7 @@ fn records_body<'v>(
     alloc: Global,
     view: &View,
     new_places: &NewPlaces,
-    found: &UnitPaths,
+    found: &SectionFields,
     holder: u32,
     source: &RelocSource,
 ) -> Result<Body<'v>, Fault>
@@ -111,7 +111,7 @@ fn section_offsets(
     alloc: Global,
     view: &View,
     new_places: &NewPlaces,
-    found: &UnitPaths,
+    found: &SectionFields,
 ) -> Result<Offsets, Fault>
     requires offsets { HasOffsets view.now found.now }
     requires places { HasPlaces view.now found.now }
@@ -130,7 +130,7 @@ fn section_offsets(
 fn add_section(
     view: &View,
     into: DebugSection,
-    found: &UnitPaths,
+    found: &SectionFields,
     new_places: &NewPlaces,
     offsets: &mut Offsets,
 ) -> Result<(), Fault>
@@ -153,7 +153,7 @@ fn add_section(
 fn add_fields(
     source: &FieldSource,
     section: u32,
-    fields: &[PathField],
+    fields: &[TextField],
     into: DebugSection,
     new_places: &NewPlaces,
     offsets: &mut Offsets,
@@ -179,7 +179,7 @@ fn add_fields(
 fn add_known(
     source: &FieldSource,
     section: u32,
-    field: PathField,
+    field: TextField,
     new: Option<u64>,
     offsets: &mut Offsets,
 ) -> Result<(), Fault>

@@ -7,13 +7,13 @@ ghost use Rattle.std.specs.HashMap.{get};
 ghost use Rattle.dw_base.specs.LayoutFails.{TooLong};
 ghost use Rattle.dw_base.specs.Refusals.{Blames};
 ghost use Rattle.dw_base.specs.StringTables.{table_bytes};
-ghost use Rattle.dw_find.specs.ViewFields.{AllHaveOffsets, HasOffsets, as_table, fields_of, table_number};
+ghost use Rattle.dw_find.specs.ViewFields.{AllHaveOffsets, HasOffsets, fields_of, table_number};
 ghost use Rattle.dw_rewrite.specs.NewTables.{GrownBy, Growing, LongTable, TableMade, all_texts_at, fault_at, section_texts_at, source_in, table_with};
 
 use crate::change::note_fields;
 use crate::sources::FieldSource;
-use dw_base::{DebugSection, Fault, Refusal};
-use dw_find::{PathField, TextsOf, UnitPaths, table_number, table_texts};
+use dw_base::{DebugSection, Fault, Refusal, TextField, TextSection};
+use dw_find::{SectionFields, table_number, table_texts};
 use dw_paths::Maps;
 use dw_strings::Pool;
 use dw_view::View;
@@ -21,12 +21,12 @@ use std::alloc::Global;
 use std::collections::HashMap;
 
 /// The fields of paths' offsets into a table.
-pub(crate) fn fields_of(paths: &UnitPaths, texts: TextsOf) -> &[PathField]
-    ensures { result.now ≡ fields_of (as_table texts) paths.now }
+pub(crate) fn fields_of(paths: &SectionFields, texts: TextSection) -> &[TextField]
+    ensures { result.now ≡ fields_of texts paths.now }
 {
     match texts {
-        TextsOf::Str => paths.fields(DebugSection::Str),
-        TextsOf::LineStr => paths.fields(DebugSection::LineStr),
+        TextSection::InStr => paths.fields(DebugSection::Str),
+        TextSection::InLineStr => paths.fields(DebugSection::LineStr),
     }
 }
 
@@ -34,11 +34,11 @@ pub(crate) fn fields_of(paths: &UnitPaths, texts: TextsOf) -> &[PathField]
 #[tactic(auto, using(crate::proofs::GrowthLaws::source_rules))]
 pub(crate) fn text_source<'v, 'f>(
     view: &'v View<'f>,
-    texts: TextsOf,
+    texts: TextSection,
     section: u32,
 ) -> FieldSource<'v, 'f, 'v>
     requires there { section < length view.now.sections }
-    ensures { result ≡ source_in view.now section (as_table texts) }
+    ensures { result ≡ source_in view.now section texts }
 {
     FieldSource::new(
         view,
@@ -64,12 +64,12 @@ pub(crate) fn new_table(
     alloc: Global,
     view: &View,
     maps: &Maps,
-    texts: TextsOf,
-    paths: &[UnitPaths],
+    texts: TextSection,
+    paths: &[SectionFields],
 ) -> Result<NewTable, Fault>
     requires paths { AllHaveOffsets view.now paths.now }
-    ensures made { IfOk result (λ t. TableMade maps.now view.now (as_table texts) paths.now t.pool (λ o. get nat_eq t.new_offsets o)) }
-    ensures refused { IfErr result (Blames (LongTable maps.now view.now (as_table texts) paths.now)) }
+    ensures made { IfOk result (λ t. TableMade maps.now view.now texts paths.now t.pool (λ o. get nat_eq t.new_offsets o)) }
+    ensures refused { IfErr result (Blames (LongTable maps.now view.now texts paths.now)) }
 {
     match grown_table(alloc, view, maps, texts, paths) {
         Ok(table) => Ok(table),
@@ -83,12 +83,12 @@ fn grown_table(
     alloc: Global,
     view: &View,
     maps: &Maps,
-    texts: TextsOf,
-    paths: &[UnitPaths],
+    texts: TextSection,
+    paths: &[SectionFields],
 ) -> Result<NewTable, Fault>
     requires paths { AllHaveOffsets view.now paths.now }
-    ensures made { IfOk result (λ t. TableMade maps.now view.now (as_table texts) paths.now t.pool (λ o. get nat_eq t.new_offsets o)) }
-    ensures refused { IfErr result (Blames (TooLong (length (table_bytes (table_with view.now (as_table texts) (all_texts_at maps.now view.now (as_table texts) [] paths.now)))))) }
+    ensures made { IfOk result (λ t. TableMade maps.now view.now texts paths.now t.pool (λ o. get nat_eq t.new_offsets o)) }
+    ensures refused { IfErr result (Blames (TooLong (length (table_bytes (table_with view.now texts (all_texts_at maps.now view.now texts [] paths.now)))))) }
 {
     let table = table_texts(view, texts);
     let mut pool = Pool::new(alloc, table)?;
@@ -105,15 +105,15 @@ fn note_section(
     alloc: Global,
     view: &View,
     maps: &Maps,
-    texts: TextsOf,
-    found: &UnitPaths,
+    texts: TextSection,
+    found: &SectionFields,
     pool: &mut Pool,
     new_offsets: &mut HashMap<u64, u64>,
 ) -> Result<(), Fault>
     requires paths { HasOffsets view.now found.now }
-    requires growing { Growing maps.now view.now (as_table texts) pool.old (λ o. get nat_eq new_offsets.old o) }
-    ensures grown { OnOk result (GrownBy maps.now view.now (as_table texts) found.now pool.old pool.new (λ o. get nat_eq new_offsets.old o) (λ o. get nat_eq new_offsets.new o)) }
-    ensures refused { IfErr result (Blames (TooLong (length (table_bytes (table_with view.now (as_table texts) (section_texts_at maps.now view.now (as_table texts) pool.old.texts found.now)))))) }
+    requires growing { Growing maps.now view.now texts pool.old (λ o. get nat_eq new_offsets.old o) }
+    ensures grown { OnOk result (GrownBy maps.now view.now texts found.now pool.old pool.new (λ o. get nat_eq new_offsets.old o) (λ o. get nat_eq new_offsets.new o)) }
+    ensures refused { IfErr result (Blames (TooLong (length (table_bytes (table_with view.now texts (section_texts_at maps.now view.now texts pool.old.texts found.now)))))) }
 {
     let source = text_source(view, texts, found.section);
     let fields = fields_of(found, texts);

@@ -7,7 +7,6 @@ use Rattle.dw_base.specs.Cells.{Located}
 use Rattle.dw_base.specs.DebugData.{line_source}
 use Rattle.dw_base.specs.DebugSections.{name_of}
 use Rattle.dw_base.specs.FileViews.{View, kind_at, section_named}
-use Rattle.dw_base.specs.Forms.{TextSection, in_str, in_line_str}
 use Rattle.dw_base.specs.LineEntries.{first_of, with_column, columns}
 use Rattle.dw_base.specs.LineMeanings.{place_text, section_in}
 use Rattle.dw_base.specs.LineReadings.{LineReading, TablesTo}
@@ -28,6 +27,8 @@ use Rattle.dw_base.specs.declared.values.Spec.{Spec}
 use Rattle.dw_base.proofs.FileViewLaws.{section_after-within}
 use Rattle.dw_base.proofs.TextLaws.{ends_in-inside, has_nul-text_in, take-text}
 use Rattle.dw_base.proofs.ViewOffsetLaws.{kind-named}
+use Rattle.dw_base.specs.declared.texts.TextSection.{TextSection}
+use Rattle.dw_base.specs.declared.texts.TextSection.TheVariants.{InStr, InLineStr}
 use Rattle.dw_meaning.proofs.LineColumnLaws.{Grows, ColumnIs, column-is, inline-placed, inline_is, offset_is, texts_in, value_is}
 use Rattle.dw_meaning.proofs.LineEntryLaws.{column-step, entry-same, text_with}
 use Rattle.dw_meaning.proofs.LineListLaws.{entry-is, list-is}
@@ -83,8 +84,8 @@ EachBare g [] = ⊤
 EachBare g (x ∷ xs) = IsBare g x × EachBare g xs
 
 in-section : (g : LineSource) (z : TextSection) (at : ℕ) → AreApart g → ends_in (texts_in g z).bytes at ≡ true → section_in g (texts_in g z).number ≡ (texts_in g z).bytes
-in-section g in_str at w e = rw (w.str at e, eq-eqb g.str.number g.str.number refl) refl
-in-section g in_line_str at w e = rw (w.line_str at e, w.tables at e) refl
+in-section g InStr at w e = rw (w.str at e, eq-eqb g.str.number g.str.number refl) refl
+in-section g InLineStr at w e = rw (w.line_str at e, w.tables at e) refl
 
 placed-in : (bytes : List ℕ) (at : ℕ) → ends_in bytes at ≡ true → take (length (text_in bytes at)) (drop at bytes) ≡ text_in bytes at
 unfolding ends_in text_in

@@ -1,24 +1,18 @@
 -- The first entry of a unit: its code behind padding, and its values one after another.
-use Rattle.std.proofs.Common.{◌≡◌, ℕ, zero, suc, ◌+◌, ◌≤◌, ◌<◌, List, ◌∷◌, length, take, drop, get_or, Option, Some, None, refl, sym, ap, ◌∙◌, subst, arith}
-use Rattle.std.specs.Option.{IfSome}
+use Rattle.std.proofs.Common.{◌≡◌, ℕ, zero, suc, ◌+◌, ◌≤◌, ◌<◌, List, ◌∷◌, length, take, drop, get_or, Option, Some, None, refl, sym, ap, ◌∙◌, arith}
 use Rattle.std.proofs.Math.Seq.{drop-cons}
 use Rattle.std.proofs.lemmas.List.{drop_all, take_all}
 use Rattle.dw_base.specs.AbbreviationTables.{Abbreviation}
-use Rattle.dw_base.specs.Lebs.{uleb_at, IsSized}
+use Rattle.dw_base.specs.Lebs.{uleb_at}
 use Rattle.dw_base.specs.Values.{value_at}
 use Rattle.dw_base.specs.declared.shared.Params.{Params}
 use Rattle.dw_base.specs.declared.values.Spec.{Spec}
 use Rattle.dw_base.specs.declared.values.Value.{Value}
-use Rattle.dw_base.proofs.LebLaws.{uleb_at-size}
 use Rattle.dw_meaning.proofs.EntryRowLaws.{past-number}
 use Rattle.dw_entries.proofs.ValueLaws.{value-whole, value-inside}
 use Rattle.dw_sources.specs.RootValues.{code_read, code_from, first_code, no_root, root_behind, with_next, with_value, with_values}
 use Rattle.dw_sources.specs.declared.roots.Root.{Root}
-
--- a number has some bytes
-uleb-some : (bytes : List ℕ) (place code size : ℕ) → uleb_at bytes place ≡ Some (code, size) → 0 < size
-unfolding uleb_at
-uleb-some bytes place code size is = (subst (λ (o : Option (ℕ × ℕ)). IfSome o (IsSized (length (drop place bytes)))) is (uleb_at-size (drop place bytes))).some
+use Rattle.dw_base.proofs.LebLaws.{uleb-some}
 
 -- enough fuel is as good as more
 fuel-more : (fuel : ℕ) (bytes : List ℕ) (place : ℕ) → length bytes < fuel + place → code_from (suc fuel) bytes place ≡ code_from fuel bytes place

@@ -25,7 +25,7 @@ use Rattle.dw_entries.specs.Fronts.{IsOfView}
 use Rattle.dw_entries.specs.HeaderRows.{HeadersRefuse, units as units_refuse, offsets as offsets_refuse}
 use Rattle.dw_entries.specs.SectionOrder.{AreSections}
 use Rattle.dw_entries.specs.ViewUnits.{IsUnitSection, numbered, unit_base, unit_section_at}
-use Rattle.dw_entries.proofs.HasUnitLaws.{numbered-section, unit-of-view, unit-section}
+use Rattle.dw_entries.proofs.HasUnitLaws.{numbered-section, unit-section, unit-bytes}
 use Rattle.dw_entries.proofs.SectionListLaws.{sections-next, sections-whole}
 use Rattle.dw_entries.proofs.UnitSectionLaws.{is-of-view, of-view}
 use Rattle.dw_sources.specs.KeptNames.{with_paths}
@@ -70,10 +70,6 @@ own-table d shared at h table are e same there =
 pub ruleset read_rules = (one-shared)
 
 -- a unit's bytes up to its end, and its paths
-unit-bytes : (v : View) (h : UnitHeader) (bs : List ℕ) → HasUnit (debug_data v) (unit_section_at v h.section) h → bs ≡ section_bytes v h.section
-    → take h.end bs ≡ bytes_up_to (unit_section_at v h.section) h
-unit-bytes v h bs u is = ap (take h.end) is ∙ (unit-of-view v h u).bytes
-
 pub unit-added : (v : View) (list : List Contribution) (tables : ℕ → Option LineTable) (front : List ℕ) (h : UnitHeader) (abbrevs : List Abbreviation) (bs : List ℕ) (root : Root)
     (old new : List (List ℕ)) → HasUnit (debug_data v) (unit_section_at v h.section) h → IsTable (debug_data v).base.abbrevs.bytes h.abbrevs abbrevs
     → bs ≡ section_bytes v h.section → root ≡ root_at h.params abbrevs (take h.end bs) h.first

@@ -3,6 +3,7 @@
 use Rattle.std.specs.Prelude.{Bool, true, false, ℕ, suc, zero, ◌+◌, ◌==◌, ◌&&◌, ◌||◌, List, [], ◌∷◌, length, Option, Some, None}
 use Rattle.dw_base.specs.AbbreviationTables.{Abbreviation, abbreviation_of}
 use Rattle.dw_base.specs.Lebs.{uleb_at}
+use Rattle.dw_base.specs.RelocationRows.{can_be_offset}
 use Rattle.dw_base.specs.Roles.{is_unit_tag}
 use Rattle.dw_base.specs.Values.{value_at}
 use Rattle.dw_base.specs.declared.dwarf_numbers.TheConstants.{DW_AT_name, DW_AT_comp_dir, DW_AT_stmt_list, DW_AT_str_offsets_base}
@@ -27,16 +28,10 @@ is_text StrIndex = true
 is_text class = false
 
 -- a value that holds the base of texts by index
-abbrev pub is_base : ValueClass → Bool
-is_base Number = true
-is_base SecOffset = true
-is_base class = false
-
--- a value of so many bytes that holds the place of a line table; before version 4 it is a number of 4 or 8 bytes
-abbrev pub is_start : ValueClass → ℕ → Bool
-is_start SecOffset n = true
-is_start Number n = n == 4 || n == 8
-is_start class n = false
+abbrev pub is_base_class : ValueClass → Bool
+is_base_class Number = true
+is_base_class SecOffset = true
+is_base_class class = false
 
 -- what was found before, or else this, where it is wanted
 abbrev pub or_this : {X : Type 0} → Option X → Bool → X → Option X
@@ -49,8 +44,8 @@ abbrev pub with_value : ℕ → Root → ℕ → Value → Root
 with_value tag r name v = record {
   name = or_this r.name (is_unit_tag tag && name == DW_AT_name && is_text v.class) v;
   comp_dir = or_this r.comp_dir (is_unit_tag tag && name == DW_AT_comp_dir && is_text v.class) v;
-  lines = or_this r.lines (name == DW_AT_stmt_list && is_start v.class v.len) v;
-  base = or_this r.base (name == DW_AT_str_offsets_base && is_base v.class) v;
+  lines = or_this r.lines (name == DW_AT_stmt_list && can_be_offset v.class v.len) v;
+  base = or_this r.base (name == DW_AT_str_offsets_base && is_base_class v.class) v;
 }
 
 -- with the values of attributes that stand one after another from a place on, up to one that can't be read

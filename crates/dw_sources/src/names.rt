@@ -11,7 +11,7 @@ use std::collections::BTreeSet;
 
 /// What was found so far.
 #[derive(Drop)]
-pub(crate) struct Found {
+pub(crate) struct FoundNames {
     /// The names.
     pub names: BTreeSet<Vec<u8>>,
     /// The start of each line table whose files are among them, with the folder that they were joined with.
@@ -19,11 +19,11 @@ pub(crate) struct Found {
 }
 
 /// Nothing yet.
-pub(crate) fn none_found(alloc: Global) -> Found
+pub(crate) fn none_found(alloc: Global) -> FoundNames
     ensures names { result.names.keys ≡ [] }
     ensures joined { result.joined.keys ≡ [] }
 {
-    Found {
+    FoundNames {
         names: BTreeSet::new(alloc),
         joined: BTreeSet::new(alloc),
     }

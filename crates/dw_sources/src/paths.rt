@@ -15,7 +15,7 @@ ghost use Rattle.dw_sources.specs.KeptNames.{bytes_of, with_paths};
 ghost use Rattle.dw_sources.specs.UnitPaths.{dir_place, dir_text, file_path, files_paths, folder_of, is_made_up, lines_paths, listed, paths_in, root_paths, table_paths, unit_path};
 ghost use Rattle.dw_paths.specs.CleanPaths.{joined_path};
 
-use crate::names::{Found, add_path, mark};
+use crate::names::{FoundNames, add_path, mark};
 use crate::offsets::root_offset;
 use crate::roots::Root;
 use crate::texts::{place_text, value_text};
@@ -151,7 +151,7 @@ fn add_lines(
     front: &[u8],
     folder: &[u8],
     lines: Option<u64>,
-    found: &mut Found,
+    found: &mut FoundNames,
 ) -> Result<(), NoMemory>
     requires joined { AreJoined (debug_data view.now) (λ at. get nat_eq tables.now at) front.now (map bytes_of found.old.names.keys) found.old.joined.keys }
     ensures joined { OnOk result (AreJoined (debug_data view.now) (λ at. get nat_eq tables.now at) front.now (map bytes_of found.new.names.keys) found.new.joined.keys) }
@@ -197,7 +197,7 @@ fn add_paths(
     folder: &[u8],
     name: Option<&[u8]>,
     lines: Option<u64>,
-    found: &mut Found,
+    found: &mut FoundNames,
 ) -> Result<(), NoMemory>
     requires joined { AreJoined (debug_data view.now) (λ at. get nat_eq tables.now at) front.now (map bytes_of found.old.names.keys) found.old.joined.keys }
     ensures joined { OnOk result (AreJoined (debug_data view.now) (λ at. get nat_eq tables.now at) front.now (map bytes_of found.new.names.keys) found.new.joined.keys) }
@@ -219,7 +219,7 @@ pub(crate) fn add_root(
     section: u32,
     bytes: &[u8],
     root: Root,
-    found: &mut Found,
+    found: &mut FoundNames,
 ) -> Result<(), NoMemory>
     requires unit { IsOfView view.now section (unit_section_at view.now section) }
     requires inside { length bytes.now ≤ length (section_bytes view.now section) }

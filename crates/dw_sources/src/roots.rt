@@ -6,15 +6,11 @@ ghost use Rattle.std.specs.Prelude.{◌≡◌, ◌≤◌, ◌+◌, length, IfSom
 ghost use Rattle.dw_base.specs.AbbreviationTables.{abbreviation_of};
 ghost use Rattle.dw_base.specs.Values.{value_at};
 ghost use Rattle.dw_base.specs.UnitHeaders.{is_address_size};
-ghost use Rattle.dw_base.specs.Roles.{is_unit_tag};
-ghost use Rattle.dw_sources.specs.RootValues.{first_code, is_base, is_start, is_text, no_root, or_this, root_at, root_behind, root_of, with_value, with_values};
+ghost use Rattle.dw_sources.specs.RootValues.{first_code, is_base_class, is_text, no_root, or_this, root_at, root_behind, root_of, with_value, with_values};
 
 use dw_abbrev::AbbrevTable;
-use dw_base::dwarf_numbers::{
-    DW_AT_comp_dir, DW_AT_name, DW_AT_stmt_list, DW_AT_str_offsets_base, DW_TAG_compile_unit,
-    DW_TAG_partial_unit, DW_TAG_type_unit,
-};
-use dw_base::{Params, Spec, Value, ValueClass, uleb_at};
+use dw_base::dwarf_numbers::{DW_AT_comp_dir, DW_AT_name, DW_AT_stmt_list, DW_AT_str_offsets_base};
+use dw_base::{Params, Spec, Value, ValueClass, can_be_offset, is_unit_tag, uleb_at};
 use dw_forms::value_at;
 
 /// What the first entry of a unit says.
@@ -51,32 +47,14 @@ fn is_text(class: ValueClass) -> bool
 }
 
 /// A value that holds the base of texts by index.
-fn is_base(class: ValueClass) -> bool
-    ensures value { result ≡ is_base class }
+fn is_base_class(class: ValueClass) -> bool
+    ensures value { result ≡ is_base_class class }
 {
     match class {
         ValueClass::Number => true,
         ValueClass::SecOffset => true,
         _ => false,
     }
-}
-
-/// A value of so many bytes that holds the place of a line table.
-fn is_start(class: ValueClass, len: u64) -> bool
-    ensures value { result ≡ is_start class len }
-{
-    match class {
-        ValueClass::SecOffset => true,
-        ValueClass::Number => len == 4 || len == 8,
-        _ => false,
-    }
-}
-
-/// A unit's own tag.
-fn is_unit_tag(tag: u64) -> bool
-    ensures value { result ≡ is_unit_tag tag }
-{
-    tag == DW_TAG_compile_unit || tag == DW_TAG_partial_unit || tag == DW_TAG_type_unit
 }
 
 /// The value that was found before, or else this one, where it is wanted.
@@ -109,12 +87,12 @@ fn with_value(tag: u64, root: Root, name: u64, value: &Value) -> Root
         ),
         lines: or_value(
             root.lines,
-            name == DW_AT_stmt_list && is_start(value.class, value.len),
+            name == DW_AT_stmt_list && can_be_offset(value.class, value.len),
             *value,
         ),
         base: or_value(
             root.base,
-            name == DW_AT_str_offsets_base && is_base(value.class),
+            name == DW_AT_str_offsets_base && is_base_class(value.class),
             *value,
         ),
     }

@@ -18,7 +18,7 @@ ghost use Rattle.dw_sources.specs.KeptNames.{bytes_of, with_paths};
 ghost use Rattle.dw_sources.specs.Sources.{AddsSection, AddsSections, AreShared, EachTable, HasAbbreviations, SourcesFail, section_paths};
 ghost use Rattle.dw_sources.specs.UnitPaths.{unit_paths};
 
-use crate::names::Found;
+use crate::names::FoundNames;
 use crate::paths::add_root;
 use crate::roots::root_at;
 use dw_abbrev::AbbrevTable;
@@ -61,7 +61,7 @@ fn add_unit(
     front: &[u8],
     unit: &UnitHeader,
     abbrevs: &AbbrevTable,
-    found: &mut Found,
+    found: &mut FoundNames,
 ) -> Result<(), NoMemory>
     requires unit { HasUnit (debug_data view.now) (unit_section_at view.now unit.now.section) unit.now }
     requires table { IsTable (debug_data view.now).base.abbrevs.bytes unit.now.abbrevs abbrevs.now }
@@ -95,7 +95,7 @@ fn one_unit(
     front: &[u8],
     unit: &UnitHeader,
     shared: &mut HashMap<u64, AbbrevTable>,
-    found: &mut Found,
+    found: &mut FoundNames,
 ) -> Result<(), Fault>
     requires unit { HasUnit (debug_data view.now) (unit_section_at view.now unit.now.section) unit.now }
     requires shared { AreShared (debug_data view.now) (λ at. get nat_eq shared.old at) }
@@ -126,7 +126,7 @@ fn add_units(
     section: u32,
     units: &[UnitHeader],
     shared: &mut HashMap<u64, AbbrevTable>,
-    found: &mut Found,
+    found: &mut FoundNames,
 ) -> Result<(), Fault>
     requires there { IsUnitSection view.now section }
     requires units { AreUnits (debug_data view.now).base (unit_section_at view.now section) units.now }
@@ -154,7 +154,7 @@ fn add_section(
     front: &[u8],
     section: u32,
     shared: &mut HashMap<u64, AbbrevTable>,
-    found: &mut Found,
+    found: &mut FoundNames,
 ) -> Result<(), Fault>
     requires there { IsUnitSection view.now section }
     requires shared { AreShared (debug_data view.now) (λ at. get nat_eq shared.old at) }
@@ -187,7 +187,7 @@ fn add_sections(
     tables: &HashMap<u64, LineTable>,
     front: &[u8],
     numbers: &[u32],
-    found: &mut Found,
+    found: &mut FoundNames,
 ) -> Result<(), Fault>
     requires sections { AreSections view.now numbers.now }
     requires joined { AreJoined (debug_data view.now) (λ at. get nat_eq tables.now at) front.now (map bytes_of found.old.names.keys) found.old.joined.keys }
@@ -218,7 +218,7 @@ pub(crate) fn add_all(
     list: &ContributionList,
     tables: &HashMap<u64, LineTable>,
     front: &[u8],
-    found: &mut Found,
+    found: &mut FoundNames,
 ) -> Result<(), Fault>
     requires joined { AreJoined (debug_data view.now) (λ at. get nat_eq tables.now at) front.now (map bytes_of found.old.names.keys) found.old.joined.keys }
     ensures joined { OnOk result (AreJoined (debug_data view.now) (λ at. get nat_eq tables.now at) front.now (map bytes_of found.new.names.keys) found.new.joined.keys) }

@@ -4,7 +4,6 @@ use Rattle.std.proofs.lemmas.List.{append-nil, length-append}
 use Rattle.dw_base.specs.Cells.{bytes_of, plain_cells}
 use Rattle.dw_base.specs.DebugData.{Around, DebugData, source_around, table_of}
 use Rattle.dw_base.specs.Elf.{contents_of}
-use Rattle.dw_base.specs.Forms.{in_line_str, in_str}
 use Rattle.dw_base.specs.LineReadings.{all_lines}
 use Rattle.dw_base.specs.Paths.{IsPathMap, PathMap}
 use Rattle.dw_base.specs.Pieces.{Piece, joined}
@@ -22,6 +21,7 @@ use Rattle.dw_meaning.proofs.SectionKeptLaws.{edited-size}
 use Rattle.dbg_gen.specs.Asked.{AreFew}
 use Rattle.dbg_gen.specs.GeneratedTexts.{texts_of}
 use Rattle.dbg_gen.proofs.SizeLaws.{length-texts_of, length-units_of}
+use Rattle.dw_base.specs.declared.texts.TextSection.TheVariants.{InLineStr, InStr}
 use Rattle.gen_laws.proofs.AroundLaws.{counted_around, counted_data, stands-around}
 use Rattle.gen_laws.proofs.DataReadLaws.{counted_readings}
 use Rattle.gen_laws.proofs.FileTakenLaws.{IsCounted, info_of}
@@ -62,21 +62,21 @@ length-new_units m counts units few =
 -- the table of texts
 abbrev pub new_str : PathMap → List ℕ → ℕ → List ℕ
 new_str m counts units =
-    let c : TableChange = table_change m in_str (counted_around counts units) (counted_readings counts units) in
+    let c : TableChange = table_change m InStr (counted_around counts units) (counted_readings counts units) in
     new_table c.plan c.texts
 
-str-mentions : (counts : List ℕ) (units : ℕ) → file_mentions in_str (counted_around counts units) (counted_readings counts units)
-    ≡ mentions_of in_str (counted_around counts units) (section_pieces (texts_of counts units) counts units)
+str-mentions : (counts : List ℕ) (units : ℕ) → file_mentions InStr (counted_around counts units) (counted_readings counts units)
+    ≡ mentions_of InStr (counted_around counts units) (section_pieces (texts_of counts units) counts units)
 str-mentions counts units =
-    let ms = mentions_of in_str (counted_around counts units) (section_pieces (texts_of counts units) counts units) in
-    rw (lines-unnamed (source_around (counted_around counts units)) in_str counts units) (append-nil (ms ++ []) ∙ append-nil ms)
+    let ms = mentions_of InStr (counted_around counts units) (section_pieces (texts_of counts units) counts units) in
+    rw (lines-unnamed (source_around (counted_around counts units)) InStr counts units) (append-nil (ms ++ []) ∙ append-nil ms)
 
 length-new_str : (m : PathMap) (counts : List ℕ) (units : ℕ) → IsPathMap m → units ≤ 10000 → AreFew counts → length (new_str m counts units) ≤ units * 224 + 4120 * (units * 38)
 unfolding table_change
 length-new_str m counts units fit small few =
     let around = counted_around counts units in
     let whole = length (plain_cells (info_of counts units)) in
-    let table = length-new_table (appending m (table_of around in_str).bytes) m (file_mentions in_str around (counted_readings counts units)) fit in
+    let table = length-new_table (appending m (table_of around InStr).bytes) m (file_mentions InStr around (counted_readings counts units)) fit in
     let room = units-room around (texts_of counts units) counts units whole (stands-around counts units small few) small few in
     let same = ap mentions_room (str-mentions counts units) in
     let old = length-texts_of counts units small few in
@@ -85,13 +85,13 @@ length-new_str m counts units fit small few =
 -- the other table has nothing
 abbrev pub new_line_str : PathMap → List ℕ → ℕ → List ℕ
 new_line_str m counts units =
-    let c : TableChange = table_change m in_line_str (counted_around counts units) (counted_readings counts units) in
+    let c : TableChange = table_change m InLineStr (counted_around counts units) (counted_readings counts units) in
     new_table c.plan c.texts
 
-other-mentions : (counts : List ℕ) (units : ℕ) → file_mentions in_line_str (counted_around counts units) (counted_readings counts units) ≡ []
+other-mentions : (counts : List ℕ) (units : ℕ) → file_mentions InLineStr (counted_around counts units) (counted_readings counts units) ≡ []
 other-mentions counts units =
     rw (
-      lines-unnamed (source_around (counted_around counts units)) in_line_str counts units,
+      lines-unnamed (source_around (counted_around counts units)) InLineStr counts units,
       units-other (counted_around counts units) (length (plain_cells (info_of counts units))) (texts_of counts units) counts units,
     ) refl
 
@@ -105,7 +105,7 @@ new_line m counts units = all_lines ((counted_changes m counts units).new Line)
 
 length-new_line : (m : PathMap) (counts : List ℕ) (units : ℕ) → IsPathMap m → units ≤ 10000 → AreFew counts → length (new_line m counts units) ≤ units * table_room
 length-new_line m counts units fit small few =
-    length-tables m (table_change m in_str (counted_around counts units) (counted_readings counts units)) (table_change m in_line_str (counted_around counts units) (counted_readings counts units))
+    length-tables m (table_change m InStr (counted_around counts units) (counted_readings counts units)) (table_change m InLineStr (counted_around counts units) (counted_readings counts units))
     (source_around (counted_around counts units)) counts units fit (omega arith) few
 
 -- the bodies by number

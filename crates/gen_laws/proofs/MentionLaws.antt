@@ -3,7 +3,7 @@ use Rattle.std.proofs.Common.{◌≡◌, ℕ, zero, suc, ◌+◌, ◌*◌, ◌<�
 use Rattle.std.proofs.lemmas.Bool.{eq-eqb}
 use Rattle.std.proofs.lemmas.List.{append_assoc, length-append}
 use Rattle.dw_base.specs.DebugData.{Around}
-use Rattle.dw_base.specs.Forms.{TextSection, form_rows, in_line_str, in_str, kind_in}
+use Rattle.dw_base.specs.Forms.{form_rows, kind_in}
 use Rattle.dw_base.specs.LineChanges.{line_mentions, mention_in, paths_mentions}
 use Rattle.dw_base.specs.LineReadings.{LineReading, table_read}
 use Rattle.dw_base.specs.LineSources.{LineSource}
@@ -22,6 +22,8 @@ use Rattle.dbg_gen.specs.GeneratedLines.{lines_of}
 use Rattle.dbg_gen.specs.GeneratedTexts.{chained, directory, unit_name, variable_name}
 use Rattle.dbg_gen.proofs.OnceLaws.{unit_name-bare, variable_name-bare}
 use Rattle.dbg_gen.proofs.SizeLaws.{length-unit_name, length-variable_name, once-cases}
+use Rattle.dw_base.specs.declared.texts.TextSection.{TextSection}
+use Rattle.dw_base.specs.declared.texts.TextSection.TheVariants.{InLineStr, InStr}
 use Rattle.gen_laws.proofs.LineListReadLaws.{file_name, place_of}
 use Rattle.gen_laws.proofs.LineSectionReadLaws.{lists_place, reading_at, readings_of}
 use Rattle.gen_laws.proofs.UnitChainLaws.{end_piece, front_pieces, size_of, variable_pieces}
@@ -66,7 +68,7 @@ length-new_table plan m xs fit =
 
 -- each piece of a unit takes so much at most
 abbrev TakesLittle : Around → Piece UnitState → Type 0
-TakesLittle around x = mentions_room (mentions_by (role_of x) in_str around x.cells) ≤ 4120
+TakesLittle around x = mentions_room (mentions_by (role_of x) InStr around x.cells) ≤ 4120
 
 small-text : (t u : List ℕ) → t ≡ u → length u ≤ 23 → 4097 + length t + 0 ≤ 4120
 small-text t u e small = omega (arith, ap length e)
@@ -91,12 +93,12 @@ pieces-little around texts counts units whole w small few =
           (let size = length-variable_name i (omega arith) in omega arith);
     }) (omega arith)
 
-room-each : (around : Around) (xs : List (Piece UnitState)) → EachPiece (TakesLittle around) xs → mentions_room (mentions_of in_str around xs) ≤ 4120 * length xs
+room-each : (around : Around) (xs : List (Piece UnitState)) → EachPiece (TakesLittle around) xs → mentions_room (mentions_of InStr around xs) ≤ 4120 * length xs
 room-each around [] all = omega arith
 room-each around (x ∷ xs) all =
     let rest = room-each around xs all.1 in
     let one = all.0 in
-    omega (arith, one, rest, room-append (mentions_by (role_of x) in_str around x.cells) (mentions_of in_str around xs))
+    omega (arith, one, rest, room-append (mentions_by (role_of x) InStr around x.cells) (mentions_of InStr around xs))
 
 -- how many pieces there are
 length-pieces : {S : Type 0} (f : ℕ → List (Piece S)) (k n : ℕ) → ((u : ℕ) → u < n → length (f u) ≤ k) → length (chained f n) ≤ n * k
@@ -122,7 +124,7 @@ pub length-all_pieces : (whole : ℕ) (texts : List (List ℕ)) (counts : List �
 length-all_pieces whole texts counts units few = length-pieces (pieces_of whole texts counts) 38 units (λ u lt. length-unit whole texts counts u few)
 
 pub units-room : (around : Around) (texts : List (List ℕ)) (counts : List ℕ) (units whole : ℕ) → StandsAround around texts counts units → units ≤ 10000 → AreFew counts
-    → mentions_room (mentions_of in_str around (all_pieces whole texts counts units)) ≤ 4120 * (units * 38)
+    → mentions_room (mentions_of InStr around (all_pieces whole texts counts units)) ≤ 4120 * (units * 38)
 units-room around texts counts units whole w small few =
     let pieces = length-all_pieces whole texts counts units few in
     let room = room-each around (all_pieces whole texts counts units) (pieces-little around texts counts units whole w small few) in
@@ -130,7 +132,7 @@ units-room around texts counts units whole w small few =
 
 -- the units name no text of the other table
 abbrev NoMention : Around → Piece UnitState → Type 0
-NoMention around x = mentions_by (role_of x) in_line_str around x.cells ≡ []
+NoMention around x = mentions_by (role_of x) InLineStr around x.cells ≡ []
 
 pieces-other : (around : Around) (whole : ℕ) (texts : List (List ℕ)) (counts : List ℕ) (units : ℕ) → EachPiece (NoMention around) (all_pieces whole texts counts units)
 unfolding role_of kind_in form_rows
@@ -145,17 +147,17 @@ pieces-other around whole texts counts units =
       variable = λ unit start n place i lt below. refl;
     }) (omega arith)
 
-none-mentioned : (around : Around) (xs : List (Piece UnitState)) → EachPiece (NoMention around) xs → mentions_of in_line_str around xs ≡ []
+none-mentioned : (around : Around) (xs : List (Piece UnitState)) → EachPiece (NoMention around) xs → mentions_of InLineStr around xs ≡ []
 none-mentioned around [] none = refl
-none-mentioned around (x ∷ xs) none = ap (λ (ms : List Mention). ms ++ mentions_of in_line_str around xs) none.0 ∙ none-mentioned around xs none.1
+none-mentioned around (x ∷ xs) none = ap (λ (ms : List Mention). ms ++ mentions_of InLineStr around xs) none.0 ∙ none-mentioned around xs none.1
 
-pub units-other : (around : Around) (whole : ℕ) (texts : List (List ℕ)) (counts : List ℕ) (units : ℕ) → mentions_of in_line_str around (all_pieces whole texts counts units) ≡ []
+pub units-other : (around : Around) (whole : ℕ) (texts : List (List ℕ)) (counts : List ℕ) (units : ℕ) → mentions_of InLineStr around (all_pieces whole texts counts units) ≡ []
 units-other around whole texts counts units = none-mentioned around (all_pieces whole texts counts units) (pieces-other around whole texts counts units)
 
 -- the paths of line tables stand in them, so they name no text of a table
 own-path : (g : LineSource) (table : TextSection) (x : TextPlace) → x.section ≡ g.number → mention_in g table x ≡ []
-own-path g in_str x e = rw (eq-eqb x.section g.number e) refl
-own-path g in_line_str x e = rw (eq-eqb x.section g.number e) refl
+own-path g InStr x e = rw (eq-eqb x.section g.number e) refl
+own-path g InLineStr x e = rw (eq-eqb x.section g.number e) refl
 
 lines-append : (g : LineSource) (table : TextSection) (rs qs : List LineReading) → line_mentions g table (rs ++ qs) ≡ line_mentions g table rs ++ line_mentions g table qs
 lines-append g table [] qs = refl

@@ -4,7 +4,7 @@ use Rattle.std.specs.Prelude.{IsTrue}
 use Rattle.std.proofs.lemmas.List.{append-nil}
 use Rattle.dw_base.specs.Cells.{Located, field_of, offset_of, plain_cells}
 use Rattle.dw_base.specs.DebugData.{Around, line_table, table_of}
-use Rattle.dw_base.specs.Forms.{form_rows, in_str, kind_in}
+use Rattle.dw_base.specs.Forms.{form_rows, kind_in}
 use Rattle.dw_base.specs.LineMeanings.{is_there}
 use Rattle.dw_base.specs.Numbers.{number_bytes, spelled}
 use Rattle.dw_base.specs.Pieces.{EachPiece}
@@ -21,6 +21,7 @@ use Rattle.dbg_gen.specs.Asked.{HasUnits}
 use Rattle.dbg_gen.specs.GeneratedLines.{lines_of}
 use Rattle.dbg_gen.specs.GeneratedTexts.{directory, unit_name, variable_name}
 use Rattle.dbg_gen.specs.GeneratedUnits.{text_offset}
+use Rattle.dw_base.specs.declared.texts.TextSection.TheVariants.{InStr}
 use Rattle.gen_laws.proofs.UnitEachLaws.{each-piece}
 use Rattle.gen_laws.proofs.UnitReadLaws.{all_pieces}
 
@@ -54,14 +55,14 @@ text-by o z texts t order bytes there bare small =
 -- what stands around the units: these texts, and a line table at each place of one
 pub record StandsAround (around : Around) (texts : List (List ℕ)) (counts : List ℕ) (units : ℕ) : Type 0 where
   pub order_is : around.lasting.base.order ≡ Little
-  pub texts_are : (table_of around in_str).bytes ≡ laid_texts texts
+  pub texts_are : (table_of around InStr).bytes ≡ laid_texts texts
   pub small : length (laid_texts texts) ≤ 2 ^ 32
   pub has : HasUnits texts counts units
   pub lines : (u : ℕ) → u < units → IsTrue (is_there (line_table around (plain_cells (number_bytes Little 4 (length (lines_of counts u))))))
 
 names : (around : Around) (texts : List (List ℕ)) (counts : List ℕ) (units : ℕ) (t : List ℕ) → StandsAround around texts counts units → is_in texts t ≡ true
-    → IsTrue (ends_in (table_of around in_str).bytes (offset_of around.lasting.base.order (table_of around in_str) (plain_cells (text_offset texts t))))
-names around texts counts units t w there = named-by around.lasting.base.order (table_of around in_str) texts t w.order_is w.texts_are there w.small
+    → IsTrue (ends_in (table_of around InStr).bytes (offset_of around.lasting.base.order (table_of around InStr) (plain_cells (text_offset texts t))))
+names around texts counts units t w there = named-by around.lasting.base.order (table_of around InStr) texts t w.order_is w.texts_are there w.small
 
 pub units-named : (around : Around) (texts : List (List ℕ)) (counts : List ℕ) (units whole : ℕ) → StandsAround around texts counts units
     → EachPiece (NamesText around) (all_pieces whole texts counts units)
@@ -79,5 +80,5 @@ units-named around texts counts units whole w =
 
 -- the text of the mention that such an offset makes
 pub mention-text : (around : Around) (texts : List (List ℕ)) (counts : List ℕ) (units : ℕ) (t : List ℕ) → StandsAround around texts counts units → is_in texts t ≡ true → has_nul t ≡ false
-    → text_in (table_of around in_str).bytes (offset_of around.lasting.base.order (table_of around in_str) (plain_cells (text_offset texts t))) ≡ t
-mention-text around texts counts units t w there bare = text-by around.lasting.base.order (table_of around in_str) texts t w.order_is w.texts_are there bare w.small
+    → text_in (table_of around InStr).bytes (offset_of around.lasting.base.order (table_of around InStr) (plain_cells (text_offset texts t))) ≡ t
+mention-text around texts counts units t w there bare = text-by around.lasting.base.order (table_of around InStr) texts t w.order_is w.texts_are there bare w.small

@@ -7,7 +7,7 @@ use std::alloc::{AllocError, Global};
 use std::process::Abort;
 use std::test::Fail;
 use work_journal::*;
-use work_texts::{Jobs, PlanData, RunKey, Sources, WorkFile, write_finished, write_plan};
+use work_texts::{Jobs, PlanData, PlannedSources, RunKey, WorkFile, write_finished, write_plan};
 
 /// A tree of these jobs' files.
 fn begun(alloc: Global, jobs: u32) -> Result<MemTree, Fail> {
@@ -38,7 +38,7 @@ fn plan_of(alloc: Global, key: RunKey) -> Result<PlanData, Fail> {
         key,
         report: Blob::from_slice(alloc, b"done")?,
         jobs: Jobs::new(Vec::new(alloc)),
-        sources: Sources::new(Vec::new(alloc)),
+        sources: PlannedSources::new(Vec::new(alloc)),
     })
 }
 

@@ -3,7 +3,7 @@ use file_tree::{Blob, Text};
 use std::alloc::Global;
 use std::test::Fail;
 use work_texts::{
-    FinishedData, JobLine, Jobs, JournalErr, PlanData, RunKey, Sources, WorkFile, check_key,
+    FinishedData, JobLine, Jobs, JournalErr, PlanData, PlannedSources, RunKey, WorkFile, check_key,
     read_finished, read_plan, write_finished, write_plan,
 };
 
@@ -60,11 +60,11 @@ fn jobs(alloc: Global) -> Result<Jobs, Fail> {
     Ok(Jobs::new(jobs))
 }
 
-fn sources(alloc: Global) -> Result<Sources, Fail> {
+fn sources(alloc: Global) -> Result<PlannedSources, Fail> {
     let mut names = Vec::new(alloc);
     names.push(Vec::from_slice(alloc, b"a.c")?)?;
     names.push(Vec::from_slice(alloc, b"inc/x.h")?)?;
-    Ok(Sources::new(names))
+    Ok(PlannedSources::new(names))
 }
 
 /// The place of the first bad field of a plan, if it has one.

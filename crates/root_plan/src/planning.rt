@@ -23,7 +23,7 @@ use file_tree::{Blob, Tree};
 use job_types::Options;
 use std::alloc::{AllocError, Global};
 use std::collections::BTreeSet;
-use work_texts::{JobLine, Jobs, PlanData, RunKey, Sources, TEXT_LIMIT, write_plan};
+use work_texts::{JobLine, Jobs, PlanData, PlannedSources, RunKey, TEXT_LIMIT, write_plan};
 
 /// The key of a run: the options that its outputs depend on.
 pub fn run_key(alloc: Global, options: &Options) -> Result<RunKey, AllocError>
@@ -85,7 +85,7 @@ pub(crate) fn plan_of(
         key,
         report,
         jobs: Jobs::new(jobs),
-        sources: Sources::new(names),
+        sources: PlannedSources::new(names),
     })
 }
 

@@ -32,7 +32,7 @@ pub use compare::check_key;
 pub use journal_err::{JournalErr, WorkFile};
 pub use key::RunKey;
 pub use laws::{finished_places, finished_shorter, finished_values, plan_places, plan_values};
-pub use plan::{FinishedData, JobLine, Jobs, PlanData, Sources};
+pub use plan::{FinishedData, JobLine, Jobs, PlanData, PlannedSources};
 pub use read::{read_finished, read_plan};
 pub use reading::TEXT_LIMIT;
 pub use writing::{write_finished, write_plan};

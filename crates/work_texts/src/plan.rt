@@ -67,29 +67,29 @@ impl Jobs {
 
 /// The names of sources, in their order.
 #[derive(Drop, Debug)]
-pub struct Sources {
+pub struct PlannedSources {
     names: Vec<Vec<u8>>,
 }
 
-impl Model for Sources {
+impl Model for PlannedSources {
     ghost Value = { List (List ℕ) };
 
     ghost view = { λ s. map bytes_of s.names.items };
 }
 
-impl Sources {
+impl PlannedSources {
     /// These names.
-    pub fn new(names: Vec<Vec<u8>>) -> Sources
+    pub fn new(names: Vec<Vec<u8>>) -> PlannedSources
         ensures value { result ≡ map bytes_of names.items }
     {
-        Sources { names }
+        PlannedSources { names }
     }
 
     /// The names, as a vector.
     pub fn into_vec(self) -> Vec<Vec<u8>>
         ensures value { map bytes_of result.items ≡ self }
     {
-        let Sources { names } = self;
+        let PlannedSources { names } = self;
         names
     }
 
@@ -118,7 +118,7 @@ pub struct PlanData {
     /// The files that the run rewrites, in byte order of their paths.
     pub jobs: Jobs,
     /// The sources that the files name, in byte order.
-    pub sources: Sources,
+    pub sources: PlannedSources,
 }
 
 /// What the text `finished` says.

@@ -11,7 +11,7 @@ use crate::fields::{any_text, choice, word};
 use crate::key::RunKey;
 use crate::numbers::number;
 use crate::paths::{path, side, source};
-use crate::plan::{FinishedData, JobLine, Jobs, PlanData, Sources};
+use crate::plan::{FinishedData, JobLine, Jobs, PlanData, PlannedSources};
 use crate::stop::Stop;
 use file_tree::Blob;
 use std::alloc::Global;
@@ -118,7 +118,7 @@ pub(crate) fn plan(alloc: Global, bytes: &[u8]) -> Result<(PlanData, &[u8]), Sto
         key,
         report,
         jobs: Jobs::new(jobs),
-        sources: Sources::new(sources),
+        sources: PlannedSources::new(sources),
     };
     Ok((plan, rest))
 }

@@ -6,7 +6,7 @@ use Rattle.dw_entries.specs.ViewUnits.{unit_section_at}
 use Rattle.std.specs.HashMap.{get}
 use Rattle.std.specs.Prelude.{nat_eq}
 use Rattle.dw_base.specs.FileViews.{section_bytes, view_cells}
-use Rattle.dw_find.specs.EntryTexts.{Found}
+use Rattle.dw_find.specs.EntryTexts.{FoundTexts}
 use Rattle.dw_find.specs.FieldOffsets.{BaseLies, BaseRefuses}
 use Rattle.dw_find.specs.NamedSlots.{TakesIndexes}
 use Rattle.dw_find.specs.TextPlaces.{base_source, number_said}
@@ -42,7 +42,7 @@ base_number-requires-clause-there c = unit-there c.args.view.now c.args.unit.now
 
 pub base_number-requires-clause-field : goal.base_number-requires-clause-field
 base_number-requires-clause-field c =
-    subst (BaseLies (section_bytes c.args.view.now c.args.unit.now.section)) (sym (ap (λ (f : Found). f.base) c.found.view_is))
+    subst (BaseLies (section_bytes c.args.view.now c.args.unit.now.section)) (sym (ap (λ (f : FoundTexts). f.base) c.found.view_is))
     (unit-lies c.args.view.now c.args.unit.now c.args.texts.now c.in-Some.table.now c.args.found.now c.unit_texts.new.found c.requires.unit
     (unit-table (debug_data c.args.view.now) c.args.unit.now c.in_ok-at.at c.in-Some.table.now c.in_ok-at.ensures.here c.in_ok-at.ensures.offset
     (shared-there (debug_data c.args.view.now) (λ at. get nat_eq c.read_table.new.shared at) c.in_ok-at.at c.in-Some.table.now c.in_ok-read_table.ensures.shared c.in-Some.ensures.value))
@@ -56,7 +56,7 @@ returns-in_err-base-clause-refused c =
     (shared-there (debug_data c.args.view.now) (λ at. get nat_eq c.read_table.new.shared at) c.in_ok-at.at c.in-Some.table.now c.in_ok-read_table.ensures.shared c.in-Some.ensures.value))
     c.requires.none c.in_ok-unit_texts.ensures.taken
     (subst (λ (b : Option TextBase). BaseRefuses c.args.view.now.order c.args.unit.now.section (view_cells c.args.view.now c.args.unit.now.section) b c.in_err-base.field-0.0)
-    (ap (λ (f : Found). f.base) c.found.view_is) c.in_err-base.ensures.refused))
+    (ap (λ (f : FoundTexts). f.base) c.found.view_is) c.in_err-base.ensures.refused))
 
 pub returns-clause-taken : goal.returns-clause-taken
 returns-clause-taken c =
@@ -66,7 +66,7 @@ returns-clause-taken c =
     (shared-there (debug_data c.args.view.now) (λ at. get nat_eq c.read_table.new.shared at) c.in_ok-at.at c.in-Some.table.now c.in_ok-read_table.ensures.shared c.in-Some.ensures.value))
     c.in_ok-unit_texts.ensures.taken
     (base-taken c.args.view.now c.args.unit.now c.unit_texts.new.found.base c.in_ok-base.base c.unit_texts.new.found.indexes c.args.slots.now c.take.new.self c.requires.unit
-    (c.in_ok-base.ensures.number ∙ ap (λ (f : Found). number_said (base_source (debug_data c.args.view.now)) (view_cells c.args.view.now c.args.unit.now.section) f.base) c.found.view_is)
+    (c.in_ok-base.ensures.number ∙ ap (λ (f : FoundTexts). number_said (base_source (debug_data c.args.view.now)) (view_cells c.args.view.now c.args.unit.now.section) f.base) c.found.view_is)
     (subst (λ (xs : List TextIndex). TakesIndexes c.args.unit.now.section c.in_ok-base.base xs c.args.slots.now c.take.new.self)
-    (c.as_slice.ensures.value ∙ ap (λ (f : Found). f.indexes) c.found.view_is) c.take.ensures))
+    (c.as_slice.ensures.value ∙ ap (λ (f : FoundTexts). f.indexes) c.found.view_is) c.take.ensures))
     c.end_unit.ensures

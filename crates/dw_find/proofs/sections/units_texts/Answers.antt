@@ -4,8 +4,8 @@ use Rattle.std.proofs.lemmas.List.{get_or_default}
 use Rattle.dw_base.specs.ViewData.{debug_data}
 use Rattle.dw_entries.specs.ViewUnits.{unit_section_at}
 use Rattle.dw_entries.proofs.UnitSectionLaws.{is-of-view}
-use Rattle.dw_find.specs.EntryTexts.{Found, no_paths, none_found}
-use Rattle.dw_find.specs.UnitPaths.{UnitPaths}
+use Rattle.dw_find.specs.EntryTexts.{FoundTexts, no_paths, none_found}
+use Rattle.dw_find.specs.SectionFields.{SectionFields}
 use Rattle.dw_find.specs.UnitTexts.{SectionIndexed}
 use Rattle.dw_find.proofs.SectionTextLaws.{pass-base, section-starts, section-ends}
 use Rattle.dw_find.proofs.UnitRowLaws.{units-tables, units-there, units-more}
@@ -37,8 +37,8 @@ loop-unit-init c = record {
 
 pub returns-clause-taken : goal.returns-clause-taken
 returns-clause-taken c =
-    subst (λ (p : UnitPaths). SectionIndexed (debug_data c.args.view.now) (unit_section_at c.args.view.now c.args.section) p c.args.slots.now c.loop-unit.slots)
-    (sym (ap (λ (f : Found). f.paths) c.found-2.view_is))
+    subst (λ (p : SectionFields). SectionIndexed (debug_data c.args.view.now) (unit_section_at c.args.view.now c.args.section) p c.args.slots.now c.loop-unit.slots)
+    (sym (ap (λ (f : FoundTexts). f.paths) c.found-2.view_is))
     (section-ends (debug_data c.args.view.now) (unit_section_at c.args.view.now c.args.section) c.args.units.now c.loop-unit.unit-index c.loop-unit.found c.args.slots.now
     c.loop-unit.slots (omega arith) c.loop-unit.invariant.passed)
 

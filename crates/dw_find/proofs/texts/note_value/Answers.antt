@@ -1,5 +1,5 @@
 -- A value of another class says nothing.
-use Rattle.dw_find.specs.TextPlaces.{is_start_form, own_form}
+use Rattle.dw_base.specs.TableStarts.{is_start_form, own_form}
 use Rattle.dw_find.proofs.EntryTextLaws.{class-names, class-silent}
 use Rattle.dw_find.proofs.texts.note_value.Goals as goal
 

@@ -1,8 +1,8 @@
 -- The new bodies are those of the readings; line tables that can't be written, or are too long, are rows.
 use Rattle.std.proofs.Common.{ℕ, List, ap, ◌∙◌, ◌<◌, ◌≤◌, length, arith}
 use Rattle.std.proofs.lemmas.Result.{err_from_is_err_and}
-use Rattle.dw_base.specs.Forms.{in_str, in_line_str}
 use Rattle.dw_base.specs.Layout.{output_limit}
+use Rattle.dw_base.specs.declared.texts.TextSection.TheVariants.{InStr, InLineStr}
 use Rattle.dw_rewrite.proofs.BodyRowLaws.{lines-fault, long-fault, long-lines, relocations-fault}
 use Rattle.dw_rewrite.proofs.FileMadeLaws.{known-here, made, pushed-behind}
 use Rattle.dw_rewrite.proofs.MadeBodyLaws.{have-offsets, known-made, lines-among, slices-fit, some-among}
@@ -11,12 +11,12 @@ use Rattle.dw_rewrite.proofs.bodies.new_bodies.Goals as goal
 pub returns-in_err-pool-clause-refused : goal.returns-in_err-pool-clause-refused
 returns-in_err-pool-clause-refused c =
     let p = err_from_is_err_and c.from_residual-in_err-pool.result c.from_residual-in_err-pool.ensures.1 in
-    rw (p.1, p.2) (long-fault c.args.maps.now c.args.view.now in_str c.args.paths.now c.args.tables.now c.in_err-pool.field-0.0 c.requires.found c.in_err-pool.ensures.refused)
+    rw (p.1, p.2) (long-fault c.args.maps.now c.args.view.now InStr c.args.paths.now c.args.tables.now c.in_err-pool.field-0.0 c.requires.found c.in_err-pool.ensures.refused)
 
 pub returns-in_err-line_pool-clause-refused : goal.returns-in_err-line_pool-clause-refused
 returns-in_err-line_pool-clause-refused c =
     let p = err_from_is_err_and c.from_residual-in_err-line_pool.result c.from_residual-in_err-line_pool.ensures.1 in
-    rw (p.1, p.2) (long-fault c.args.maps.now c.args.view.now in_line_str c.args.paths.now c.args.tables.now c.in_err-line_pool.field-0.0 c.requires.found c.in_err-line_pool.ensures.refused)
+    rw (p.1, p.2) (long-fault c.args.maps.now c.args.view.now InLineStr c.args.paths.now c.args.tables.now c.in_err-line_pool.field-0.0 c.requires.found c.in_err-line_pool.ensures.refused)
 
 pub returns-in_err-lines-clause-refused : goal.returns-in_err-lines-clause-refused
 returns-in_err-lines-clause-refused c =

@@ -3,7 +3,7 @@ use Rattle.std.proofs.lemmas.Result.{err_from_is_err_and}
 use Rattle.dw_base.specs.DebugData.{line_source}
 use Rattle.dw_base.specs.ViewData.{debug_data}
 use Rattle.dw_base.specs.declared.debug_sections.DebugSection.TheVariants.{Str, LineStr}
-use Rattle.dw_lines.specs.NewTexts.{NewPlaces, texts_known}
+use Rattle.dw_lines.specs.NewTexts.{KnownTexts, texts_known}
 use Rattle.dw_rewrite.specs.LineOffsets.{OffsetMisses, line_offsets}
 use Rattle.dw_rewrite.proofs.BodyRowLaws.{either-first, either-known}
 use Rattle.dw_rewrite.proofs.bodies.push_relocations.Goals as goal
@@ -16,6 +16,6 @@ returns-in_err-push_records-clause-refused c =
 pub returns-in_err-push_line_record-clause-refused : goal.returns-in_err-push_line_record-clause-refused
 returns-in_err-push_line_record-clause-refused c =
     let p = err_from_is_err_and c.from_residual-in_err-push_line_record.result c.from_residual-in_err-push_line_record.ensures.1 in
-    rw (p.1, p.2) (either-known _ (λ (n : NewPlaces). OffsetMisses (line_source (debug_data c.args.view.now)).number (line_source (debug_data c.args.view.now)).cells
+    rw (p.1, p.2) (either-known _ (λ (n : KnownTexts). OffsetMisses (line_source (debug_data c.args.view.now)).number (line_source (debug_data c.args.view.now)).cells
     (line_offsets c.args.maps.now (line_source (debug_data c.args.view.now)) (texts_known n Str) (texts_known n LineStr) c.args.tables.now)) _ _ c.in_err-push_line_record.field-0.0
     c.texts-new_texts.ensures.texts c.in_err-push_line_record.ensures.refused)

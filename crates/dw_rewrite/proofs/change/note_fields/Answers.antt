@@ -5,7 +5,7 @@ use Rattle.std.proofs.lemmas.Result.{err_from_is_err_and}
 use Rattle.std.specs.HashMap.{get}
 use Rattle.std.specs.Prelude.{nat_eq}
 use Rattle.dw_base.specs.StringTables.{appending}
-use Rattle.dw_find.specs.declared.fields.PathField.{PathField}
+use Rattle.dw_base.specs.declared.texts.TextField.{TextField}
 use Rattle.dw_rewrite.specs.Changes.{AreNoted, texts_at}
 use Rattle.dw_rewrite.proofs.NewOffsetLaws.{remembers_all}
 use Rattle.dw_rewrite.proofs.ChangedLaws.{noted_start, noted_step, path_there, refused_at, remembers_on, texts_step}
@@ -47,7 +47,7 @@ loop-at-preserved c = record {
 
 pub returns-clause-texts : goal.returns-clause-texts
 returns-clause-texts c =
-    ap (λ (fs : List PathField). texts_at (appending c.args.maps.now c.args.source.now.table.bytes) c.args.maps.now c.args.source.now c.loop-at.pool.texts fs) (sym (drop_all c.loop-at.at-index c.args.fields.now c.loop-at-test.false))
+    ap (λ (fs : List TextField). texts_at (appending c.args.maps.now c.args.source.now.table.bytes) c.args.maps.now c.args.source.now c.loop-at.pool.texts fs) (sym (drop_all c.loop-at.at-index c.args.fields.now c.loop-at-test.false))
     ∙ c.loop-at.invariant.texts
 
 pub returns-clause-noted : goal.returns-clause-noted

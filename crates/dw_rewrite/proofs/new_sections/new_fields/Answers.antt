@@ -3,7 +3,7 @@ use Rattle.std.proofs.Common.{ap, ◌∙◌, length, refl}
 use Rattle.dw_patch.specs.Patching.{PatchList}
 use Rattle.elf_layout.specs.Patched.{with_patches}
 use Rattle.dw_find.specs.ViewFields.{info_of}
-use Rattle.dw_find.specs.UnitPaths.{UnitPaths}
+use Rattle.dw_find.specs.SectionFields.{SectionFields}
 use Rattle.dw_rewrite.proofs.SectionBytesLaws.{fields-put, line-free, none-free, start-free}
 use Rattle.dw_base.specs.declared.debug_sections.DebugSection.TheVariants.{Str, LineStr, Line}
 use Rattle.dw_rewrite.specs.NewPlaces.{places_known}
@@ -11,7 +11,7 @@ use Rattle.dw_rewrite.proofs.new_sections.new_fields.Goals as goal
 
 pub set_section-requires-clause-size : goal.set_section-requires-clause-size
 set_section-requires-clause-size c =
-    ap (λ (x : PatchList). x.size) c.in_ok-patches.ensures.none ∙ ap (λ (u : UnitPaths). length (info_of c.args.view.now u)) c.found.view_is
+    ap (λ (x : PatchList). x.size) c.in_ok-patches.ensures.none ∙ ap (λ (u : SectionFields). length (info_of c.args.view.now u)) c.found.view_is
 
 pub set_section-requires-clause-free : goal.set_section-requires-clause-free
 set_section-requires-clause-free c = none-free c.args.view.now c.args.found.now c.in_ok-patches.patches _ _ c.in_ok-patches.ensures.none

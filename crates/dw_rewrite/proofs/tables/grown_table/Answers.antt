@@ -1,7 +1,6 @@
 -- What is known of a section, one more, and a table that is too long.
 use Rattle.std.proofs.Common.{arith}
 use Rattle.std.proofs.lemmas.Result.{err_from_is_err_and}
-use Rattle.dw_find.specs.ViewFields.{as_table}
 use Rattle.dw_rewrite.proofs.GrowthLaws.{offsets-at, pass-more, pass-refused}
 use Rattle.dw_rewrite.proofs.tables.grown_table.Goals as goal
 
@@ -13,10 +12,10 @@ note_section-requires-clause-paths c =
 pub returns-in_err-note_section-clause-refused : goal.returns-in_err-note_section-clause-refused
 returns-in_err-note_section-clause-refused c =
     let p = err_from_is_err_and c.from_residual-in_err-note_section.result c.from_residual-in_err-note_section.ensures.1 in
-    rw (p.1, p.2) (pass-refused c.args.maps.now c.args.view.now (as_table c.args.texts) c.args.paths.now c.loop-found.pool _ c.loop-found.found-index c.found-item.result c.in_err-note_section.field-0.0
+    rw (p.1, p.2) (pass-refused c.args.maps.now c.args.view.now c.args.texts c.args.paths.now c.loop-found.pool _ c.loop-found.found-index c.found-item.result c.in_err-note_section.field-0.0
     (omega arith) c.found-item.is c.loop-found.invariant c.in_err-note_section.ensures.refused)
 
 pub loop-found-preserved : goal.loop-found-preserved
 loop-found-preserved c =
-    pass-more c.args.maps.now c.args.view.now (as_table c.args.texts) c.args.paths.now c.loop-found.pool c.note_section.new.pool _ _ c.loop-found.found-index c.found-item.result (omega arith)
+    pass-more c.args.maps.now c.args.view.now c.args.texts c.args.paths.now c.loop-found.pool c.note_section.new.pool _ _ c.loop-found.found-index c.found-item.result (omega arith)
     c.found-item.is c.loop-found.invariant c.in_ok-note_section.ensures.grown

@@ -4,7 +4,6 @@ use Rattle.std.specs.Prelude.{Bool, true, false, ℕ, List, [], ◌∷◌, ◌++
 use Rattle.dw_base.specs.Cells.{Cell, bytes_of}
 use Rattle.dw_base.specs.DebugSections.{read_sections}
 use Rattle.dw_base.specs.Readings.{Reading, Readings}
-use Rattle.dw_base.specs.Forms.{TextSection, in_str, in_line_str}
 use Rattle.dw_base.specs.Pieces.{Piece}
 use Rattle.dw_base.specs.Roles.{Role, offset, inline_path, line_start, role_of}
 use Rattle.dw_base.specs.TableStarts.{has_start_form, is_macro_value, value_begin}
@@ -12,17 +11,19 @@ use Rattle.dw_base.specs.Texts.{text}
 use Rattle.dw_base.specs.UnitStates.{UnitState}
 use Rattle.dw_base.specs.declared.debug_sections.DebugSection.{DebugSection}
 use Rattle.dw_base.specs.declared.debug_sections.DebugSection.TheVariants.{Info, Types, Abbrev, Str, LineStr, StrOffsets, Line, Macro, Names}
+use Rattle.dw_base.specs.declared.texts.TextField.{TextField}
+use Rattle.dw_base.specs.declared.texts.TextSection.{TextSection}
+use Rattle.dw_base.specs.declared.texts.TextSection.TheVariants.{InStr, InLineStr}
 use Rattle.dw_find.specs.declared.fields.InlinePath.{InlinePath}
-use Rattle.dw_find.specs.declared.fields.PathField.{PathField}
 
 -- the field of a path's offset into a table that a piece of a role is, at a place and of so many bytes
-abbrev pub field_by : TextSection → Role → ℕ → ℕ → List PathField
-field_by in_str (offset in_str true) at size = record { at = at; size = size } ∷ []
-field_by in_line_str (offset in_line_str true) at size = record { at = at; size = size } ∷ []
+abbrev pub field_by : TextSection → Role → ℕ → ℕ → List TextField
+field_by InStr (offset InStr true) at size = record { at = at; size = size } ∷ []
+field_by InLineStr (offset InLineStr true) at size = record { at = at; size = size } ∷ []
 field_by table r at size = []
 
 -- those of pieces, in order
-abbrev pub path_fields : TextSection → List (Piece UnitState) → List PathField
+abbrev pub path_fields : TextSection → List (Piece UnitState) → List TextField
 path_fields table [] = []
 path_fields table (x ∷ xs) = field_by table (role_of x) x.state.place (length x.cells) ++ path_fields table xs
 
@@ -37,22 +38,22 @@ inline_paths [] = []
 inline_paths (x ∷ xs) = inline_by (role_of x) x.state.place x.cells ++ inline_paths xs
 
 -- the field that says where a line table starts
-abbrev pub start_by : Role → ℕ → ℕ → List PathField
+abbrev pub start_by : Role → ℕ → ℕ → List TextField
 start_by line_start at size = record { at = at; size = size } ∷ []
 start_by r at size = []
 
 -- those of pieces, in order
-abbrev pub start_fields : List (Piece UnitState) → List PathField
+abbrev pub start_fields : List (Piece UnitState) → List TextField
 start_fields [] = []
 start_fields (x ∷ xs) = start_by (role_of x) x.state.place (length x.cells) ++ start_fields xs
 
 -- the field that says where a macro unit starts
-abbrev pub macro_by : Bool → ℕ → ℕ → List PathField
+abbrev pub macro_by : Bool → ℕ → ℕ → List TextField
 macro_by true at size = record { at = at; size = size } ∷ []
 macro_by false at size = []
 
 -- those of pieces, in order
-abbrev pub macro_fields : List (Piece UnitState) → List PathField
+abbrev pub macro_fields : List (Piece UnitState) → List TextField
 macro_fields [] = []
 macro_fields (x ∷ xs) = macro_by (is_macro_value x) x.state.place (length x.cells) ++ macro_fields xs
 
@@ -63,18 +64,18 @@ stray_among (x ∷ xs) = if has_start_form x then stray_among xs else Some (valu
 
 -- the fields of pieces that hold offsets into a section of debug data: those of paths into the tables of texts, and those that say where line tables and
 -- macro units start
-abbrev pub pieces_into : List (Piece UnitState) → DebugSection → List PathField
-pieces_into ps Str = path_fields in_str ps
-pieces_into ps LineStr = path_fields in_line_str ps
+abbrev pub pieces_into : List (Piece UnitState) → DebugSection → List TextField
+pieces_into ps Str = path_fields InStr ps
+pieces_into ps LineStr = path_fields InLineStr ps
 pieces_into ps Line = start_fields ps
 pieces_into ps Macro = macro_fields ps
 pieces_into ps s = []
 
 -- what a section says of paths, line tables and macro units: its number, for each section of debug data in the order of the table the fields that hold
 -- offsets into it, the paths that stand in their values, and the first value that is to say a start and can't
-pub record UnitPaths : Type 0 where
+pub record SectionFields : Type 0 where
   pub number : ℕ
-  pub fields : List (List PathField)
+  pub fields : List (List TextField)
   pub inline : List InlinePath
   pub stray : Option ℕ
 
@@ -91,13 +92,13 @@ table_place Macro = 7
 table_place Names = 8
 
 -- the fields that hold offsets into a section, and the lists of those of all
-abbrev pub fields_into : UnitPaths → DebugSection → List PathField
+abbrev pub fields_into : SectionFields → DebugSection → List TextField
 fields_into u s = get_or u.fields (table_place s) []
 
-abbrev pub lists_by : (DebugSection → List PathField) → List (List PathField)
+abbrev pub lists_by : (DebugSection → List TextField) → List (List TextField)
 lists_by into = map into read_sections
 
-abbrev pub paths_in : Reading → UnitPaths
+abbrev pub paths_in : Reading → SectionFields
 paths_in r = record {
   number = r.number;
   fields = lists_by (pieces_into r.pieces);
@@ -105,19 +106,19 @@ paths_in r = record {
   stray = stray_among r.pieces;
 }
 
-abbrev pub paths_of : Readings → List UnitPaths
+abbrev pub paths_of : Readings → List SectionFields
 paths_of [] = []
 paths_of (r ∷ rs) = paths_in r ∷ paths_of rs
 
 -- what a section says, with these fields that hold offsets into a section of debug data in the stead of others, and with one more behind them
-abbrev pub with_fields : UnitPaths → DebugSection → List PathField → UnitPaths
+abbrev pub with_fields : SectionFields → DebugSection → List TextField → SectionFields
 with_fields u into fs = record { number = u.number; fields = slice_set u.fields (table_place into) fs; inline = u.inline; stray = u.stray }
 
-abbrev pub with_field : UnitPaths → DebugSection → PathField → UnitPaths
+abbrev pub with_field : SectionFields → DebugSection → TextField → SectionFields
 with_field u into f = with_fields u into (fields_into u into ++ f ∷ [])
 
 -- with one more path that stands in its value
-abbrev pub with_inline : UnitPaths → InlinePath → UnitPaths
+abbrev pub with_inline : SectionFields → InlinePath → SectionFields
 with_inline u p = record { number = u.number; fields = u.fields; inline = u.inline ++ p ∷ []; stray = u.stray }
 
 -- with the first place of a value that can't say a start
@@ -125,11 +126,11 @@ abbrev pub stray_first : Option ℕ → ℕ → Option ℕ
 stray_first None place = Some place
 stray_first (Some n) place = Some n
 
-abbrev pub with_stray_at : UnitPaths → ℕ → UnitPaths
+abbrev pub with_stray_at : SectionFields → ℕ → SectionFields
 with_stray_at u place = record { number = u.number; fields = u.fields; inline = u.inline; stray = stray_first u.stray place }
 
 -- lists of fields, with others behind each
-abbrev pub each_behind : List (List PathField) → List (List PathField) → List (List PathField)
+abbrev pub each_behind : List (List TextField) → List (List TextField) → List (List TextField)
 each_behind [] ys = []
 each_behind (x ∷ xs) [] = x ∷ xs
 each_behind (x ∷ xs) (y ∷ ys) = (x ++ y) ∷ each_behind xs ys
