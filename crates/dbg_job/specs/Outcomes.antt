@@ -10,7 +10,7 @@ use Rattle.dw_base.specs.RelocationRows.{moving_sections}
 use Rattle.dw_base.specs.ViewData.{Meaning, debug_data, mapped}
 use Rattle.dw_base.specs.ViewFails.{ViewReads}
 use Rattle.dw_base.specs.declared.fault.Refusal.{Refusal}
-use Rattle.dw_meaning.specs.FileMeanings.{Means, MeaningKept, file_data}
+use Rattle.dw_meaning.specs.FileMeanings.{Means, MeaningKept, file_data, ViewMeans}
 use Rattle.dw_meaning.specs.Loaded.{LoadedKept}
 use Rattle.dw_meaning.specs.RelocationFails.{RelocationsReadIn}
 use Rattle.dw_sources.specs.Sources.{AreSources}
@@ -18,7 +18,6 @@ use Rattle.dw_view.specs.PairViews.{pair_view}
 use Rattle.dw_view.specs.Pairs.{IsPaired}
 use Rattle.build_ident.specs.IdFails.{IdFails}
 use Rattle.dbg_split.specs.DebugFile.{debug_file}
-use Rattle.dbg_split.specs.PairMeanings.{ViewMeans}
 use Rattle.dbg_split.specs.SplitFails.{SplitFails, Unsplittable}
 use Rattle.dbg_split.specs.StrippedFile.{stripped_file}
 use Rattle.job_types.specs.Settings.{Settings}

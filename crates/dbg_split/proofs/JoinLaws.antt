@@ -7,7 +7,7 @@ use Rattle.dw_base.specs.Elf.{e_type, is_empty_kind, nth_section, section_count,
 use Rattle.dw_base.specs.FileViews.{ViewSection, is_name_section, plain_contents, view_section}
 use Rattle.dw_base.specs.Layout.{is_alloc, is_loaded_kind}
 use Rattle.dw_base.specs.Notes.{or_this}
-use Rattle.dw_base.specs.SectionNames.{debug_link}
+use Rattle.dw_base.specs.SectionNames.{debug_link, is_debug_only_name}
 use Rattle.dw_base.specs.Texts.{same_text}
 use Rattle.dw_base.specs.declared.elf_numbers.TheConstants.{ET_DYN, ET_EXEC, SHT_NULL, SHT_NOBITS, SHT_NOTE}
 use Rattle.dw_base.specs.declared.records.Section.{Section}
@@ -18,7 +18,7 @@ use Rattle.dw_base.proofs.TextLaws.{same_text-from, same_text-true}
 use Rattle.dw_base.proofs.WrittenContents.{contents-empty}
 use Rattle.dbg_split.specs.DebugFile.{becomes_nobits, debug_head}
 use Rattle.dbg_split.specs.DebugFileReads.{ReadsDebug}
-use Rattle.dbg_split.specs.Droppable.{drops_along, drops_itself, is_debug_only_name, is_droppable, may_drop}
+use Rattle.dbg_split.specs.Droppable.{drops_along, drops_itself, is_droppable, may_drop}
 use Rattle.dw_view.specs.PairViews.{count_below, found_bytes, found_contents, is_counted, is_counted_named, is_elsewhere, is_elsewhere_named, joined_section, nth_below, pair_section, stands_for}
 use Rattle.dbg_split.specs.PairViews.{JoinsTo, SameSection}
 use Rattle.dbg_split.specs.StrippedFile.{kept_before}

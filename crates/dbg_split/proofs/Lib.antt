@@ -20,3 +20,4 @@ pub mod JoinLaws
 pub mod PairIdLaws
 pub mod PairMeaningLaws
 pub mod PairReadLaws
+pub mod WorkedSplits

@@ -1,8 +1,7 @@
 -- What is loaded of a file is what is loaded of its stripped file.
-use Rattle.std.proofs.Common.{◌≡◌, ◌≢◌, ℕ, zero, suc, ◌+◌, ◌*◌, ◌<◌, ◌≤◌, ◌⊎◌, ◌==◌, ◌&&◌, ◌||◌, nat_le, Bool, true, false, List, [], ◌∷◌, ◌++◌, slice_index, cond, refl, sym, ap, ◌∙◌, arith, inl, inr}
-use Rattle.std.proofs.lemmas.Bool.{cases_lt, cases_Bool, le-leb, lt-ltb}
+use Rattle.std.proofs.Common.{◌≡◌, ◌≢◌, ℕ, zero, suc, ◌+◌, ◌*◌, ◌<◌, ◌≤◌, ◌⊎◌, ◌==◌, ◌&&◌, ◌||◌, nat_le, Bool, true, false, List, ◌∷◌, ◌++◌, slice_index, refl, sym, ap, ◌∙◌, arith, inl, inr}
+use Rattle.std.proofs.lemmas.Bool.{cases_lt, cases_Bool}
 use Rattle.std.proofs.lemmas.Bool.Decides.{nat_tests}
-use Rattle.std.specs.Bool.{⊤}
 use Rattle.std.specs.Prelude.{map, filter, Option, Some, None}
 use Rattle.dw_base.specs.Elf.{class_of, order_of, ehdr_size, phdr_size, word_size, phoff_place, phnum_place, shoff_place, shnum_place, shstrndx_place, e_type, e_phoff, e_phnum, is_empty_kind, nth_section, nth_segment, section_count, section_name, segments_of, name_index, contents_of}
 use Rattle.dw_base.specs.Layout.{fixed_end, is_alloc, is_fixed, is_loaded_kind}
@@ -27,13 +26,14 @@ use Rattle.dw_base.proofs.RecordLaws.{segment_at-ext}
 use Rattle.dw_base.proofs.TextLaws.{same_text-true}
 use Rattle.dw_base.proofs.WrittenHeaders.{header_places}
 use Rattle.dw_meaning.proofs.BuildIdLaws.{first_below-found}
-use Rattle.dw_meaning.specs.Loaded.{LoadedKept, in_id_at, in_section_field, is_load, lies_within, loaded_byte, loaded_bytes, segment_image, unless_left_out}
+use Rattle.dw_meaning.specs.Loaded.{LoadedKept, in_id_at, in_section_field, is_load, lies_within, loaded_byte, segment_image, unless_left_out}
 use Rattle.dbg_split.specs.Droppable.{drops_along, drops_itself, is_droppable, may_drop, names_dropped, names_symbols}
 use Rattle.dbg_split.specs.KeptFront.{IsOutside, KeepsFront}
 use Rattle.dbg_split.specs.SplitFails.SectionBars.{across}
 use Rattle.dbg_split.specs.StrippedFile.{kept_before}
 use Rattle.dbg_split.specs.StrippedReads.{IsKept, ReadsStripped}
 use Rattle.dbg_split.proofs.StrippedFitLaws.{IsSplit, names-there}
+use Rattle.dw_meaning.proofs.LoadedLaws.{before-none, outside, unless-same, tabulate-each, images-same, loaded-is, segments-are, EachSegment}
 
 -- the section of the build-id is kept: its name is none of debug data, and its type none of those that are dropped
 no-self : (m s : Bool) → (m && ((false || false) || (false && s))) ≡ false
@@ -178,12 +178,6 @@ old-behind b i w lt free full =
       | inr behind ↦ behind
     ]
 
-before-none : (at n place : ℕ) → place < at → lies_within at n place ≡ false
-before-none at n place lt = rw (below at place lt) refl
-  where
-    below : (at place : ℕ) → place < at → nat_le at place ≡ false
-    below at place lt = grind (arith, nat_tests)
-
 -- the descriptor of a section
 abbrev pub at_section : List ℕ → ℕ → Descriptor → ℕ → Bool
 at_section b i d place = lies_within ((nth_section b i).offset + d.place) d.size place
@@ -247,21 +241,6 @@ ids-same b name out place w r lt =
     ∙ id-of b name out o place w r (id-found b) lt
     ∙ ap (λ (id : Option BuildId). in_id_at b id place) (sym (build_id-is b))
 
--- a byte that isn't left out is as it was
-outside : (at n place : ℕ) → lies_within at n place ≡ false → (place < at) ⊎ (at + n ≤ place)
-outside at n place none =
-    elim (cases_lt place at) [
-      | inl before ↦ inl before
-      | inr past ↦
-          elim (cases_lt place (at + n)) [
-            | inl here ↦
-                let inside : lies_within at n place ≡ true = rw (le-leb at place (omega arith), lt-ltb place (at + n) here) refl in
-                let no : true ≡ false = sym inside ∙ none in
-                cc
-            | inr behind ↦ inr (omega arith)
-          ]
-    ]
-
 or-both : (x y : Bool) → (x || y) ≡ false → (x ≡ false) × (y ≡ false)
 or-both true y h = let no : true ≡ false = h in cc
 or-both false y h = (refl, h)
@@ -281,10 +260,6 @@ is-outside b place none =
       shoff = outside (shoff_place c) (word_size c) place second.0;
       numbers = numbers-outside c place (outside (shnum_place c) 2 place second.1) (outside (shstrndx_place c) 2 place first.1);
     }
-
-unless-same : (left : Bool) (x y : ℕ) → (left ≡ false → x ≡ y) → unless_left_out left x ≡ unless_left_out left y
-unless-same true x y same = refl
-unless-same false x y same = ap (λ (n : ℕ). Some n) (same refl)
 
 fields-same : (out b : List ℕ) (place : ℕ) → class_of out ≡ class_of b → in_section_field out place ≡ in_section_field b place
 fields-same out b place same = rw same refl
@@ -362,37 +337,6 @@ unfolding segments_of
 segments-same b name out w r k =
     ap (λ (n : ℕ). tabulate (nth_segment out) n) (phnum-same b name out r k)
     ∙ tabulate-ext (nth_segment out) (nth_segment b) (e_phnum b) (λ i lt. segment-same b name out i w r k lt)
-
--- of each segment
-abbrev EachSegment : (Segment → Type 0) → List Segment → Type 0
-EachSegment P [] = ⊤
-EachSegment P (s ∷ ss) = P s × EachSegment P ss
-
-each-push : (P : Segment → Type 0) (ss : List Segment) (s : Segment) → EachSegment P ss → P s → EachSegment P (ss ++ s ∷ [])
-each-push P [] s all one = (one, tt)
-each-push P (x ∷ ss) s all one = (all.0, each-push P ss s all.1 one)
-
-tabulate-each : (P : Segment → Type 0) (f : ℕ → Segment) (n : ℕ) → ((i : ℕ) → i < n → P (f i)) → EachSegment P (tabulate f n)
-tabulate-each P f zero each = tt
-tabulate-each P f (suc n) each = each-push P (tabulate f n) (f n) (tabulate-each P f n (λ i lt. each i (omega arith))) (each n (omega arith))
-
-images-same : (b out : List ℕ) (ss : List Segment) → EachSegment (λ s. segment_image out s ≡ segment_image b s) ss
-    → map (segment_image out) (filter is_load ss) ≡ map (segment_image b) (filter is_load ss)
-images-same b out [] each = refl
-images-same b out (s ∷ ss) each = by_load (is_load s) each.0 (images-same b out ss each.1)
-  where
-    by_load : (t : Bool) → segment_image out s ≡ segment_image b s → map (segment_image out) (filter is_load ss) ≡ map (segment_image b) (filter is_load ss)
-        → map (segment_image out) (cond t (s ∷ filter is_load ss) (filter is_load ss)) ≡ map (segment_image b) (cond t (s ∷ filter is_load ss) (filter is_load ss))
-    by_load true one rest = rw (one, rest) refl
-    by_load false one rest = rest
-
-loaded-is : (b : List ℕ) → is_loaded_kind b ≡ true → loaded_bytes b ≡ record { segments = segments_of b; images = map (segment_image b) (filter is_load (segments_of b)) }
-unfolding loaded_bytes
-loaded-is b loaded = rw loaded refl
-
-segments-are : (b : List ℕ) → segments_of b ≡ tabulate (nth_segment b) (e_phnum b)
-unfolding segments_of
-segments-are b = refl
 
 pub kind-same : (out b : List ℕ) → e_type out ≡ e_type b → is_loaded_kind out ≡ is_loaded_kind b
 kind-same out b same = rw same refl

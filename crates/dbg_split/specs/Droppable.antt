@@ -1,21 +1,12 @@
 -- Which sections of a file that is split are in the debug file alone: this project's profile, over the sections of gABI
 -- ch. 4 "Sections" and "Special Sections".
-use Rattle.std.specs.Prelude.{Bool, ℕ, ◌==◌, ◌&&◌, ◌||◌, not, nat_eq, nat_lt, codes, List}
-use Rattle.std.specs.List.{list_any, starts_with}
+use Rattle.std.specs.Prelude.{Bool, ℕ, ◌==◌, ◌&&◌, ◌||◌, not, nat_lt, List}
+use Rattle.std.specs.List.{list_any}
 use Rattle.dw_base.specs.Elf.{nth_section, section_count, section_name, sections_of, name_index}
 use Rattle.dw_base.specs.Layout.{is_alloc, is_loaded_kind}
-use Rattle.dw_base.specs.SectionNames.{debug_prefix}
-use Rattle.dw_base.specs.Texts.{same_text}
+use Rattle.dw_base.specs.SectionNames.{is_debug_only_name}
 use Rattle.dw_base.specs.declared.elf_numbers.TheConstants.{SHT_SYMTAB, SHT_STRTAB, SHT_RELA, SHT_REL, SHT_SYMTAB_SHNDX}
 use Rattle.dw_base.specs.declared.records.Section.{Section}
-
--- the index of GDB, which is made of debug data
-abbrev pub gdb_index : List ℕ
-gdb_index = codes ".gdb_index"
-
--- the name of a section of debug data, or of the index of GDB
-abbrev pub is_debug_only_name : List ℕ → Bool
-is_debug_only_name name = starts_with nat_eq name debug_prefix || same_text name gdb_index
 
 -- the section may be dropped: it isn't section 0, not in the image of the running program, and not the section name table
 abbrev pub may_drop : List ℕ → ℕ → Bool

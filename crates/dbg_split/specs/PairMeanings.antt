@@ -1,19 +1,12 @@
--- What a view means that isn't that of one file, and that a pair means what the file meant that was split.
+-- A pair means what the file meant that was split.
 use Rattle.std.specs.Prelude.{◌≡◌, ℕ, List}
 use Rattle.dw_base.specs.DebugData.{DataReadings}
-use Rattle.dw_base.specs.FileViews.{View, view_of}
+use Rattle.dw_base.specs.FileViews.{view_of}
 use Rattle.dw_base.specs.RelocationRows.{moving_sections}
 use Rattle.dw_base.specs.ViewData.{Meaning, debug_data, meaning_of}
 use Rattle.dw_base.specs.ViewFails.{ViewReads}
-use Rattle.dw_meaning.specs.DataOutput.{DataReads}
-use Rattle.dw_meaning.specs.FileMeanings.{Means}
+use Rattle.dw_meaning.specs.FileMeanings.{Means, ViewMeans}
 use Rattle.dw_view.specs.PairViews.{pair_view}
-
--- the debug data of a view can be read, and mean this
-pub record ViewMeans (v : View) (x : Meaning) : Type 0 where
-  pub readings : DataReadings
-  pub reads : DataReads (debug_data v) readings
-  pub says : meaning_of v readings ≡ x
 
 -- the pair has the debug data of the file `b`, with the same sections whose places change, and means the same, however they are read; so where
 -- the file means something the pair means that, and nothing else

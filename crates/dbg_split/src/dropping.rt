@@ -2,7 +2,8 @@
 
 ghost use Rattle.std.specs.Prelude.{◌≡◌, ◌<◌, ◌==◌, ◌||◌, ◌&&◌, true, false};
 ghost use Rattle.dw_base.specs.Elf.{nth_section, section_count, section_name};
-ghost use Rattle.dbg_split.specs.Droppable.{drops_along, drops_itself, is_debug_only_name, is_droppable, is_relocations, is_symbol_strings, links_symbols, may_drop, names_dropped, names_symbols};
+ghost use Rattle.dbg_split.specs.Droppable.{drops_along, drops_itself, is_droppable, is_relocations, is_symbol_strings, links_symbols, may_drop, names_dropped, names_symbols};
+ghost use Rattle.dw_base.specs.SectionNames.{is_debug_only_name};
 
 use crate::names::{is_named, is_named_from};
 use dw_base::Section;

@@ -6,7 +6,7 @@ use Rattle.dw_base.specs.Layout.{is_alloc, is_loaded_kind}
 use Rattle.dw_base.specs.declared.elf_numbers.TheConstants.{SHT_NULL, SHT_NOBITS}
 use Rattle.dw_base.specs.declared.records.Section.{Section}
 use Rattle.dbg_split.specs.DebugFile.{becomes_nobits}
-use Rattle.dbg_split.specs.Droppable.{drops_along, drops_itself, is_debug_only_name, is_droppable, is_symbol_strings, may_drop, names_dropped, names_symbols, speaks_of_dropped}
+use Rattle.dbg_split.specs.Droppable.{drops_along, drops_itself, is_droppable, is_symbol_strings, may_drop, names_dropped, names_symbols, speaks_of_dropped}
 use Rattle.dbg_split.specs.StrippedFile.{kept_before}
 use Rattle.dbg_split.specs.StrippedReads.{IsKept, ReadsStripped}
 use Rattle.dbg_split.proofs.JoinLaws.{IsPair, alloc-debug, eq-false, eq-is, kind-debug, never, nobits-kept}
@@ -17,6 +17,7 @@ use Rattle.dbg_unstrip.specs.Joined.{kept_place, partner_number}
 use Rattle.dbg_unstrip.specs.Matching.{is_kept, link_number, partner_sections}
 use Rattle.dbg_unstrip.proofs.MatchLaws.{first-own, partner_count, partner_is}
 use Rattle.dbg_unstrip.proofs.NumberLaws.{length-with, length-without}
+use Rattle.dw_base.specs.SectionNames.{is_debug_only_name}
 
 -- what is said of a droppable section, by Booleans
 may-of : (l m x y : Bool) → (l && ((m && x) || (m && y))) ≡ true → m ≡ true

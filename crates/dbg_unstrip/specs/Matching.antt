@@ -4,9 +4,8 @@
 use Rattle.std.specs.Prelude.{Bool, false, ◌≡◌, ◌≢◌, ℕ, zero, suc, ◌-◌, ◌<◌, ◌≤◌, ◌==◌, ◌&&◌, ◌||◌, not, if◌then◌else◌, List, [], ◌∷◌, ◌++◌, length, slice_index}
 use Rattle.dw_base.specs.Elf.{class_of, order_of, ehdr_size, e_type, e_machine, is_empty_kind, name_index, nth_section, section_count, section_name}
 use Rattle.dw_base.specs.Layout.{is_alloc}
-use Rattle.dw_base.specs.SectionNames.{debug_link}
+use Rattle.dw_base.specs.SectionNames.{debug_link, is_debug_only_name}
 use Rattle.dw_base.specs.declared.records.Section.{Section}
-use Rattle.dbg_split.specs.Droppable.{is_debug_only_name}
 
 -- the numbers below a bound that pass a test, in order
 abbrev pub numbers_below : (ℕ → Bool) → ℕ → List ℕ

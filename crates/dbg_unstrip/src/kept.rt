@@ -2,8 +2,8 @@
 
 ghost use Rattle.std.specs.Prelude.{◌≡◌, ◌<◌};
 ghost use Rattle.dw_base.specs.Elf.{section_count, section_name};
-ghost use Rattle.dbg_split.specs.Droppable.{is_debug_only_name};
 ghost use Rattle.dbg_unstrip.specs.Matching.{is_kept};
+ghost use Rattle.dw_base.specs.SectionNames.{is_debug_only_name};
 
 use dbg_split::{is_named, is_named_from};
 use elf_file::ElfFile;

@@ -1,6 +1,6 @@
 -- Laws of LEB128 numbers: they are read from the last byte back to the first.
 use Rattle.std.proofs.Common.{◌≡◌, ℕ, zero, suc, ◌+◌, ◌-◌, ◌*◌, ◌^◌, ◌<◌, ◌≤◌, ◌⊎◌, ◌%◌, ℤ, pos, negsuc, ◌+ℤ◌, ◌*ℤ◌, ◌<ℤ◌, ◌≤ℤ◌, true, false, nat_lt, List, length, drop, slice_index, Option, Some, None, IfSome, refl, sym, arith, inl, inr, subst, add-one, Bool, ◌∷◌, [], if◌then◌else◌, ◌++◌}
-use Rattle.std.proofs.lemmas.List.{drop_more, drop_all, drop-append-le, drop-drop}
+use Rattle.std.proofs.lemmas.List.{drop_more, drop_all, drop-append-le, drop-drop, length-drop}
 use Rattle.std.proofs.lemmas.Int.{ints}
 use Rattle.std.proofs.Math.Nat.{mod-lt}
 use Rattle.dw_base.specs.Lebs.{uleb, uleb_more, uleb_within, sleb, sleb_more, sleb_last, sleb_within, fits_i64, IsLast, HasNoLast, IsSized, uleb_at, sleb_at}
@@ -164,6 +164,19 @@ uleb_within-size m (Some p) sized = uleb_within-size_cases p.0 p.1 m (nat_lt p.0
 
 pub uleb_at-size : (xs : List ℕ) → IfSome (uleb_within (uleb xs)) (IsSized (length xs))
 uleb_at-size xs = uleb_within-size (length xs) (uleb xs) (uleb-size xs)
+
+-- a number that was read has some bytes, and lies within these
+pub uleb-some : (bytes : List ℕ) (place v n : ℕ) → uleb_at bytes place ≡ Some (v, n) → 0 < n
+unfolding uleb_at
+uleb-some bytes place v n e = (subst (λ (o : Option (ℕ × ℕ)). IfSome o (IsSized (length (drop place bytes)))) e (uleb_at-size (drop place bytes))).some
+
+pub uleb-inside : (bytes : List ℕ) (place v n : ℕ) → uleb_at bytes place ≡ Some (v, n) → place + n ≤ length bytes
+unfolding uleb_at
+uleb-inside bytes place v n e =
+    let s : IsSized (length (drop place bytes)) (v, n) = subst (λ (o : Option (ℕ × ℕ)). IfSome o (IsSized (length (drop place bytes)))) e (uleb_at-size (drop place bytes)) in
+    let some = s.some in
+    let within = s.within in
+    omega (arith, some, within, length-drop place bytes)
 
 -- the same for signed numbers
 sleb_more-size : (b m : ℕ) (o : Option (ℤ × ℕ)) → IfSome o (IsSized m) → IfSome (sleb_more b o) (IsSized (suc m))

@@ -67,3 +67,6 @@ pub mod OperationLaws
 pub mod RelocationBodyLaws
 pub mod MacroRowLaws
 pub mod WorkedMacroUnits
+pub mod HeaderOfLaws
+pub mod StartFormLaws
+pub mod TableRelocationLaws

@@ -90,13 +90,13 @@ unit-same v section start u w m n =
     (subst (λ (h : MacroHeader). unit_operation v section start h.width n.last ≡ Ok (End, n.end)) same n.ends) in
     m.is ∙ ap (unit_with v section start m.header) end ∙ ap (λ (h : MacroHeader). unit_with v section start h n.end) (sym same) ∙ sym n.is
 
--- a header has bytes
 at_most : (m n : ℕ) → nat_le m n ≡ true → m ≤ n
 at_most m n e = grind (arith, nat_tests)
 
-header-inside : (order : Order) (bytes : List ℕ) (start : ℕ) (h : MacroHeader) → macro_header order bytes start ≡ Some h → start + 3 ≤ length bytes
+-- a header has bytes
+pub macro_header-inside : (order : Order) (bytes : List ℕ) (start : ℕ) (h : MacroHeader) → macro_header order bytes start ≡ Some h → start + 3 ≤ length bytes
 unfolding macro_header
-header-inside order bytes start h e = by_test (nat_le (start + 3) (length bytes)) refl e
+macro_header-inside order bytes start h e = by_test (nat_le (start + 3) (length bytes)) refl e
   where
     by_test : (b : Bool) → nat_le (start + 3) (length bytes) ≡ b
         → (if b then header_of bytes (spelled order bytes start 2) (slice_index bytes (start + 2)) (start + 3) else None) ≡ Some h → start + 3 ≤ length bytes
@@ -132,7 +132,7 @@ units-reach v section list place (more_units before c start u is) =
 -- none starts at the section's end
 end-stops : (v : View) (section : ℕ) (list : List MacroUnit) → Stops (NextUnit v section) (read_to list (length (section_bytes v section)))
 end-stops v section list t n =
-    let inside = header-inside v.order (section_bytes v section) (length (section_bytes v section)) n.is.header n.is.header_is in
+    let inside = macro_header-inside v.order (section_bytes v section) (length (section_bytes v section)) n.is.header n.is.header_is in
     absurd (omega (arith, inside))
 
 -- where a unit is refused, none can be read

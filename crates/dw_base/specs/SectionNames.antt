@@ -1,5 +1,6 @@
 -- Sections by name (gABI ch. 4 "Special Sections"; DWARF 5, Appendix B).
-use Rattle.std.specs.Prelude.{ℕ, suc, codes, if◌then◌else◌, List, [], ◌∷◌}
+use Rattle.std.specs.Prelude.{Bool, ℕ, suc, codes, nat_eq, ◌||◌, if◌then◌else◌, List, [], ◌∷◌}
+use Rattle.std.specs.List.{starts_with}
 use Rattle.dw_base.specs.Elf.{section_count, section_name, contents_of}
 use Rattle.dw_base.specs.Lists.{tabulate}
 use Rattle.dw_base.specs.Texts.{is_in, same_text}
@@ -19,6 +20,14 @@ debug_str = codes ".debug_str"
 -- what the name of each section of debug data begins with
 abbrev pub debug_prefix : List ℕ
 debug_prefix = codes ".debug_"
+
+-- the index of GDB, which is made of debug data
+abbrev pub gdb_index : List ℕ
+gdb_index = codes ".gdb_index"
+
+-- the name of a section of debug data, or of the index of GDB
+abbrev pub is_debug_only_name : List ℕ → Bool
+is_debug_only_name name = starts_with nat_eq name debug_prefix || same_text name gdb_index
 
 -- what the name of a section of compressed debug data of the older kind begins with
 abbrev pub zdebug_prefix : List ℕ

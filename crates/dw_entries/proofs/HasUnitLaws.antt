@@ -19,7 +19,7 @@ use Rattle.dw_base.proofs.ViewCellLaws.{bytes_of-view_cells}
 use Rattle.dw_base.proofs.UnitHeaderLaws.{if-inside}
 use Rattle.dw_base.proofs.UnitRowLaws.{header_if-same}
 use Rattle.dw_entries.specs.Fronts.{IsOfView}
-use Rattle.dw_entries.specs.ScanStates.{HasGiven, ScanFits, scan_start}
+use Rattle.dw_entries.specs.ScanStates.{ScanState, HasGiven, ScanFits, scan_start}
 use Rattle.dw_entries.specs.ViewUnits.{IsUnitSection, numbered, section_or_empty, unit_section_at}
 use Rattle.dw_entries.proofs.OffsetLaws.{length-contents}
 use Rattle.dw_entries.proofs.UnitSectionLaws.{numbered-above, of-view}
@@ -159,3 +159,23 @@ scan-fits v h table bs u is small =
 pub scan-starts : (v : View) (h : UnitHeader) (table : List Abbreviation) (bs : List ℕ) → IsUnitOfView v h → bs ≡ section_bytes v h.section
     → scan_start h table (take h.end bs) ≡ scan_start h table (bytes_up_to (unit_section_at v h.section) h)
 scan-starts v h table bs u is = ap (scan_start h table) (ap (take h.end) is ∙ u.bytes)
+
+-- its bytes up to its end
+pub unit-bytes : (v : View) (h : UnitHeader) (bs : List ℕ) → HasUnit (debug_data v) (unit_section_at v h.section) h → bs ≡ section_bytes v h.section
+    → take h.end bs ≡ bytes_up_to (unit_section_at v h.section) h
+unit-bytes v h bs u is = ap (take h.end) is ∙ (unit-of-view v h u).bytes
+
+pub unit-length : (v : View) (h : UnitHeader) (bs : List ℕ) → HasUnit (debug_data v) (unit_section_at v h.section) h → bs ≡ section_bytes v h.section
+    → h.end ≡ length (take h.end bs)
+unit-length v h bs u is = scan-end v h bs (unit-of-view v h u) is
+
+pub unit-starts : (v : View) (h : UnitHeader) (table : List Abbreviation) (bs : List ℕ) (s : ScanState) → HasUnit (debug_data v) (unit_section_at v h.section) h
+    → bs ≡ section_bytes v h.section → s ≡ scan_start h table (bytes_up_to (unit_section_at v h.section) h) → s ≡ scan_start h table (take h.end bs)
+unit-starts v h table bs s u is e = e ∙ ap (scan_start h table) (sym (unit-bytes v h bs u is))
+
+pub first-inside : (v : View) (h : UnitHeader) (bs : List ℕ) → HasUnit (debug_data v) (unit_section_at v h.section) h → bs ≡ section_bytes v h.section
+    → h.first ≤ length (take h.end bs)
+first-inside v h bs u is =
+    let end = unit-length v h bs u is in
+    let ends = (unit-of-view v h u).ends in
+    omega (arith, end, ends)

@@ -16,3 +16,4 @@ pub mod CallerLaws
 pub mod SectionOrderLaws
 pub mod SectionListLaws
 pub mod TableLaws
+pub mod LastEntryLaws

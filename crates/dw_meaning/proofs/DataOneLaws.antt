@@ -4,8 +4,8 @@ use Rattle.dw_meaning.specs.DataOutput.{DataReads}
 use Rattle.dw_base.specs.DebugData.{DebugData, DataReadings, line_source, units_in, ReadsAll}
 use Rattle.dw_base.specs.LineReadings.{LineReading}
 use Rattle.dw_base.specs.Readings.{Reading, Readings}
-use Rattle.dw_meaning.specs.FileMeanings.{file_data, Means}
-use Rattle.dw_base.specs.FileViews.{view_of}
+use Rattle.dw_meaning.specs.FileMeanings.{file_data, Means, ViewMeans}
+use Rattle.dw_base.specs.FileViews.{View, view_of}
 use Rattle.dw_base.specs.Cells.{Cell}
 use Rattle.dw_base.specs.NamePieces.{NameState, at_table, names_at, name_grammar, ReadsNames}
 use Rattle.dw_base.specs.OffsetPieces.{OffsetState, at_contribution, offsets_at, offset_grammar, ReadsOffsets}
@@ -15,7 +15,7 @@ use Rattle.dw_base.specs.Pieces.{Piece}
 use Rattle.dw_base.specs.UnitHeaders.{UnitBase, UnitSection}
 use Rattle.dw_base.specs.UnitPieces.{ReadsUnits, unit_grammar}
 use Rattle.dw_base.specs.UnitStates.{UnitState, before_unit}
-use Rattle.dw_base.specs.ViewData.{Meaning, meaning_of}
+use Rattle.dw_base.specs.ViewData.{Meaning, debug_data, meaning_of}
 use Rattle.dw_base.specs.MacroReadings.{MacroReading}
 use Rattle.dw_base.specs.declared.debug_sections.DebugSection.TheVariants.{Info, StrOffsets, Macro, Names}
 use Rattle.dw_meaning.proofs.LineOneLaws.{tables-one}
@@ -82,7 +82,10 @@ data-one d r q a b =
     ∙ ap (λ (x : List MacroReading). readings_with q.units q.offsets q.lines x r.names) (all-macros-one d.base.order (d.found Macro) r.macros q.macros a.macros b.macros)
     ∙ ap (readings_with q.units q.offsets q.lines q.macros) (names-one d.base.order (d.found Names).contents r.names q.names a.names b.names)
 
--- whatever is read in a file says the same
+-- whatever is read in a view says the same, and so in a file
+pub view-means-one : (v : View) (x y : Meaning) → ViewMeans v x → ViewMeans v y → x ≡ y
+view-means-one v x y one other = sym one.says ∙ ap (meaning_of v) (data-one (debug_data v) one.readings other.readings one.reads other.reads) ∙ other.says
+
 pub means-one : (b : List ℕ) (x y : Meaning) → Means b x → Means b y → x ≡ y
 means-one b x y one other =
     sym one.says ∙ ap (meaning_of (view_of b)) (data-one (file_data b) one.readings other.readings one.reads.data_reads other.reads.data_reads) ∙ other.says

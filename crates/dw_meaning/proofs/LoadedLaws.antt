@@ -24,7 +24,7 @@ use Rattle.dw_base.proofs.ReadsBackLaws.{tabulate-ext}
 use Rattle.dw_base.proofs.WrittenLaws.{with_number-kept, shoff_place-within}
 
 -- what is left out is left out of both, and the other bytes are the same
-unless-same : (left : Bool) (x y : ℕ) → (left ≡ false → x ≡ y) → unless_left_out left x ≡ unless_left_out left y
+pub unless-same : (left : Bool) (x y : ℕ) → (left ≡ false → x ≡ y) → unless_left_out left x ≡ unless_left_out left y
 unless-same true x y same = refl
 unless-same false x y same = ap (λ (n : ℕ). Some n) (same refl)
 
@@ -33,7 +33,7 @@ or-left true q h = let no : true ≡ false = h in cc
 or-left false q h = refl
 
 -- a place that isn't one of some lies before them or behind them
-outside : (at n place : ℕ) → lies_within at n place ≡ false → (place < at) ⊎ (at + n ≤ place)
+pub outside : (at n place : ℕ) → lies_within at n place ≡ false → (place < at) ⊎ (at + n ≤ place)
 outside at n place none =
     elim (cases_lt place at) [
       | inl before ↦ inl before
@@ -47,7 +47,7 @@ outside at n place none =
           ]
     ]
 
-before-none : (at n place : ℕ) → place < at → lies_within at n place ≡ false
+pub before-none : (at n place : ℕ) → place < at → lies_within at n place ≡ false
 before-none at n place lt = rw (lt-leb_false at place lt) refl
   where
     lt-leb_false : (at place : ℕ) → place < at → nat_le at place ≡ false
@@ -156,7 +156,7 @@ image-same b out bodies i elf kind none back same lt =
     loaded_byte-same b out bodies (s.offset + k) elf kind none back same (omega arith))
 
 -- of each segment that is loaded
-abbrev EachSegment : (Segment → Type 0) → List Segment → Type 0
+abbrev pub EachSegment : (Segment → Type 0) → List Segment → Type 0
 EachSegment P [] = ⊤
 EachSegment P (s ∷ ss) = P s × EachSegment P ss
 
@@ -164,11 +164,11 @@ each-push : (P : Segment → Type 0) (ss : List Segment) (s : Segment) → EachS
 each-push P [] s all one = (one, tt)
 each-push P (x ∷ ss) s all one = (all.0, each-push P ss s all.1 one)
 
-tabulate-each : (P : Segment → Type 0) (f : ℕ → Segment) (n : ℕ) → ((i : ℕ) → i < n → P (f i)) → EachSegment P (tabulate f n)
+pub tabulate-each : (P : Segment → Type 0) (f : ℕ → Segment) (n : ℕ) → ((i : ℕ) → i < n → P (f i)) → EachSegment P (tabulate f n)
 tabulate-each P f zero each = tt
 tabulate-each P f (suc n) each = each-push P (tabulate f n) (f n) (tabulate-each P f n (λ i lt. each i (omega arith))) (each n (omega arith))
 
-images-same : (b out : List ℕ) (ss : List Segment) → EachSegment (λ s. segment_image out s ≡ segment_image b s) ss
+pub images-same : (b out : List ℕ) (ss : List Segment) → EachSegment (λ s. segment_image out s ≡ segment_image b s) ss
     → map (segment_image out) (filter is_load ss) ≡ map (segment_image b) (filter is_load ss)
 images-same b out [] each = refl
 images-same b out (s ∷ ss) each = by_load (is_load s) each.0 (images-same b out ss each.1)
@@ -178,11 +178,11 @@ images-same b out (s ∷ ss) each = by_load (is_load s) each.0 (images-same b ou
     by_load true one rest = rw (one, rest) refl
     by_load false one rest = rest
 
-loaded-is : (b : List ℕ) → is_loaded_kind b ≡ true → loaded_bytes b ≡ record { segments = segments_of b; images = map (segment_image b) (filter is_load (segments_of b)) }
+pub loaded-is : (b : List ℕ) → is_loaded_kind b ≡ true → loaded_bytes b ≡ record { segments = segments_of b; images = map (segment_image b) (filter is_load (segments_of b)) }
 unfolding loaded_bytes
 loaded-is b kind = rw kind refl
 
-segments-are : (b : List ℕ) → segments_of b ≡ tabulate (nth_segment b) (e_phnum b)
+pub segments-are : (b : List ℕ) → segments_of b ≡ tabulate (nth_segment b) (e_phnum b)
 unfolding segments_of
 segments-are b = refl
 

@@ -9,8 +9,8 @@ use Rattle.dw_base.specs.SectionRelocations.{PlacedRelocation, RelocationSource,
 use Rattle.dw_base.specs.declared.relocations.Reloc.{Reloc}
 use Rattle.dw_base.proofs.RelocationBodyLaws.{CanMove, Counts, after-body, moved_record, new_place, nth_record}
 use Rattle.dw_base.proofs.RelocationTieLaws.{get_or-records, length-records, record-some, with_table}
+use Rattle.dw_base.proofs.TableRelocationLaws.{among-record}
 use Rattle.dw_meaning.proofs.RecordMoveLaws.{begins-below}
-use Rattle.dw_meaning.proofs.TableMoveLaws.{among-record}
 
 -- a relocation among those of a table is that of a record
 record OfNumber (g : RelocationSource) (rs : List Reloc) (r : PlacedRelocation) : Type 0 where

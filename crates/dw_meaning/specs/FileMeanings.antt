@@ -5,7 +5,7 @@ use Rattle.dw_base.specs.DebugData.{DebugData, DataReadings}
 use Rattle.dw_base.specs.DebugSectionFails.{DebugSectionsRead}
 use Rattle.dw_base.specs.Elf.{contents_of}
 use Rattle.dw_base.specs.ElfFails.{ElfReads}
-use Rattle.dw_base.specs.FileViews.{view_of}
+use Rattle.dw_base.specs.FileViews.{View, view_of}
 use Rattle.dw_base.specs.Layout.{with_bodies}
 use Rattle.dw_base.specs.Paths.{PathMap}
 use Rattle.dw_base.specs.RelocationSectionFails.{relocates_read}
@@ -30,6 +30,12 @@ pub record Means (b : List ℕ) (x : Meaning) : Type 0 where
   pub readings : DataReadings
   pub reads : FileReads b readings
   pub says : meaning_of (view_of b) readings ≡ x
+
+-- the debug data of a view, which may be that of a pair, can be read, and mean this
+pub record ViewMeans (v : View) (x : Meaning) : Type 0 where
+  pub readings : DataReadings
+  pub reads : DataReads (debug_data v) readings
+  pub says : meaning_of v readings ≡ x
 
 -- the body of the section of a number in the output, where it holds no relocations of one that is read
 unfoldable pub new_body : PathMap → List ℕ → DataReadings → ℕ → List ℕ

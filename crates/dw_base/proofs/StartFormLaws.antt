@@ -4,17 +4,18 @@ use Rattle.std.proofs.Common.{Bool, true, false, ◌≡◌, ◌≢◌, ◌⊎◌
 use Rattle.std.proofs.lemmas.Bool.{and_parts, eqb-true, ne_eqb}
 use Rattle.dw_base.specs.Forms.{ValueKind, number_of, form_in_front, FormRow, form_rows, kind_by, kind_in, width_size}
 use Rattle.dw_base.specs.Lebs.{uleb_at}
-use Rattle.dw_base.specs.Roles.{Use, names_path, names_line_table, names_macro_unit, names_other, is_line_start, is_macro_start, is_path, use_of, is_unit_tag}
-use Rattle.dw_base.specs.TableStarts.{can_start, macro_value_by, start_form_by}
+use Rattle.dw_base.specs.Roles.{is_line_start, is_macro_start, is_path, use_of, is_unit_tag, is_macros}
+use Rattle.dw_base.specs.TableStarts.{can_start, macro_value_by, start_form_by, is_start_form, own_form}
 use Rattle.dw_base.specs.UnitStates.{read_value}
 use Rattle.dw_base.specs.declared.dwarf_numbers.TheConstants.{DW_AT_stmt_list, DW_AT_macros, DW_AT_GNU_macros, DW_FORM_data4, DW_FORM_data8, DW_FORM_indirect, DW_FORM_sec_offset}
 use Rattle.dw_base.specs.declared.shared.Params.{Params}
 use Rattle.dw_base.specs.declared.shared.Width.{Width}
 use Rattle.dw_base.specs.declared.shared.Width.TheVariants.{W32, W64}
+use Rattle.dw_base.specs.declared.values.AttributeUse.{AttributeUse}
+use Rattle.dw_base.specs.declared.values.AttributeUse.TheVariants.{NamesPath, NamesLineTable, NamesMacroUnit, NamesOther}
 use Rattle.dw_base.specs.declared.values.Spec.{Spec}
 use Rattle.dw_base.specs.declared.values.ValueClass.{ValueClass}
 use Rattle.dw_base.specs.declared.values.ValueClass.TheVariants.{Number, SecOffset}
-use Rattle.dw_find.specs.TextPlaces.{is_macros, is_start_form, own_form}
 
 -- in the table of forms the kinds that can say a start are those of these forms, and one form stands in front of values
 abbrev is_front : ValueKind → Bool
@@ -71,7 +72,7 @@ pub record StartKind (params : Params) (form : ℕ) : Type 0 where
   pub size : ℕ
   pub kind_is : kind_in params form ≡ number_of class size
   pub sized : (size ≡ 4) ⊎ (size ≡ 8)
-  pub says : is_line_start names_line_table class size ≡ true
+  pub says : is_line_start NamesLineTable class size ≡ true
 
 width-sized : (w : Width) → (width_size w ≡ 4) ⊎ (width_size w ≡ 8)
 width-sized W32 = inl refl
@@ -154,82 +155,82 @@ list-path number tag = and-false (number == 0 && is_unit_tag tag)
 pub line-path : (number tag name : ℕ) → (name == DW_AT_stmt_list) ≡ true → is_path number tag name ≡ false
 line-path number tag name e = ap (is_path number tag) (eqb-true name DW_AT_stmt_list e) ∙ list-path number tag
 
-pub line-use : (number tag name : ℕ) → (name == DW_AT_stmt_list) ≡ true → use_of number tag name ≡ names_line_table
+pub line-use : (number tag name : ℕ) → (name == DW_AT_stmt_list) ≡ true → use_of number tag name ≡ NamesLineTable
 line-use number tag name e =
-    ap (λ (b : Bool). cond b names_path (cond (name == DW_AT_stmt_list) names_line_table (cond (name == DW_AT_macros || name == DW_AT_GNU_macros) names_macro_unit names_other)))
+    ap (λ (b : Bool). cond b NamesPath (cond (name == DW_AT_stmt_list) NamesLineTable (cond (name == DW_AT_macros || name == DW_AT_GNU_macros) NamesMacroUnit NamesOther)))
     (line-path number tag name e)
-    ∙ ap (λ (b : Bool). cond b names_line_table (cond (name == DW_AT_macros || name == DW_AT_GNU_macros) names_macro_unit names_other)) e
+    ∙ ap (λ (b : Bool). cond b NamesLineTable (cond (name == DW_AT_macros || name == DW_AT_GNU_macros) NamesMacroUnit NamesOther)) e
 
 -- a use that is no line table's, and one that is no macro unit's either
-abbrev pub is_other_use : Use → Bool
-is_other_use names_line_table = false
+abbrev pub is_other_use : AttributeUse → Bool
+is_other_use NamesLineTable = false
 is_other_use u = true
 
-abbrev pub is_plain_use : Use → Bool
-is_plain_use names_line_table = false
-is_plain_use names_macro_unit = false
+abbrev pub is_plain_use : AttributeUse → Bool
+is_plain_use NamesLineTable = false
+is_plain_use NamesMacroUnit = false
 is_plain_use u = true
 
-pub plain-other : (u : Use) → is_plain_use u ≡ true → is_other_use u ≡ true
-plain-other names_line_table e = absurd cc
-plain-other names_macro_unit e = refl
-plain-other names_path e = refl
-plain-other names_other e = refl
+pub plain-other : (u : AttributeUse) → is_plain_use u ≡ true → is_other_use u ≡ true
+plain-other NamesLineTable e = absurd cc
+plain-other NamesMacroUnit e = refl
+plain-other NamesPath e = refl
+plain-other NamesOther e = refl
 
 pub plain-use : (number tag name : ℕ) → (name == DW_AT_stmt_list) ≡ false → is_macros name ≡ false → is_plain_use (use_of number tag name) ≡ true
 plain-use number tag name e f =
-    ap (λ (b : Bool). is_plain_use (cond (is_path number tag name) names_path (cond b names_line_table (cond (is_macros name) names_macro_unit names_other)))) e
-    ∙ ap (λ (b : Bool). is_plain_use (cond (is_path number tag name) names_path (cond b names_macro_unit names_other))) f
+    ap (λ (b : Bool). is_plain_use (cond (is_path number tag name) NamesPath (cond b NamesLineTable (cond (is_macros name) NamesMacroUnit NamesOther)))) e
+    ∙ ap (λ (b : Bool). is_plain_use (cond (is_path number tag name) NamesPath (cond b NamesMacroUnit NamesOther))) f
     ∙ by_path (is_path number tag name)
   where
-    by_path : (path : Bool) → is_plain_use (cond path names_path names_other) ≡ true
+    by_path : (path : Bool) → is_plain_use (cond path NamesPath NamesOther) ≡ true
     by_path true = refl
     by_path false = refl
 
-pub plain-starts : (k : ValueKind) (u : Use) → is_plain_use u ≡ true → start_form_by k u ≡ true
-plain-starts k names_line_table plain = absurd cc
-plain-starts k names_macro_unit plain = absurd cc
-plain-starts k names_path plain = by_kind k
+pub plain-starts : (k : ValueKind) (u : AttributeUse) → is_plain_use u ≡ true → start_form_by k u ≡ true
+plain-starts k NamesLineTable plain = absurd cc
+plain-starts k NamesMacroUnit plain = absurd cc
+plain-starts k NamesPath plain = by_kind k
   where
-    by_kind : (x : ValueKind) → start_form_by x names_path ≡ true
+    by_kind : (x : ValueKind) → start_form_by x NamesPath ≡ true
     by_kind form_in_front = refl
     by_kind x = refl
-plain-starts k names_other plain = by_kind k
+plain-starts k NamesOther plain = by_kind k
   where
-    by_kind : (x : ValueKind) → start_form_by x names_other ≡ true
+    by_kind : (x : ValueKind) → start_form_by x NamesOther ≡ true
     by_kind form_in_front = refl
     by_kind x = refl
 
-plain-number : (u : Use) (class : ValueClass) (n : ℕ) → is_plain_use u ≡ true → is_macro_start u class n ≡ false
-plain-number names_line_table class n plain = absurd cc
-plain-number names_macro_unit class n plain = absurd cc
-plain-number names_path class n plain = refl
-plain-number names_other class n plain = refl
+plain-number : (u : AttributeUse) (class : ValueClass) (n : ℕ) → is_plain_use u ≡ true → is_macro_start u class n ≡ false
+plain-number NamesLineTable class n plain = absurd cc
+plain-number NamesMacroUnit class n plain = absurd cc
+plain-number NamesPath class n plain = refl
+plain-number NamesOther class n plain = refl
 
-pub plain-macro : (k : ValueKind) (u : Use) → is_plain_use u ≡ true → macro_value_by k u ≡ false
+pub plain-macro : (k : ValueKind) (u : AttributeUse) → is_plain_use u ≡ true → macro_value_by k u ≡ false
 plain-macro (number_of class n) u plain = plain-number u class n plain
 plain-macro k u plain = refl
 
-pub line-starts : (k : ValueKind) → k ≢ form_in_front → start_form_by k names_line_table ≡ can_start k
+pub line-starts : (k : ValueKind) → k ≢ form_in_front → start_form_by k NamesLineTable ≡ can_start k
 line-starts form_in_front other = absurd (other refl)
 line-starts k other = refl
 
-pub line-macro : (k : ValueKind) → macro_value_by k names_line_table ≡ false
+pub line-macro : (k : ValueKind) → macro_value_by k NamesLineTable ≡ false
 line-macro (number_of class n) = refl
 line-macro k = refl
 
 -- an attribute that says where a macro unit starts
-same-class : (class : ValueClass) (n : ℕ) → is_macro_start names_macro_unit class n ≡ is_line_start names_line_table class n
+same-class : (class : ValueClass) (n : ℕ) → is_macro_start NamesMacroUnit class n ≡ is_line_start NamesLineTable class n
 same-class SecOffset n = refl
 same-class Number n = refl
 same-class class n = refl
 
-pub macro-starts : (k : ValueKind) → k ≢ form_in_front → start_form_by k names_macro_unit ≡ can_start k
+pub macro-starts : (k : ValueKind) → k ≢ form_in_front → start_form_by k NamesMacroUnit ≡ can_start k
 macro-starts form_in_front other = absurd (other refl)
 macro-starts (number_of class n) other = same-class class n
 macro-starts k other = refl
 
-pub macro-value : (k : ValueKind) → macro_value_by k names_macro_unit ≡ can_start k
+pub macro-value : (k : ValueKind) → macro_value_by k NamesMacroUnit ≡ can_start k
 macro-value (number_of class n) = same-class class n
 macro-value k = refl
 
@@ -244,11 +245,11 @@ macro-path number tag name e = by (both_or (name == DW_AT_macros) (name == DW_AT
     by (inl is) = ap (is_path number tag) (eqb-true name DW_AT_macros is) ∙ and-false (number == 0 && is_unit_tag tag)
     by (inr is) = ap (is_path number tag) (eqb-true name DW_AT_GNU_macros is) ∙ and-false (number == 0 && is_unit_tag tag)
 
-pub macro-use : (number tag name : ℕ) → (name == DW_AT_stmt_list) ≡ false → is_macros name ≡ true → use_of number tag name ≡ names_macro_unit
+pub macro-use : (number tag name : ℕ) → (name == DW_AT_stmt_list) ≡ false → is_macros name ≡ true → use_of number tag name ≡ NamesMacroUnit
 macro-use number tag name line e =
-    ap (λ (b : Bool). cond b names_path (cond (name == DW_AT_stmt_list) names_line_table (cond (is_macros name) names_macro_unit names_other))) (macro-path number tag name e)
-    ∙ ap (λ (b : Bool). cond b names_line_table (cond (is_macros name) names_macro_unit names_other)) line
-    ∙ ap (λ (b : Bool). cond b names_macro_unit names_other) e
+    ap (λ (b : Bool). cond b NamesPath (cond (name == DW_AT_stmt_list) NamesLineTable (cond (is_macros name) NamesMacroUnit NamesOther))) (macro-path number tag name e)
+    ∙ ap (λ (b : Bool). cond b NamesLineTable (cond (is_macros name) NamesMacroUnit NamesOther)) line
+    ∙ ap (λ (b : Bool). cond b NamesMacroUnit NamesOther) e
 
 pub line-macros : (name : ℕ) → (name == DW_AT_stmt_list) ≡ true → is_macros name ≡ false
 line-macros name e = ap is_macros (eqb-true name DW_AT_stmt_list e)
@@ -264,12 +265,12 @@ macros-line name e = by_name (name == DW_AT_stmt_list) refl
     by_name false is = refl
 
 -- a value that says where a macro unit starts has a form that can
-number-form : (u : Use) (class : ValueClass) (n : ℕ) → is_macro_start u class n ≡ true → start_form_by (number_of class n) u ≡ true
-number-form names_macro_unit class n e = e
-number-form names_line_table class n e = absurd cc
-number-form names_path class n e = absurd cc
-number-form names_other class n e = absurd cc
+number-form : (u : AttributeUse) (class : ValueClass) (n : ℕ) → is_macro_start u class n ≡ true → start_form_by (number_of class n) u ≡ true
+number-form NamesMacroUnit class n e = e
+number-form NamesLineTable class n e = absurd cc
+number-form NamesPath class n e = absurd cc
+number-form NamesOther class n e = absurd cc
 
-pub macro-form : (k : ValueKind) (u : Use) → macro_value_by k u ≡ true → start_form_by k u ≡ true
+pub macro-form : (k : ValueKind) (u : AttributeUse) → macro_value_by k u ≡ true → start_form_by k u ≡ true
 macro-form (number_of class n) u e = number-form u class n e
 macro-form k u e = absurd cc
