@@ -22,11 +22,12 @@ use Rattle.dw_meaning.proofs.DataRowLaws.{scanned-units}
 use Rattle.dw_meaning.proofs.PieceLaws.{leads-chain}
 use Rattle.dw_meaning.proofs.ScanBackLaws.{section-scanned}
 use Rattle.dw_find.proofs.IndexRunLaws.{run-begins}
-use Rattle.dbg_show.specs.PieceRuns.{all_of}
 use Rattle.dbg_show.specs.UnitLists.{IsListed, AreListed, ListsAll, none_listed, more_listed}
 use Rattle.dbg_show.specs.declared.listed_unit.ListedUnit.{ListedUnit}
-use Rattle.dbg_show.proofs.PieceRunLaws.{SaidRun, said-more, said-none, before}
 use Rattle.dw_base.specs.declared.debug_sections.DebugSection.TheVariants.{Info}
+use Rattle.dw_meaning.proofs.RunLaws.{PieceRun, run-more, run-none}
+use Rattle.dw_meaning.proofs.ScanSectionLaws.{before}
+use Rattle.dw_meaning.specs.PieceRuns.{all_of, any_piece}
 
 -- what units say, numbered on
 abbrev pub all_out : {T : Type 0} → (ℕ → ListedUnit → List T) → ℕ → List ListedUnit → List T
@@ -60,7 +61,7 @@ numbered-parts Q n (u ∷ us) vs each =
 abbrev pub UnitOut : {T : Type 0} → DebugData → List (List Abbreviation) → (ℕ → ListedUnit → Type 0) → (Piece UnitState → List T) → UnitSection → (ℕ → ListedUnit → List T) → Type 0
 UnitOut d tables Q F z out = (start unit : ℕ) (h : UnitHeader) (u : ListedUnit) (table : List Abbreviation) (items : List Scanned) → Q unit u → IsUnit d.base z start h
     → IsUnitTable d.base h table → AreEntries h table (bytes_up_to z h) items → IsListed d tables h u
-    → SaidRun F d.base z.contents (before z start unit) (before z h.end (unit + 1)) start h.end (out unit u)
+    → PieceRun (unit_grammar d.base) any_piece F z.contents (before z start unit) (before z h.end (unit + 1)) start h.end (out unit u)
 
 -- the last of listed units
 pub record LastListed (d : DebugData) (tables : List (List Abbreviation)) (hs : List UnitHeader) (h : UnitHeader) (own : List ListedUnit) : Type 0 where
@@ -89,9 +90,9 @@ listed-length d tables (h ∷ hs) (u ∷ us) l = ap suc (listed-length d tables 
 -- the units of a section, one after another
 section-run : {T : Type 0} (d : DebugData) (tables : List (List Abbreviation)) (Q : ℕ → ListedUnit → Type 0) (F : Piece UnitState → List T) (z : UnitSection) (out : ℕ → ListedUnit → List T) (first : ℕ)
     (list : List UnitHeader) (place : ℕ) (own : List ListedUnit) → UnitOut d tables Q F z out → UnitsScanned d.base z list place → AreListed d tables list own
-    → EachNumbered Q first own → SaidRun F d.base z.contents (before z 0 first) (before z place (first + length list)) 0 place (all_out out first own)
+    → EachNumbered Q first own → PieceRun (unit_grammar d.base) any_piece F z.contents (before z 0 first) (before z place (first + length list)) 0 place (all_out out first own)
 section-run {T} d tables Q F z out first list place [] says none_scanned l q =
-    said-none F d.base z.contents (before z 0 first) (before z 0 (first + 0)) 0 (ap (λ (n : ℕ). before z 0 n) (omega arith))
+    run-none (unit_grammar d.base) any_piece F z.contents (before z 0 first) (before z 0 (first + 0)) 0 (ap (λ (n : ℕ). before z 0 n) (omega arith))
 section-run d tables Q F z out first list place (u ∷ us) says none_scanned l q = absurd l
 section-run {T} d tables Q F z out first all z_end own says (more_scanned list h start table items scanned u t entries) l q =
     let r : LastListed d tables list h own = last-listed d tables list h own l in
@@ -102,9 +103,9 @@ section-run {T} d tables Q F z out first all z_end own says (more_scanned list h
     ap (λ (n : ℕ). all_out out first r.front ++ out (first + n) r.last) size
     ∙ ap (λ (t : List T). all_out out first r.front ++ t) (sym (append-nil (out (first + length r.front) r.last)))
     ∙ sym (out-append out first r.front (r.last ∷ [])) ∙ ap (all_out out first) (sym r.is) in
-    subst (λ (t : List T). SaidRun F d.base z.contents (before z 0 first) (before z h.end (first + length (list ++ h ∷ []))) 0 h.end t) whole
-    (subst (λ (n : ℕ). SaidRun F d.base z.contents (before z 0 first) (before z h.end n) 0 h.end (all_out out first r.front ++ out (first + length list) r.last)) count
-    (said-more F d.base z.contents (before z 0 first) (before z start (first + length list)) (before z h.end (first + length list + 1)) 0 start h.end
+    subst (λ (t : List T). PieceRun (unit_grammar d.base) any_piece F z.contents (before z 0 first) (before z h.end (first + length (list ++ h ∷ []))) 0 h.end t) whole
+    (subst (λ (n : ℕ). PieceRun (unit_grammar d.base) any_piece F z.contents (before z 0 first) (before z h.end n) 0 h.end (all_out out first r.front ++ out (first + length list) r.last)) count
+    (run-more (unit_grammar d.base) any_piece F z.contents (before z 0 first) (before z start (first + length list)) (before z h.end (first + length list + 1)) 0 start h.end
     (all_out out first r.front) (out (first + length list) r.last)
     (section-run d tables Q F z out first list start r.front says scanned r.others qs.0)
     (says start (first + length list) h r.last table items (subst (λ (n : ℕ). Q (first + n) r.last) (sym size) qs.1.0) u t entries r.one)))
@@ -126,7 +127,7 @@ section-out {T} d tables Q F z out first pieces own says o q reads =
     let scanned = section-scanned d.base z first pieces reads in
     let same : scanned.0 ≡ o.headers = units-one d.base z scanned.0 o.headers (scanned-units d.base z scanned.0 (length z.contents) scanned.1) o.units in
     let are : AreScanned d.base z o.headers = subst (λ (hs : List UnitHeader). AreScanned d.base z hs) same scanned.1 in
-    let run : SaidRun F d.base z.contents (before z 0 first) (before z (length z.contents) (first + length o.headers)) 0 (length z.contents) (all_out out first own) =
+    let run : PieceRun (unit_grammar d.base) any_piece F z.contents (before z 0 first) (before z (length z.contents) (first + length o.headers)) 0 (length z.contents) (all_out out first own) =
     section-run d tables Q F z out first o.headers (length z.contents) own says are o.listed q in
     let cells : joined run.pieces ≡ z.contents =
     sym (append-nil (joined run.pieces))
@@ -141,7 +142,7 @@ section-out {T} d tables Q F z out first pieces own says o q reads =
     run-begins d.base (before z 0 first) (before z (length z.contents) (first + length o.headers)) run.pieces run.leads in
     let size : length o.headers ≡ length own = listed-length d tables o.headers own o.listed in
     let pieces_same : units_in pieces ≡ units_in run.pieces = ap units_in one in
-    record { says = ap (all_of F) one ∙ run.says; count = omega (arith, begun, size, pieces_same) }
+    record { says = ap (all_of F) one ∙ run.fields; count = omega (arith, begun, size, pieces_same) }
 
 -- all sections, with their own units
 abbrev pub EachOwn : DebugData → List (List Abbreviation) → List UnitSection → List (List ListedUnit) → Type 0

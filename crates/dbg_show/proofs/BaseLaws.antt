@@ -10,10 +10,10 @@ use Rattle.dw_base.specs.declared.values.Spec.{Spec}
 use Rattle.dw_base.specs.declared.values.Value.{Value}
 use Rattle.dw_entries.specs.ScanStates.{ScanState, GivesEntry, GivesNothing, scan_start}
 use Rattle.dw_forms.proofs.InsideLaws.{value_at-inside}
-use Rattle.dw_find.specs.TextPlaces.{own_form}
 use Rattle.dbg_show.specs.ShownUnits.{base_behind, base_number, says_base, values_base, entry_base, first_base, unit_bytes, unit_entries}
 use Rattle.dbg_show.proofs.EntryListLaws.{Fronts, PassAt, pass-starts, pass-front, pass-ends}
 use Rattle.dbg_show.proofs.EntryPassLaws.{bytes-short}
+use Rattle.dw_base.specs.TableStarts.{own_form}
 
 base-one : (v : View) (h : UnitHeader) (bytes : List ℕ) (xs : List Spec) (i place : ℕ) (d : Spec) → i < length xs
     → values_base v h bytes (drop i xs) place

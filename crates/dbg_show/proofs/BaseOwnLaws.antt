@@ -18,19 +18,22 @@ use Rattle.dw_base.specs.declared.units.Scanned.{Scanned}
 use Rattle.dw_base.specs.declared.units.UnitHeader.{UnitHeader}
 use Rattle.dw_base.specs.declared.values.Spec.{Spec}
 use Rattle.dw_base.specs.declared.values.Value.{Value}
-use Rattle.dbg_show.specs.PieceRuns.{all_of, value_out, values_out, listed_out, coded_out, entry_out, entries_out}
 use Rattle.dbg_show.specs.ShownUnits.{UnitSource, base_number, first_base, shown_unit, unit_bytes, unit_entries}
 use Rattle.dbg_show.specs.UnitLists.{ListsAll}
 use Rattle.dbg_show.specs.declared.listed_unit.ListedUnit.{ListedUnit}
 use Rattle.dbg_show.proofs.AllRunLaws.{EachNumbered, EachOut, all_out, all_pieces, all-said-out}
 use Rattle.dbg_show.proofs.BaseRunLaws.{base_says, bases_of, bases-all, class_base, no_base, or_base, unit-base, unit-bases}
-use Rattle.dbg_show.proofs.PieceRunLaws.{SaidRun, before, in_headed, unit-run}
 use Rattle.dbg_show.proofs.PlaceRunLaws.{NoPremise, no-premises}
 use Rattle.dbg_show.proofs.UnitFactLaws.{UnitFacts, unit-facts}
-use Rattle.dw_find.specs.TextPlaces.{own_form}
 use Rattle.dbg_show.proofs.ValueTextLaws.{IsIn}
 use Rattle.dw_base.proofs.ViewCellLaws.{offsets-located}
+use Rattle.dw_base.specs.TableStarts.{own_form}
 use Rattle.dw_base.specs.declared.debug_sections.DebugSection.TheVariants.{Info, StrOffsets}
+use Rattle.dw_meaning.proofs.RunLaws.{PieceRun}
+use Rattle.dw_meaning.proofs.ScanSectionLaws.{before, in_headed}
+use Rattle.dw_meaning.proofs.WholeUnitLaws.{unit-run}
+use Rattle.dw_meaning.specs.PieceRuns.{all_of, value_out, values_out, listed_out, coded_out, entry_out, entries_out, any_piece}
+use Rattle.dw_base.specs.UnitPieces.{unit_grammar}
 
 order-of : (v : View) → (debug_data v).base.order ≡ v.order
 unfolding debug_data
@@ -76,10 +79,10 @@ base-out g z among start unit h u table items q is t entries listed =
     ∙ ap (λ (x : UnitHeader). entries_out no_base (base_says g.view x (unit_bytes g.view x) unit) x.params table (unit_bytes g.view x) 0 (unit_entries x table (unit_bytes g.view x))) f.header_is
     ∙ ap (λ (bs : List ℕ). entries_out no_base (base_says g.view h (unit_bytes g.view h) unit) h.params table bs 0 (unit_entries h table bs)) (sym f.bytes_are)
     ∙ ap (entries_out no_base (base_says g.view h (unit_bytes g.view h) unit) h.params table (bytes_up_to z h) 0) f.items_are in
-    subst (λ (x : List SaidBase). SaidRun (bases_of (debug_data g.view).base.order (offsets_in g.view)) (debug_data g.view).base z.contents (before z start unit)
+    subst (λ (x : List SaidBase). PieceRun (unit_grammar (debug_data g.view).base) any_piece (bases_of (debug_data g.view).base.order (offsets_in g.view)) z.contents (before z start unit)
     (before z h.end (unit + 1)) start h.end x) (sym own)
-    (unit-run (bases_of (debug_data g.view).base.order (offsets_in g.view)) no_base (base_says g.view h (unit_bytes g.view h) unit) (debug_data g.view).base z start unit h table items [] is t
-    entries (λ p e. refl)
+    (unit-run any_piece (bases_of (debug_data g.view).base.order (offsets_in g.view)) no_base (base_says g.view h (unit_bytes g.view h) unit) (debug_data g.view).base z start unit h table items [] is t
+    entries (λ p rest split e. refl) (λ k. tt)
     (unit-bases (offsets_in g.view) (shown_unit g unit h table) z.contents (in_headed (debug_data g.view).base z start unit h) (debug_data g.view).base.order
     (in-shown g z start unit h u table items f) f.order_is (offsets-located g.view)))
 

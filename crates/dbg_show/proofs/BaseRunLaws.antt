@@ -5,7 +5,7 @@ use Rattle.std.proofs.lemmas.Bool.{ne_eqb, eq-eqb}
 use Rattle.dw_base.specs.AbbreviationTables.{Abbreviation, abbreviation_of}
 use Rattle.dw_base.specs.Cells.{Cell, Located, bytes_of, field_of, offset_into, offset_of}
 use Rattle.dw_base.specs.FileViews.{View}
-use Rattle.dw_base.specs.Forms.{ValueKind, number_of, leb_number, signed_leb, block_of, counted, counted_leb, inline_text, text_offset, present, in_abbreviation, form_in_front, supplementary, unlisted, in_str, in_line_str, kind_in}
+use Rattle.dw_base.specs.Forms.{ValueKind, number_of, leb_number, signed_leb, block_of, counted, counted_leb, inline_text, text_offset, present, in_abbreviation, form_in_front, supplementary, unlisted, kind_in}
 use Rattle.dw_base.specs.Lebs.{uleb_at}
 use Rattle.dw_base.specs.Numbers.{number_at, spelled}
 use Rattle.dw_base.specs.Pieces.{Piece}
@@ -24,14 +24,15 @@ use Rattle.dw_base.specs.declared.values.ValueClass.{ValueClass}
 use Rattle.dw_base.specs.declared.values.ValueClass.TheVariants.{Address, Number, Signed, Bytes, Flag, InlineText, StrOffset, LineStrOffset, GlobalRef, SecOffset}
 use Rattle.dw_base.specs.declared.view_fields.Field.{Field}
 use Rattle.dw_meaning.proofs.ScanPieceLaws.{unit_bytes, NumberPiece, number-piece}
-use Rattle.dbg_show.specs.PieceRuns.{all_of, value_out, values_out, listed_out, coded_out, entry_out, entries_out}
 use Rattle.dbg_show.specs.ShownUnits.{ShownUnit, base_behind, base_number, coded_base, entry_base, first_base, is_base_class, listed_base, number_field, value_field, values_base}
-use Rattle.dw_find.specs.TextPlaces.{is_start_form, own_form}
-use Rattle.dw_find.proofs.StartFormLaws.{chosen-form, plain-form}
+use Rattle.dw_base.proofs.StartFormLaws.{chosen-form, plain-form}
 use Rattle.dbg_show.proofs.FormFactLaws.{FormFacts, form-facts, number-plain}
-use Rattle.dbg_show.proofs.PieceRunLaws.{UnitSays}
 use Rattle.dbg_show.proofs.TextSaysLaws.{field-same, unit-small}
 use Rattle.dbg_show.proofs.ValueTextLaws.{IsIn, number-read, leb-read, signed-read, block-read, text-read, own-field, spelled-own}
+use Rattle.dw_base.specs.TableStarts.{is_start_form, own_form}
+use Rattle.dw_base.specs.declared.texts.TextSection.TheVariants.{InStr, InLineStr}
+use Rattle.dw_meaning.proofs.UnitRunLaws.{UnitSays}
+use Rattle.dw_meaning.specs.PieceRuns.{all_of, value_out, values_out, listed_out, coded_out, entry_out, entries_out, any_piece}
 
 -- the base that a number of a class says
 abbrev pub class_base : ValueClass → ℕ → Option ℕ
@@ -134,9 +135,9 @@ kind-base z u cells s order x counted_leb place form v i same at f other is = by
     by_count (Some (k, m)) e = none-base Bytes v.class _ (block-read (unit_bytes s cells) place m k v e).class_is refl
 kind-base z u cells s order x inline_text place form v i same at f other is =
     none-base InlineText v.class _ (text-read (unit_bytes s cells) place v is).class_is refl
-kind-base z u cells s order x (text_offset in_str n) place form v i same at f other is =
+kind-base z u cells s order x (text_offset InStr n) place form v i same at f other is =
     none-base StrOffset v.class _ (number-read StrOffset s.header.params.order (unit_bytes s cells) place n v is).class_is refl
-kind-base z u cells s order x (text_offset in_line_str n) place form v i same at f other is =
+kind-base z u cells s order x (text_offset InLineStr n) place form v i same at f other is =
     none-base LineStrOffset v.class _ (number-read LineStrOffset s.header.params.order (unit_bytes s cells) place n v is).class_is refl
 kind-base z u cells s order x present place form v i same at f other is = by_room (nat_le place (length (unit_bytes s cells))) is
   where
@@ -166,8 +167,9 @@ number-same u form v w at len n =
     ∙ ap (λ (k : ℕ). if is_start_form form then offset_into (located u.source.view StrOffsets) (value_field u form v) else k) n
 
 pub unit-bases : (z : Located) (u : ShownUnit) (cells : List Cell) (s : UnitState) (order : Order) → IsIn cells s u → s.header.params.order ≡ order
-    → z ≡ located u.source.view StrOffsets → UnitSays (bases_of order z) cells s no_base (base_says u.source.view u.header u.bytes s.unit)
+    → z ≡ located u.source.view StrOffsets → UnitSays any_piece (bases_of order z) cells s no_base (base_says u.source.view u.header u.bytes s.unit)
 unit-bases z u cells s order i same at = record {
+  holds = λ m place e d k. tt;
   nulls = λ place e d p zero_. refl;
   codes = λ place e d a p some listed. refl;
   forms = λ place e d n tag x xs p front.

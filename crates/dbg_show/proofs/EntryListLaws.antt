@@ -1,49 +1,19 @@
 -- The entries of a unit, found from its first place on, are those that a pass over the unit meets.
-use Rattle.std.proofs.Common.{Bool, false, zero, suc, ◌≡◌, ℕ, ◌+◌, ◌-◌, ◌<◌, ◌≤◌, List, [], ◌∷◌, ◌++◌, length, drop, Option, Some, None, Result, Ok, Err, refl, sym, ap, ◌∙◌, subst, arith, if◌then◌else◌, append_assoc, append-nil, length-append}
-use Rattle.std.specs.Prelude.{IfSome}
+use Rattle.std.proofs.Common.{Bool, false, zero, suc, ◌≡◌, ℕ, ◌+◌, ◌-◌, ◌<◌, ◌≤◌, List, [], ◌∷◌, ◌++◌, length, Option, Some, None, Result, Ok, Err, refl, sym, ap, ◌∙◌, subst, arith, if◌then◌else◌, append_assoc, append-nil, length-append}
 use Rattle.std.proofs.lemmas.Bool.{ne_eqb}
 use Rattle.dw_base.specs.AbbreviationTables.{Abbreviation, abbreviation_of}
 use Rattle.dw_base.specs.EntryScans.{SpellsValues, no_values, more_values, IsEntry, depth_behind, scanned, Scans, starts, null, entry, AreEntries, EntryFails}
-use Rattle.dw_base.specs.Lebs.{uleb_at, IsSized}
-use Rattle.dw_base.specs.Values.{value_at}
+use Rattle.dw_base.specs.Lebs.{uleb_at}
 use Rattle.dw_base.specs.declared.fault.Refusal.{Refusal}
 use Rattle.dw_base.specs.declared.shared.Params.{Params}
 use Rattle.dw_base.specs.declared.units.Scanned.{Scanned}
 use Rattle.dw_base.specs.declared.units.UnitHeader.{UnitHeader}
 use Rattle.dw_base.specs.declared.values.Spec.{Spec}
-use Rattle.dw_base.specs.declared.values.Value.{Value}
-use Rattle.dw_base.proofs.LebLaws.{uleb_at-size}
+use Rattle.dw_base.proofs.LebLaws.{uleb-inside}
 use Rattle.dw_entries.specs.ScanStates.{ScanState, HasGiven, GivesEntry, GivesRefusal, GivesNothing, Gives, scan_start}
 use Rattle.dw_meaning.proofs.EntryRowLaws.{entries-exclude}
-use Rattle.dw_meaning.proofs.ValueCutLaws.{uleb-inside}
-use Rattle.dbg_show.specs.ShownUnits.{end_behind, values_end, entry_ended, entry_met, code_met, entries_left, unit_entries}
-
--- values that stand one behind another end there
-some-same : {X : Type 0} (a b : X) → Some a ≡ Some b → a ≡ b
-some-same a b e = cc
-
-values_end-append : (params : Params) (bytes : List ℕ) (xs ys : List Spec) (start place : ℕ) → values_end params bytes xs start ≡ Some place
-    → values_end params bytes (xs ++ ys) start ≡ values_end params bytes ys place
-values_end-append params bytes [] ys start place e = ap (values_end params bytes ys) (some-same start place e)
-values_end-append params bytes (x ∷ xs) ys start place e = by_value (value_at params x bytes start) (λ p f. values_end-append params bytes xs ys p place f) e
-  where
-    by_value : (o : Option Value) → ((p : ℕ) → values_end params bytes xs p ≡ Some place → values_end params bytes (xs ++ ys) p ≡ values_end params bytes ys place)
-        → end_behind (λ p. values_end params bytes xs p) start o ≡ Some place
-        → end_behind (λ p. values_end params bytes (xs ++ ys) p) start o ≡ values_end params bytes ys place
-    by_value None step e = absurd cc
-    by_value (Some v) step e = step (start + v.size) e
-
-pub spells-end : (params : Params) (bytes : List ℕ) (start : ℕ) (xs : List Spec) (place : ℕ) → SpellsValues params bytes start xs place
-    → values_end params bytes xs start ≡ Some place
-spells-end params bytes start xs place no_values = refl
-spells-end params bytes start xs z (more_values ys y place v s e) =
-    values_end-append params bytes ys (y ∷ []) start place (spells-end params bytes start ys place s)
-    ∙ ap (end_behind (λ p. Some p) place) e
-
--- a number has some bytes
-pub number-some : (bytes : List ℕ) (place code size : ℕ) → uleb_at bytes place ≡ Some (code, size) → 0 < size
-unfolding uleb_at
-number-some bytes place code size is = (subst (λ (o : Option (ℕ × ℕ)). IfSome o (IsSized (length (drop place bytes)))) is (uleb_at-size (drop place bytes))).some
+use Rattle.dbg_show.specs.ShownUnits.{entry_ended, entry_met, code_met, entries_left, unit_entries}
+use Rattle.dw_base.proofs.LebLaws.{uleb-some}
 
 -- the entries from a place on, behind those that were met
 record Left (h : UnitHeader) (table : List Abbreviation) (bytes : List ℕ) (items : List Scanned) (place depth : ℕ) : Type 0 where
@@ -79,7 +49,7 @@ scans-left h table bytes items z d (null its place depth size s is) =
     let l : Left h table bytes items place depth = scans-left h table bytes items place depth s in
     let enough = l.enough in
     let room : place + size ≤ length bytes = uleb-inside bytes place 0 size is in
-    let some : 0 < size = number-some bytes place 0 size is in
+    let some : 0 < size = uleb-some bytes place 0 size is in
     let next : l.more ≡ suc (l.more - 1) = omega (arith, enough, room, some) in
     record {
       more = l.more - 1;
@@ -91,7 +61,7 @@ scans-left h table bytes all z d (entry items place depth after a s is root) =
     let l : Left h table bytes items place depth = scans-left h table bytes items place depth s in
     let enough = l.enough in
     let room : place + is.size ≤ length bytes = uleb-inside bytes place is.code is.size is.spells in
-    let some : 0 < is.size = number-some bytes place is.code is.size is.spells in
+    let some : 0 < is.size = uleb-some bytes place is.code is.size is.spells in
     let values : place + is.size ≤ after = spells-after h.params bytes (place + is.size) a.specs after is.values in
     let next : l.more ≡ suc (l.more - 1) = omega (arith, enough, room, some) in
     record {
@@ -113,7 +83,7 @@ end-none (suc more) params table bytes place depth le =
     none None e = e
     none (Some (code, size)) e =
         let room : place + size ≤ length bytes = uleb-inside bytes place code size e in
-        let some : 0 < size = number-some bytes place code size e in
+        let some : 0 < size = uleb-some bytes place code size e in
         absurd (omega (arith, le, room, some))
 
 -- these are the entries up to a place of the unit

@@ -1,49 +1,24 @@
 -- A pass over a unit that can be read: its entries are few, and it gives no refusal (DWARF 5, 7.5.3).
-use Rattle.std.proofs.Common.{◌≡◌, ℕ, ◌+◌, ◌<◌, ◌≤◌, ◌^◌, List, [], ◌∷◌, length, take, refl, subst, arith, length-append}
+use Rattle.std.proofs.Common.{◌≡◌, ℕ, ◌+◌, ◌<◌, ◌≤◌, ◌^◌, List, ◌∷◌, length, take, refl, subst, arith}
 use Rattle.std.proofs.lemmas.List.{length-take}
 use Rattle.dw_base.specs.AbbreviationTables.{Abbreviation}
 use Rattle.dw_base.specs.Cells.{bytes_of}
-use Rattle.dw_base.specs.EntryScans.{SpellsValues, no_values, more_values, Scans, starts, null, entry, scanned}
 use Rattle.dw_base.specs.FileViews.{View, section_bytes}
 use Rattle.dw_base.specs.declared.fault.Refusal.{Refusal}
-use Rattle.dw_base.specs.declared.shared.Params.{Params}
-use Rattle.dw_base.specs.declared.units.Scanned.{Scanned}
 use Rattle.dw_base.specs.declared.units.UnitHeader.{UnitHeader}
-use Rattle.dw_base.specs.declared.values.Spec.{Spec}
 use Rattle.dw_entries.specs.ScanStates.{ScanState, GivesRefusal}
 use Rattle.dw_entries.specs.ViewUnits.{unit_section_at}
-use Rattle.dw_find.proofs.ScanTextLaws.{unit-bytes, unit-first}
-use Rattle.dw_forms.proofs.InsideLaws.{value_at-inside}
-use Rattle.dw_meaning.proofs.ValueCutLaws.{uleb-inside}
 use Rattle.dbg_show.specs.ShownUnits.{unit_bytes}
 use Rattle.dbg_show.specs.UnitReads.{CanRead}
-use Rattle.dbg_show.proofs.EntryListLaws.{PassAt, pass-scans, pass-reads, number-some}
+use Rattle.dbg_show.proofs.EntryListLaws.{PassAt, pass-scans, pass-reads}
+use Rattle.dw_entries.proofs.HasUnitLaws.{unit-bytes, first-inside}
+use Rattle.dw_entries.proofs.LastEntryLaws.{scans-room}
 
 -- the bytes of a unit are no more than its end says
 pub bytes-short : (v : View) (h : UnitHeader) → length (unit_bytes v h) ≤ h.end
 bytes-short v h = omega (arith, length-take h.end (bytes_of (unit_section_at v h.section).contents))
 
 -- entries take place
-values-room : (params : Params) (bytes : List ℕ) (start : ℕ) (xs : List Spec) (place : ℕ) → SpellsValues params bytes start xs place → start ≤ length bytes
-    → (start ≤ place) × (place ≤ length bytes)
-values-room params bytes start xs place no_values le = (omega arith, le)
-values-room params bytes start xs z (more_values ys y place v s is) le =
-    let before = values-room params bytes start ys place s le in
-    (omega (arith, before.0), value_at-inside params y bytes place v is)
-
-scans-room : (h : UnitHeader) (table : List Abbreviation) (bytes : List ℕ) (items : List Scanned) (place depth : ℕ) → Scans h table bytes items place depth
-    → h.first ≤ length bytes → (length items ≤ place) × (place ≤ length bytes)
-scans-room h table bytes items place depth starts le = (omega arith, le)
-scans-room h table bytes items z d (null its place depth size s is) le =
-    let before = scans-room h table bytes items place depth s le in
-    (omega (arith, before.0), uleb-inside bytes place 0 size is)
-scans-room h table bytes all z d (entry items place depth after a s is root) le =
-    let before = scans-room h table bytes items place depth s le in
-    let room : place + is.size ≤ length bytes = uleb-inside bytes place is.code is.size is.spells in
-    let some : 0 < is.size = number-some bytes place is.code is.size is.spells in
-    let values = values-room h.params bytes (place + is.size) a.specs after is.values room in
-    (omega (arith, before.0, some, values.0, length-append items (scanned place depth a after ∷ [])), values.1)
-
 pub pass-few : (h : UnitHeader) (table : List Abbreviation) (bytes : List ℕ) (s : ScanState) (number : ℕ) → PassAt h table bytes s number → h.first ≤ length bytes
     → number ≤ length bytes
 pass-few h table bytes s number p le =
@@ -54,7 +29,7 @@ pass-few h table bytes s number p le =
 pub few-entries : (v : View) (h : UnitHeader) (table : List Abbreviation) (s : ScanState) (number : ℕ) → PassAt h table (unit_bytes v h) s number → CanRead v h table → number ≤ 2 ^ 31
 few-entries v h table s number p c =
     let same : take h.end (section_bytes v h.section) ≡ unit_bytes v h = unit-bytes v h (section_bytes v h.section) c.unit refl in
-    let first : h.first ≤ length (unit_bytes v h) = subst (λ (bs : List ℕ). h.first ≤ length bs) same (unit-first v h (section_bytes v h.section) c.unit refl) in
+    let first : h.first ≤ length (unit_bytes v h) = subst (λ (bs : List ℕ). h.first ≤ length bs) same (first-inside v h (section_bytes v h.section) c.unit refl) in
     let few = pass-few h table (unit_bytes v h) s number p first in
     omega (arith, few, bytes-short v h, c.short)
 

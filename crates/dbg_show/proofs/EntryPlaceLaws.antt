@@ -15,12 +15,12 @@ use Rattle.dw_base.specs.declared.units.Scanned.{Scanned}
 use Rattle.dw_base.specs.declared.units.UnitHeader.{UnitHeader}
 use Rattle.dw_base.specs.declared.values.Spec.{Spec}
 use Rattle.dw_base.specs.declared.values.Value.{Value}
-use Rattle.dw_meaning.proofs.ValueCutLaws.{uleb-inside}
 use Rattle.dw_base.specs.Values.{value_at}
-use Rattle.dbg_show.specs.PieceRuns.{all_of, entry_out, entries_out, value_out, values_out}
 use Rattle.dbg_show.specs.ShownUnits.{entry_number}
-use Rattle.dbg_show.proofs.EntryListLaws.{number-some, spells-after}
-use Rattle.dbg_show.proofs.PieceRunLaws.{UnitSays, entries_out-more, entry_out-is}
+use Rattle.dbg_show.proofs.EntryListLaws.{spells-after}
+use Rattle.dw_base.proofs.LebLaws.{uleb-inside, uleb-some}
+use Rattle.dw_meaning.proofs.UnitRunLaws.{UnitSays, entries_out-more, entry_out-is}
+use Rattle.dw_meaning.specs.PieceRuns.{all_of, entry_out, entries_out, value_out, values_out, any_piece}
 
 -- where a piece starts an entry
 abbrev pub places_of : Piece UnitState → List EntryPlace
@@ -36,8 +36,9 @@ one_place section unit number place depth a = record { section = section; place 
 abbrev pub no_place : ℕ → ℕ → Spec → ℕ → Value → List EntryPlace
 no_place number tag x place v = []
 
-pub places-said : (cells : List Cell) (s : UnitState) → UnitSays places_of cells s (one_place s.section s.unit) no_place
+pub places-said : (cells : List Cell) (s : UnitState) → UnitSays any_piece places_of cells s (one_place s.section s.unit) no_place
 places-said cells s = record {
+  holds = λ m place e d k. tt;
   nulls = λ place e d p zero_. ap (λ (b : Bool). if b then [] else one_place s.section s.unit e place d (record { code = 0; tag = 0; children = false; specs = [] })) (eq-eqb _ 0 zero_);
   codes = λ place e d a p some listed. ap (λ (b : Bool). if b then [] else one_place s.section s.unit e place d a) (ne_eqb _ 0 some);
   forms = λ place e d n tag x xs p front. refl;
@@ -134,7 +135,7 @@ scans-inside h table bytes all z d (entry items place depth after a s is root) =
     let i : Inside h bytes items place = scans-inside h table bytes items place depth s in
     let reached = i.reached in
     let room : place + is.size ≤ length bytes = uleb-inside bytes place is.code is.size is.spells in
-    let some : 0 < is.size = number-some bytes place is.code is.size is.spells in
+    let some : 0 < is.size = uleb-some bytes place is.code is.size is.spells in
     let values : place + is.size ≤ after = spells-after h.params bytes (place + is.size) a.specs after is.values in
     record {
       reached = omega (arith, reached, some, values);

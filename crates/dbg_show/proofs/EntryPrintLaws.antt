@@ -16,8 +16,7 @@ use Rattle.dw_base.specs.declared.fault.Refusal.{Refusal}
 use Rattle.dw_base.specs.declared.values.Spec.{Spec}
 use Rattle.dw_entries.specs.ScanStates.{ScanState, GivesRefusal, scan_start}
 use Rattle.dw_entries.specs.ViewUnits.{IsUnitSection, unit_section_at}
-use Rattle.dw_entries.proofs.HasUnitLaws.{unit-of-view, is-unit_section, unit-section}
-use Rattle.dw_find.proofs.ScanTextLaws.{unit-bytes}
+use Rattle.dw_entries.proofs.HasUnitLaws.{unit-of-view, is-unit_section, unit-section, unit-bytes}
 use Rattle.file_tree.specs.Heard.{Heard}
 use Rattle.dbg_show.specs.Printing.{Printed, Cut}
 use Rattle.dbg_show.specs.ShownUnits.{UnitSource, ShownUnit, entries_text, entry_coded, entry_listed, entry_text, first_base, shown_unit, tabled_text, unit_bytes, unit_entries, values_shown}

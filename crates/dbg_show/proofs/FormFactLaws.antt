@@ -4,17 +4,17 @@ use Rattle.std.specs.Bool.{⊤}
 use Rattle.std.specs.Prelude.{◌&&◌, ◌||◌, IsTrue, not}
 use Rattle.std.proofs.Common.{Bool, true, false, ◌≡◌, ℕ, ◌==◌, ◌<◌, ◌≤◌, List, [], ◌∷◌, cond, if◌then◌else◌, refl, subst, arith}
 use Rattle.std.proofs.lemmas.Bool.{and_parts, eqb-true}
-use Rattle.dw_base.specs.Forms.{TextSection, ValueKind, number_of, leb_number, text_offset, FormRow, form_rows, kind_by, kind_in, reference_size, width_size}
-use Rattle.dw_base.specs.TableStarts.{can_start}
+use Rattle.dw_base.specs.Forms.{ValueKind, number_of, leb_number, text_offset, FormRow, form_rows, kind_by, kind_in, reference_size, width_size}
+use Rattle.dw_base.specs.TableStarts.{can_start, is_start_form}
 use Rattle.dw_base.specs.UnitHeaders.{is_address_size}
 use Rattle.dw_base.specs.declared.shared.Params.{Params}
 use Rattle.dw_base.specs.declared.shared.Width.{Width}
 use Rattle.dw_base.specs.declared.shared.Width.TheVariants.{W32, W64}
 use Rattle.dw_base.specs.declared.values.ValueClass.{ValueClass}
 use Rattle.dw_base.specs.declared.values.ValueClass.TheVariants.{Address, Signed, Bytes, InlineText, StrOffset, LineStrOffset, GlobalRef, SecOffset}
-use Rattle.dw_find.specs.TextPlaces.{is_start_form}
-use Rattle.dw_find.proofs.StartFormLaws.{form-starts}
+use Rattle.dw_base.proofs.StartFormLaws.{form-starts}
 use Rattle.dbg_show.specs.ShownUnits.{is_leb_form}
+use Rattle.dw_base.specs.declared.texts.TextSection.{TextSection}
 
 -- the classes of numbers, and of those in LEB128, that forms have
 abbrev pub is_number_class : ValueClass → Bool

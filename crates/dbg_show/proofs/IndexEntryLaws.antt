@@ -18,11 +18,12 @@ use Rattle.dbg_show.specs.EntryIndexes.{AreBefore, EachRises, IsIndexed, entries
 use Rattle.dbg_show.specs.ShownUnits.{EntryIndex, entry_number, number_in, unit_bytes, unit_entries}
 use Rattle.dbg_show.specs.UnitReads.{AllCanRead, CanRead, EachReads}
 use Rattle.dbg_show.specs.declared.listed_unit.ListedUnit.{ListedUnit}
-use Rattle.dbg_show.proofs.EntryListLaws.{PassAt, entries-are, pass-ends, pass-first, pass-more, pass-scans, number-some, spells-after}
+use Rattle.dbg_show.proofs.EntryListLaws.{PassAt, entries-are, pass-ends, pass-first, pass-more, pass-scans, spells-after}
 use Rattle.dbg_show.proofs.EntryPlaceLaws.{AllInside, entries-inside}
 use Rattle.dbg_show.proofs.EntryPassLaws.{bytes-short}
 use Rattle.dbg_show.proofs.IndexUnitLaws.{Climbs, climbs-rise}
 use Rattle.dbg_show.proofs.UnitStartLaws.{unit-some}
+use Rattle.dw_base.proofs.LebLaws.{uleb-some}
 
 -- the number of an entry is that of its place
 pub number-offset : (n place : ℕ) (es : List Scanned) → start_number n (offsets_of es) place ≡ entry_number n place es
@@ -65,7 +66,7 @@ scans-offsets h table bytes all z d (null items place depth size s is) =
     record { climbs = o.climbs; below = below-raise place (place + size) (offsets_of items) o.below (omega arith) }
 scans-offsets h table bytes all z d (entry items place depth after a s is root) =
     let o : OffsetsTo items place = scans-offsets h table bytes items place depth s in
-    let some : 0 < is.size = number-some bytes place is.code is.size is.spells in
+    let some : 0 < is.size = uleb-some bytes place is.code is.size is.spells in
     let values : place + is.size ≤ after = spells-after h.params bytes (place + is.size) a.specs after is.values in
     let more : offsets_of (items ++ scanned place depth a after ∷ []) ≡ offsets_of items ++ place ∷ [] = offsets-more items (scanned place depth a after) in
     record {

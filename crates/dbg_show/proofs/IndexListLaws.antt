@@ -8,7 +8,7 @@ use Rattle.dw_base.specs.UnitHeaders.{SectionKind, UnitSection, UnitsUpTo, no_un
 use Rattle.dw_base.specs.ViewData.{debug_data, unit_kind, unit_section, unit_sections, unit_sections_from}
 use Rattle.dw_base.specs.declared.units.UnitHeader.{UnitHeader}
 use Rattle.dw_find.specs.UnitPlaces.{place_key}
-use Rattle.dw_find.proofs.HeaderLaws.{header-of}
+use Rattle.dw_base.proofs.HeaderOfLaws.{header-of}
 use Rattle.dw_meaning.proofs.ScanSectionLaws.{header-placed}
 use Rattle.dbg_show.specs.EntryIndexes.{AreApart, StandApart, end_key, start_key}
 use Rattle.dbg_show.specs.UnitLists.{AreListed, ListsAll, none_listed, more_listed}

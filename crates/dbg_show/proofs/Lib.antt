@@ -10,7 +10,6 @@ pub mod MeaningLaws
 pub mod ForestTextLaws
 pub mod EntryListLaws
 pub mod EntryPassLaws
-pub mod PieceRunLaws
 pub mod EntryPlaceLaws
 pub mod UnitStartLaws
 pub mod IndexUnitLaws

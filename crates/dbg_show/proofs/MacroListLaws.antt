@@ -1,14 +1,9 @@
 -- The macro units of a view in one list, with where they start.
-use Rattle.std.proofs.Common.{◌≡◌, ℕ, zero, suc, ◌+◌, ◌<◌, ◌≤◌, List, [], ◌∷◌, ◌++◌, length, get_or, slice_index, drop, nat_le, Some, refl, sym, ap, ◌∙◌, subst, arith, append_assoc, append-nil}
+use Rattle.std.proofs.Common.{◌≡◌, ℕ, zero, suc, ◌+◌, ◌<◌, ◌≤◌, List, [], ◌∷◌, ◌++◌, length, get_or, drop, refl, sym, ap, ◌∙◌, subst, arith, append_assoc, append-nil}
 use Rattle.std.proofs.Math.Seq.{drop-cons}
-use Rattle.std.proofs.lemmas.Bool.{leb-true}
 use Rattle.std.proofs.lemmas.List.{drop_all}
-use Rattle.dw_base.specs.FileViews.{View, section_bytes}
-use Rattle.dw_base.specs.MacroHeaders.{header_of, macro_header}
-use Rattle.dw_base.specs.Numbers.{spelled}
-use Rattle.dw_base.specs.declared.macro_units.MacroHeader.{MacroHeader}
+use Rattle.dw_base.specs.FileViews.{View}
 use Rattle.dw_base.specs.declared.macro_units.MacroUnit.{MacroUnit}
-use Rattle.dw_meaning.proofs.LineReadLaws.{if-some}
 use Rattle.dw_find.specs.MacroNames.{AllUnitsIn, AreUnitsIn}
 use Rattle.dw_find.specs.MacroSections.{SectionUnits}
 use Rattle.dw_find.specs.UnitPlaces.{AllBelow, all_units, place_key, place_limit, unit_keys}
@@ -31,14 +26,6 @@ pub units-whole : (ss : List SectionUnits) (i : ℕ) (units : List MacroUnit) �
 units-whole ss i units end is = sym (append-nil units) ∙ ap (λ (xs : List SectionUnits). units ++ all_units xs) (sym (drop_all i ss end)) ∙ is
 
 pub ruleset unit_laws = (units-pushed, units-whole)
-
--- a unit starts in its section
-header-inside : (v : View) (section start : ℕ) (h : MacroHeader) → macro_header v.order (section_bytes v section) start ≡ Some h → start + 3 ≤ length (section_bytes v section)
-unfolding macro_header
-header-inside v section start h e =
-    leb-true (start + 3) (length (section_bytes v section))
-    (if-some (nat_le (start + 3) (length (section_bytes v section)))
-    (header_of (section_bytes v section) (spelled v.order (section_bytes v section) start 2) (slice_index (section_bytes v section) (start + 2)) (start + 3)) h e).0
 
 -- where units start that were looked at
 pub record KeysOf (units : List MacroUnit) (i : ℕ) (keys : List ℕ) : Type 0 where

@@ -24,12 +24,12 @@ use Rattle.dw_base.specs.declared.line_tables.LineHeader.{LineHeader}
 use Rattle.dw_base.specs.declared.line_tables.TextPlace.{TextPlace}
 use Rattle.dw_base.specs.declared.values.Spec.{Spec}
 use Rattle.dw_meaning.proofs.LineColumnLaws.{ColumnIs, inline_is, offset_is, value_is, column-is}
-use Rattle.dw_base.specs.Forms.{in_str, in_line_str}
 use Rattle.dw_meaning.proofs.LineEntryLaws.{AreColumns, column-step, entry-same}
 use Rattle.dw_meaning.proofs.LineListLaws.{list-is}
 use Rattle.dw_meaning.proofs.LineReadLaws.{bound, made, if-some, some-same}
 use Rattle.dw_meaning.proofs.LineWalkLaws.{NewFiles, OldFiles, bound-ok, files-of}
 use Rattle.dbg_show.specs.LineTexts.{dir_in, entry_file, entry_path, number_of}
+use Rattle.dw_base.specs.declared.texts.TextSection.TheVariants.{InStr, InLineStr}
 
 ok-same : {Y E : Type 0} (a b : Y) → ◌≡◌ {A = Result Y E} (Ok a) (Ok b) → a ≡ b
 ok-same a b e = cc
@@ -137,8 +137,8 @@ column-form spec e name =
 number-said : (g : LineSource) (h : LineHeader) (table : List ℕ) (spec : Spec) (p : ℕ) (c : Column) (own : List ℕ) → IndexForm spec.form → ColumnIs g h table spec p c
     → number_of (column_value g spec.form c.text c.number own) ≡ c.number
 number-said g h table spec p c own x (inline_is form ends) = absurd (never-both (spec.form == DW_FORM_string) (eq-eqb spec.form DW_FORM_string form) x.string)
-number-said g h table spec p c own x (offset_is in_str n form room reads ends) = absurd (never-both (spec.form == DW_FORM_strp) (eq-eqb spec.form DW_FORM_strp form) x.strp)
-number-said g h table spec p c own x (offset_is in_line_str n form room reads ends) =
+number-said g h table spec p c own x (offset_is InStr n form room reads ends) = absurd (never-both (spec.form == DW_FORM_strp) (eq-eqb spec.form DW_FORM_strp form) x.strp)
+number-said g h table spec p c own x (offset_is InLineStr n form room reads ends) =
     absurd (never-both (spec.form == DW_FORM_line_strp) (eq-eqb spec.form DW_FORM_line_strp form) x.line_strp)
 number-said g h table spec p c own x (value_is a b d v is) = rw (x.data16, x.block) refl
 

@@ -15,16 +15,19 @@ use Rattle.dw_base.specs.UnitHeaders.{UnitSection}
 use Rattle.dw_base.specs.ValueMeanings.{ValueMeaning, entry_of, stray, found_entry}
 use Rattle.dw_base.specs.ViewData.{debug_data}
 use Rattle.dw_base.specs.declared.units.UnitHeader.{UnitHeader}
-use Rattle.dbg_show.specs.PieceRuns.{all_of}
 use Rattle.dbg_show.specs.ShownUnits.{UnitSource, entry_number, entry_shown, lies_in, named_in, number_in, or_behind, reference_said, unit_bytes, unit_entries}
 use Rattle.dbg_show.specs.UnitLists.{ListsAll}
 use Rattle.dbg_show.specs.UnitTexts.{value_said}
 use Rattle.dbg_show.specs.declared.listed_unit.ListedUnit.{ListedUnit}
 use Rattle.dbg_show.proofs.AllRunLaws.{Among, EachNumbered, EachOut, EachUnit, UnitHolds, all_out, all_pieces, all-said-out, all-hold}
 use Rattle.dbg_show.proofs.EntryPlaceLaws.{AllInside, all-places, entries-inside, found-elsewhere, found-listed, found_or, listed_places, no_place, number-lies, one_place, places-out, places-said, places_of}
-use Rattle.dbg_show.proofs.PieceRunLaws.{SaidRun, before, in_headed, unit-run}
 use Rattle.dbg_show.proofs.UnitFactLaws.{UnitFacts, unit-facts}
 use Rattle.dw_base.specs.declared.debug_sections.DebugSection.TheVariants.{Info}
+use Rattle.dw_meaning.proofs.RunLaws.{PieceRun}
+use Rattle.dw_meaning.proofs.ScanSectionLaws.{before, in_headed}
+use Rattle.dw_meaning.proofs.WholeUnitLaws.{unit-run}
+use Rattle.dw_meaning.specs.PieceRuns.{all_of, any_piece}
+use Rattle.dw_base.specs.UnitPieces.{unit_grammar}
 
 -- the entries of a unit with its table
 abbrev pub tabled_places : View → ℕ → UnitHeader → Option (List Abbreviation) → List EntryPlace
@@ -50,9 +53,9 @@ place-out v tables z among start unit h u table items q is t entries listed =
     ∙ ap (λ (n : ℕ). listed_places n unit 0 (unit_entries h table (unit_bytes v h))) f.section_is
     ∙ ap (λ (bs : List ℕ). listed_places z.number unit 0 (unit_entries h table bs)) (sym f.bytes_are)
     ∙ ap (listed_places z.number unit 0) f.items_are in
-    subst (λ (x : List EntryPlace). SaidRun places_of (debug_data v).base z.contents (before z start unit) (before z h.end (unit + 1)) start h.end x)
+    subst (λ (x : List EntryPlace). PieceRun (unit_grammar (debug_data v).base) any_piece places_of z.contents (before z start unit) (before z h.end (unit + 1)) start h.end x)
     (places-out h table (bytes_up_to z h) z.number unit items h.end 0 entries ∙ sym own)
-    (unit-run places_of (one_place z.number unit) no_place (debug_data v).base z start unit h table items [] is t entries (λ p e. refl)
+    (unit-run any_piece places_of (one_place z.number unit) no_place (debug_data v).base z start unit h table items [] is t entries (λ p rest split e. refl) (λ k. tt)
     (places-said z.contents (in_headed (debug_data v).base z start unit h)))
 
 -- all entries

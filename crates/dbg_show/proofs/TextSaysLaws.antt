@@ -10,8 +10,8 @@ use Rattle.dw_base.specs.Forests.{attribute, null}
 use Rattle.dw_base.specs.Forms.{ValueKind, number_of, leb_number, signed_leb, block_of, counted, counted_leb, inline_text, text_offset, present, in_abbreviation, form_in_front, supplementary, unlisted, FormRow, form_rows, kind_by, kind_in}
 use Rattle.dw_base.specs.Lebs.{uleb_at}
 use Rattle.dw_base.specs.Pieces.{Piece}
-use Rattle.dw_base.specs.Roles.{Use, names_path, names_line_table, names_macro_unit, names_other, is_line_start, is_macro_start, use_of}
-use Rattle.dw_base.specs.TableStarts.{can_start}
+use Rattle.dw_base.specs.Roles.{is_line_start, is_macro_start, use_of, is_macros}
+use Rattle.dw_base.specs.TableStarts.{can_start, is_start_form, own_form}
 use Rattle.dw_base.specs.Texts.{text_in}
 use Rattle.dw_base.specs.ViewData.{located}
 use Rattle.dw_base.specs.declared.debug_sections.DebugSection.{DebugSection}
@@ -30,19 +30,19 @@ use Rattle.dw_base.specs.declared.values.ValueClass.{ValueClass}
 use Rattle.dw_base.specs.declared.values.ValueClass.TheVariants.{Address, Number, Signed, Bytes, Flag, InlineText, StrOffset, LineStrOffset, StrIndex, AddrIndex, ListIndex, LocalRef, GlobalRef, Signature, SecOffset}
 use Rattle.dw_base.specs.declared.view_fields.Field.{Field}
 use Rattle.dw_base.specs.declared.view_fields.Field.TheVariants.{Num}
-use Rattle.dw_meaning.proofs.ScanPieceLaws.{unit_bytes}
+use Rattle.dw_meaning.proofs.ScanPieceLaws.{unit_bytes, Chosen}
 use Rattle.dw_meaning.proofs.ValueCutLaws.{value_of-own}
-use Rattle.dw_find.specs.TextPlaces.{is_macros, is_start_form, own_form}
-use Rattle.dw_find.proofs.StartFormLaws.{form-starts, plain-form, chosen-form, line-macros, line-use, macro-use, macro-value, plain-use, is_plain_use}
-use Rattle.dw_find.proofs.ValueRunLaws.{Chosen}
-use Rattle.dbg_show.specs.PieceRuns.{all_of, value_out, values_out, entry_out, entries_out, coded_out, listed_out}
+use Rattle.dw_base.proofs.StartFormLaws.{form-starts, plain-form, chosen-form, line-macros, line-use, macro-use, macro-value, plain-use, is_plain_use}
 use Rattle.dbg_show.specs.PieceTexts.{mark_said, pieces_said}
 use Rattle.dbg_show.specs.ShownUnits.{ShownUnit, class_shown, entry_shown, has_field, index_shown, is_leb_form, macro_shown, reference_shown, signed_of, table_shown, value_address, value_bytes, value_field, value_offset, entries_text, entry_coded, entry_listed, entry_text, other_shown, plain_shown, says_start, says_unit, value_shown, values_behind, values_shown}
 use Rattle.dbg_show.specs.UnitTexts.{attribute_line, bytes_said, entry_line, field_said, flag_said, signed_said, text_said, value_said}
 use Rattle.dbg_show.proofs.FieldPlaceLaws.{field-none}
 use Rattle.dbg_show.proofs.FormFactLaws.{FormFacts, form-facts}
-use Rattle.dbg_show.proofs.PieceRunLaws.{UnitSays}
 use Rattle.dbg_show.proofs.ValueTextLaws.{IsAround, IsIn, number-read, leb-read, signed-read, block-read, text-read, sized-said, start-said, macro-said, leb-said, sleb-said, block-said, inline-said, offset-said, counted-said, counted-leb-said}
+use Rattle.dw_base.specs.declared.values.AttributeUse.{AttributeUse}
+use Rattle.dw_base.specs.declared.values.AttributeUse.TheVariants.{NamesPath, NamesLineTable, NamesMacroUnit, NamesOther}
+use Rattle.dw_meaning.proofs.UnitRunLaws.{UnitSays}
+use Rattle.dw_meaning.specs.PieceRuns.{all_of, value_out, values_out, entry_out, entries_out, coded_out, listed_out, any_piece}
 
 abbrev all_rows : (FormRow → Bool) → List FormRow → Bool
 all_rows P [] = true
@@ -80,7 +80,7 @@ plain_kind form_in_front = false
 plain_kind k = true
 
 -- a value of a kind says no start of a line table or a macro unit, for an attribute of this use
-abbrev starts_none : ValueKind → Use → Bool
+abbrev starts_none : ValueKind → AttributeUse → Bool
 starts_none (number_of class n) says = not (is_line_start says class n) && not (is_macro_start says class n)
 starts_none k says = true
 
@@ -88,7 +88,7 @@ not-true : (b : Bool) → not b ≡ true → b ≡ false
 not-true true e = absurd cc
 not-true false e = refl
 
-kind-said : (around : Around) (u : ShownUnit) (cells : List Cell) (s : UnitState) (says : Use) (x : Spec) (k : ValueKind) (place form : ℕ) (v : Value) → IsAround around u → IsIn cells s u
+kind-said : (around : Around) (u : ShownUnit) (cells : List Cell) (s : UnitState) (says : AttributeUse) (x : Spec) (k : ValueKind) (place form : ℕ) (v : Value) → IsAround around u → IsIn cells s u
     → FormFacts k form → plain_kind k ≡ true → starts_none k says ≡ true → value_of k s.header.params.order (unit_bytes s cells) place x.implicit ≡ Some v
     → value_said (meaning_of_value around s says x k (take v.size (drop place cells))) ≡ class_shown u v.class form v
 unfolding value_of class_shown
@@ -121,10 +121,10 @@ kind-said around u cells s says x unlisted place form v a i own plain none is = 
 -- where a value says a start
 line-said : (around : Around) (u : ShownUnit) (cells : List Cell) (s : UnitState) (x : Spec) (k : ValueKind) (place form : ℕ) (v : Value) → IsAround around u → IsIn cells s u → FormFacts k form
     → can_start k ≡ true → value_of k s.header.params.order (unit_bytes s cells) place x.implicit ≡ Some v
-    → value_said (meaning_of_value around s names_line_table x k (take v.size (drop place cells))) ≡ table_shown u.source (value_offset u Line form v)
+    → value_said (meaning_of_value around s NamesLineTable x k (take v.size (drop place cells))) ≡ table_shown u.source (value_offset u Line form v)
 unfolding value_of
 line-said around u cells s x (number_of class n) place form v a i f can is =
-    ap (λ (b : Bool). value_said (if b then line_meaning around (take v.size (drop place cells)) else plain_meaning around s names_line_table class n (take v.size (drop place cells)))) can
+    ap (λ (b : Bool). value_said (if b then line_meaning around (take v.size (drop place cells)) else plain_meaning around s NamesLineTable class n (take v.size (drop place cells)))) can
     ∙ start-said around u cells s class place n form v a i f (number-read class s.header.params.order (unit_bytes s cells) place n v is)
 line-said around u cells s x (leb_number class) place form v a i f can is = absurd cc
 line-said around u cells s x signed_leb place form v a i f can is = absurd cc
@@ -141,10 +141,10 @@ line-said around u cells s x unlisted place form v a i f can is = absurd cc
 
 unit-line : (around : Around) (u : ShownUnit) (cells : List Cell) (s : UnitState) (x : Spec) (k : ValueKind) (place form : ℕ) (v : Value) → IsAround around u → IsIn cells s u → FormFacts k form
     → can_start k ≡ true → value_of k s.header.params.order (unit_bytes s cells) place x.implicit ≡ Some v
-    → value_said (meaning_of_value around s names_macro_unit x k (take v.size (drop place cells))) ≡ macro_shown u.source (value_field u form v)
+    → value_said (meaning_of_value around s NamesMacroUnit x k (take v.size (drop place cells))) ≡ macro_shown u.source (value_field u form v)
 unfolding value_of
 unit-line around u cells s x (number_of class n) place form v a i f can is =
-    ap (λ (b : Bool). value_said (if b then macro_meaning around.lasting (take v.size (drop place cells)) else number_meaning around s names_macro_unit class (take v.size (drop place cells))))
+    ap (λ (b : Bool). value_said (if b then macro_meaning around.lasting (take v.size (drop place cells)) else number_meaning around s NamesMacroUnit class (take v.size (drop place cells))))
     (macro-value (number_of class n) ∙ can)
     ∙ macro-said around u cells s class place n form v a i f (number-read class s.header.params.order (unit_bytes s cells) place n v is)
 unit-line around u cells s x (leb_number class) place form v a i f can is = absurd cc
@@ -161,21 +161,21 @@ unit-line around u cells s x supplementary place form v a i f can is = absurd cc
 unit-line around u cells s x unlisted place form v a i f can is = absurd cc
 
 -- whether it does
-other-none : (k : ValueKind) (says : Use) → is_plain_use says ≡ true → starts_none k says ≡ true
-other-none (number_of class n) names_path e = by_class class
+other-none : (k : ValueKind) (says : AttributeUse) → is_plain_use says ≡ true → starts_none k says ≡ true
+other-none (number_of class n) NamesPath e = by_class class
   where
-    by_class : (c : ValueClass) → (not (is_line_start names_path c n) && not (is_macro_start names_path c n)) ≡ true
+    by_class : (c : ValueClass) → (not (is_line_start NamesPath c n) && not (is_macro_start NamesPath c n)) ≡ true
     by_class c = refl
-other-none (number_of class n) names_other e = refl
-other-none (number_of class n) names_macro_unit e = absurd cc
-other-none (number_of class n) names_line_table e = absurd cc
+other-none (number_of class n) NamesOther e = refl
+other-none (number_of class n) NamesMacroUnit e = absurd cc
+other-none (number_of class n) NamesLineTable e = absurd cc
 other-none k says e = refl
 
-line-none : (k : ValueKind) → can_start k ≡ false → starts_none k names_line_table ≡ true
-line-none (number_of class n) e = ap (λ (b : Bool). not b && not (is_macro_start names_line_table class n)) e
+line-none : (k : ValueKind) → can_start k ≡ false → starts_none k NamesLineTable ≡ true
+line-none (number_of class n) e = ap (λ (b : Bool). not b && not (is_macro_start NamesLineTable class n)) e
 line-none k e = refl
 
-macro-none : (k : ValueKind) → can_start k ≡ false → starts_none k names_macro_unit ≡ true
+macro-none : (k : ValueKind) → can_start k ≡ false → starts_none k NamesMacroUnit ≡ true
 macro-none (number_of class n) e = ap not (macro-value (number_of class n) ∙ e)
 macro-none k e = refl
 
@@ -297,7 +297,7 @@ own-shown around u cells s number tag x y k place own form v w a i owned plain f
     by_start : (x.name == DW_AT_stmt_list) ≡ true → (b : Bool) → can_start k ≡ b
         → value_said (meaning_of_value around s (use_of number tag x.name) y k (take w.size (drop own cells))) ≡ value_shown u x place v
     by_start line true can =
-        ap (λ (t : Use). value_said (meaning_of_value around s t y k (take w.size (drop own cells)))) (line-use number tag x.name line)
+        ap (λ (t : AttributeUse). value_said (meaning_of_value around s t y k (take w.size (drop own cells)))) (line-use number tag x.name line)
         ∙ line-said around u cells s y k own form w a i owned can is
         ∙ ap (table_shown u.source) (offset-same u Line form v w at_is len_is number_is ∙ ap (λ (f : ℕ). value_offset u Line f v) (sym form_is))
         ∙ sym (ap (λ (b : Bool). if b then table_shown u.source (value_offset u Line (own_form x u.bytes place) v) else other_shown u x place v)
@@ -309,7 +309,7 @@ own-shown around u cells s number tag x y k place own form v w a i owned plain f
     by_unit : (x.name == DW_AT_stmt_list) ≡ false → is_macros x.name ≡ true → (b : Bool) → can_start k ≡ b
         → value_said (meaning_of_value around s (use_of number tag x.name) y k (take w.size (drop own cells))) ≡ value_shown u x place v
     by_unit line macros true can =
-        ap (λ (t : Use). value_said (meaning_of_value around s t y k (take w.size (drop own cells)))) (macro-use number tag x.name line macros)
+        ap (λ (t : AttributeUse). value_said (meaning_of_value around s t y k (take w.size (drop own cells)))) (macro-use number tag x.name line macros)
         ∙ unit-line around u cells s y k own form w a i owned can is
         ∙ ap (macro_shown u.source) (field-same u form v w at_is len_is number_is ∙ ap (λ (f : ℕ). value_field u f v) (sym form_is))
         ∙ sym (ap (λ (b : Bool). if b then table_shown u.source (value_offset u Line (own_form x u.bytes place) v) else other_shown u x place v)
@@ -401,8 +401,9 @@ abbrev pub value_says : ShownUnit → ℕ → ℕ → Spec → ℕ → Value →
 value_says u number tag x place v = attribute_line x.name (value_shown u x place v)
 
 pub unit-says : (zs : List UnitSection) (section : ℕ) (around : Around) (u : ShownUnit) (cells : List Cell) (s : UnitState) → IsAround around u → IsIn cells s u
-    → UnitSays (says_of zs section around) cells s entry_says (value_says u)
+    → UnitSays any_piece (says_of zs section around) cells s entry_says (value_says u)
 unit-says zs section around u cells s a i = record {
+  holds = λ m place e d k. tt;
   nulls = λ place e d p zero_.
       ap (λ (b : Bool). mark_said zs section (in_unit s place e d at_code) (if b then null else entry_mark (abbreviation_of s.table (code_value p)))) (eq-eqb (code_value p) 0 zero_);
   codes = λ place e d b p some listed.

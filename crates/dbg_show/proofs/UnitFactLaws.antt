@@ -18,7 +18,7 @@ use Rattle.dw_base.proofs.AbbreviationLaws.{table-found}
 use Rattle.dw_entries.specs.ViewUnits.{unit_section_at}
 use Rattle.dw_entries.proofs.HasUnitLaws.{section-at, numbered-section}
 use Rattle.dw_entries.proofs.UnitSectionLaws.{of-view}
-use Rattle.dw_find.proofs.HeaderLaws.{header-of}
+use Rattle.dw_base.proofs.HeaderOfLaws.{header-of}
 use Rattle.dw_meaning.proofs.ScanSectionLaws.{header-placed}
 use Rattle.dw_meaning.proofs.UnitOneLaws.{header-tests}
 use Rattle.dbg_show.specs.ShownUnits.{unit_bytes, unit_entries}

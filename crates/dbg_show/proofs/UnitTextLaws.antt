@@ -24,7 +24,6 @@ use Rattle.dw_base.proofs.ViewCellLaws.{lines-located}
 use Rattle.dw_entries.specs.ViewUnits.{numbered, unit_section_at}
 use Rattle.dw_entries.proofs.HasUnitLaws.{numbered-section}
 use Rattle.dw_find.specs.UnitPlaces.{unit_number}
-use Rattle.dbg_show.specs.PieceRuns.{all_of, entries_out}
 use Rattle.dbg_show.specs.PieceTexts.{all_said, mark_said}
 use Rattle.dbg_show.specs.ShownUnits.{UnitSource, all_shown, entries_text, first_base, first_macro, header_line, index_shown, info_section, one_shown, shown_unit, tabled_text, unit_bytes, unit_entries}
 use Rattle.dbg_show.specs.UnitLists.{ListsAll}
@@ -33,13 +32,17 @@ use Rattle.dbg_show.specs.declared.listed_unit.ListedUnit.{ListedUnit}
 use Rattle.dbg_show.proofs.AllRunLaws.{Among, EachOut, all_out, all_pieces, all-said-out}
 use Rattle.dbg_show.proofs.BaseOwnLaws.{HasBase, all-based, in-shown, offsets_in, tabled_base}
 use Rattle.dbg_show.proofs.ForestTextLaws.{all-said}
-use Rattle.dbg_show.proofs.PieceRunLaws.{SaidRun, before, in_headed, unit-run}
 use Rattle.dbg_show.proofs.PlaceRunLaws.{entries-shown}
 use Rattle.dbg_show.proofs.SlotTextLaws.{OffsetsAre, index-text}
 use Rattle.dbg_show.proofs.TextSaysLaws.{entries-texts, entry_says, said-all, says_of, unit-says, value_says}
 use Rattle.dbg_show.proofs.UnitFactLaws.{UnitFacts, unit-facts}
 use Rattle.dbg_show.proofs.ValueTextLaws.{IsAround}
 use Rattle.dbg_show.proofs.ViewPartLaws.{offsets-none, offsets-there}
+use Rattle.dw_meaning.proofs.RunLaws.{PieceRun}
+use Rattle.dw_meaning.proofs.ScanSectionLaws.{before, in_headed}
+use Rattle.dw_meaning.proofs.WholeUnitLaws.{unit-run}
+use Rattle.dw_meaning.specs.PieceRuns.{all_of, entries_out, any_piece}
+use Rattle.dw_base.specs.UnitPieces.{unit_grammar}
 
 -- what units are printed from is what was read
 pub record SourceIs (g : UnitSource) (r : DataReadings) : Type 0 where
@@ -124,13 +127,14 @@ text-out g r i z among start unit h u table items q is t entries listed =
     ∙ entries-texts (shown_unit g unit h table) 0 (unit_entries h table (unit_bytes g.view h)) in
     let whole : header_line g.view unit h ++ entries_out entry_says (value_says (shown_unit g unit h table)) h.params table (bytes_up_to z h) 0 items ≡ one_shown g unit u =
     ap (λ (x : List ℕ). header_line g.view unit h ++ x) (said ∙ sym own) ∙ ap (λ (x : List ℕ). x ++ tabled_text g unit u.header (item_at g.tables u.table)) (sym head) in
-    subst (λ (x : List ℕ). SaidRun (says_of ((debug_data g.view).found Info) z.number (around_of (debug_data g.view) r)) (debug_data g.view).base z.contents (before z start unit)
+    subst (λ (x : List ℕ). PieceRun (unit_grammar (debug_data g.view).base) any_piece (says_of ((debug_data g.view).found Info) z.number (around_of (debug_data g.view) r)) z.contents (before z start unit)
     (before z h.end (unit + 1)) start h.end x) whole
-    (unit-run (says_of ((debug_data g.view).found Info) z.number (around_of (debug_data g.view) r)) entry_says (value_says (shown_unit g unit h table)) (debug_data g.view).base z start unit h
+    (unit-run any_piece (says_of ((debug_data g.view).found Info) z.number (around_of (debug_data g.view) r)) entry_says (value_says (shown_unit g unit h table)) (debug_data g.view).base z start unit h
     table items (header_line g.view unit h) is t entries
-    (λ (p : List Cell) found.
+    (λ (p : List Cell) (rest : List Cell) split found.
     ap (λ (o : Option UnitHeader). mark_said ((debug_data g.view).found Info) z.number (before z start unit) (head_mark (around_of (debug_data g.view) r).lasting o)) found
     ∙ ap (λ (name : List ℕ). unit_line unit name h.params.version h.params.width h.params.address h.kind h.signature) named)
+    (λ k. tt)
     (unit-says ((debug_data g.view).found Info) z.number (around_of (debug_data g.view) r) (shown_unit g unit h table) z.contents (in_headed (debug_data g.view).base z start unit h)
     (shown-around g r z h u table items unit i f q) (in-shown g z start unit h u table items f)))
 

@@ -6,10 +6,10 @@ use Rattle.std.proofs.lemmas.List.{length-drop, length-take, take-append-drop, d
 use Rattle.dw_base.specs.Cells.{Cell, Located, bytes_of, field_of, offset_into, offset_of}
 use Rattle.dw_base.specs.DebugData.{Around, info_numbers, start_number, started_unit, table_of, unit_named}
 use Rattle.dw_base.specs.FileViews.{address_at, field_at, section_bytes, view_cells}
-use Rattle.dw_base.specs.Forms.{TextSection, in_str, in_line_str, number_of, leb_number, text_offset}
+use Rattle.dw_base.specs.Forms.{number_of, leb_number, text_offset}
 use Rattle.dw_base.specs.Lebs.{uleb_at, sleb, sleb_within, sleb_at, fits_i64}
 use Rattle.dw_base.specs.Numbers.{number_at, spelled}
-use Rattle.dw_base.specs.Roles.{Use, is_path_use}
+use Rattle.dw_base.specs.Roles.{is_path_use}
 use Rattle.dw_base.specs.TextIndexes.{holds_number, slot_of}
 use Rattle.dw_base.specs.Texts.{text, has_nul, text_in, ends_in}
 use Rattle.dw_base.specs.UnitHeaders.{is_address_size}
@@ -30,12 +30,15 @@ use Rattle.dw_base.proofs.ViewCellLaws.{bytes_of-view_cells, field_at-cells}
 use Rattle.dw_meaning.proofs.ScanPieceLaws.{part-bytes, before-end, part-length, unit_bytes, NumberPiece, number-piece, bytes_of-drop}
 use Rattle.dw_find.specs.UnitPlaces.{unit_number}
 use Rattle.dw_find.proofs.InlineTextLaws.{text-front}
-use Rattle.dw_find.proofs.ValueRunLaws.{number-at_place}
 use Rattle.dbg_show.specs.ShownUnits.{ShownUnit, class_shown, entry_shown, has_field, index_shown, info_section, is_leb_form, macro_named, first_macro, macro_shown, reference_shown, signed_of, table_said, table_shown, unit_said, value_address, value_bytes, value_field, value_offset}
 use Rattle.dbg_show.specs.UnitTexts.{bytes_said, class_said, field_said, signed_said, stray_said, text_said, value_said}
 use Rattle.dbg_show.proofs.FieldPlaceLaws.{field-there}
 use Rattle.dbg_show.proofs.FormFactLaws.{FormFacts, IsSmall, is_leb_class, is_number_class, number-plain, text-plain}
 use Rattle.dbg_show.proofs.ViewPartLaws.{address_at-cells}
+use Rattle.dw_base.specs.declared.texts.TextSection.{TextSection}
+use Rattle.dw_base.specs.declared.texts.TextSection.TheVariants.{InStr, InLineStr}
+use Rattle.dw_base.specs.declared.values.AttributeUse.{AttributeUse}
+use Rattle.dw_find.proofs.PlacedRunLaws.{number-at_place}
 
 -- what stands around the units of a file, by which their values mean what they say, and a unit that is printed
 pub record IsAround (around : Around) (u : ShownUnit) : Type 0 where
@@ -228,7 +231,7 @@ reference-said around u (Into z n) a =
 reference-said around u (Sym symbol kind addend) a = refl
 
 -- what a number of a class says
-number-class : (around : Around) (u : ShownUnit) (cells : List Cell) (s : UnitState) (says : Use) (class : ValueClass) (place n form : ℕ) (v : Value) → IsAround around u → IsIn cells s u
+number-class : (around : Around) (u : ShownUnit) (cells : List Cell) (s : UnitState) (says : AttributeUse) (class : ValueClass) (place n form : ℕ) (v : Value) → IsAround around u → IsIn cells s u
     → is_number_class class ≡ true → spelled around.lasting.base.order (bytes_of (take v.size (drop place cells))) 0 (length (take v.size (drop place cells))) ≡ v.number
     → bytes_of (take v.size (drop place cells)) ≡ value_bytes u v → address_of around.lasting.base.order (take v.size (drop place cells)) ≡ value_address u v
     → field_of around.lasting.base.order (take v.size (drop place cells)) ≡ value_field u form v
@@ -267,7 +270,7 @@ around-field around u cells s class place n form v a i leb small r =
     ap (λ (o : Order). field_of o (take v.size (drop place cells))) (order-same around u cells s a i) ∙ own-field u cells s class place n form v i leb small r
 
 -- a number of so many bytes says what it is
-pub sized-said : (around : Around) (u : ShownUnit) (cells : List Cell) (s : UnitState) (says : Use) (class : ValueClass) (place n form : ℕ) (v : Value) → IsAround around u → IsIn cells s u
+pub sized-said : (around : Around) (u : ShownUnit) (cells : List Cell) (s : UnitState) (says : AttributeUse) (class : ValueClass) (place n form : ℕ) (v : Value) → IsAround around u → IsIn cells s u
     → FormFacts (number_of class n) form → NumberRead class s.header.params.order (unit_bytes s cells) place n v
     → value_said (number_meaning around s says class (take v.size (drop place cells))) ≡ class_shown u v.class form v
 sized-said around u cells s says class place n form v a i f r =
@@ -320,7 +323,7 @@ macro-said around u cells s class place n form v a i f r =
     by_unit (Some k) = refl
 
 -- and of one in LEB128
-leb-class : (around : Around) (u : ShownUnit) (cells : List Cell) (s : UnitState) (says : Use) (class : ValueClass) (form : ℕ) (p : List Cell) (v : Value) → IsAround around u → IsIn cells s u
+leb-class : (around : Around) (u : ShownUnit) (cells : List Cell) (s : UnitState) (says : AttributeUse) (class : ValueClass) (form : ℕ) (p : List Cell) (v : Value) → IsAround around u → IsIn cells s u
     → is_leb_class class ≡ true → code_value p ≡ v.number → bytes_of p ≡ value_bytes u v → value_field u form v ≡ Num v.number
     → value_said (leb_meaning around s says class p) ≡ class_shown u class form v
 unfolding class_shown
@@ -348,7 +351,7 @@ leb-class around u cells s says InlineText form p v a i ok number bytes field = 
 leb-class around u cells s says StrOffset form p v a i ok number bytes field = absurd cc
 leb-class around u cells s says LineStrOffset form p v a i ok number bytes field = absurd cc
 
-pub leb-said : (around : Around) (u : ShownUnit) (cells : List Cell) (s : UnitState) (says : Use) (class : ValueClass) (place form : ℕ) (v : Value) → IsAround around u → IsIn cells s u
+pub leb-said : (around : Around) (u : ShownUnit) (cells : List Cell) (s : UnitState) (says : AttributeUse) (class : ValueClass) (place form : ℕ) (v : Value) → IsAround around u → IsIn cells s u
     → FormFacts (leb_number class) form → place + v.size ≤ length (unit_bytes s cells) → LebRead class (unit_bytes s cells) place v
     → value_said (leb_meaning around s says class (take v.size (drop place cells))) ≡ class_shown u v.class form v
 leb-said around u cells s says class place form v a i f inside r =
@@ -462,8 +465,8 @@ offset-said around u cells s table place n form v a i f r =
     ∙ ap (λ (c : ValueClass). class_shown u c form v) (sym r.class_is)
   where
     by_table : (t : TextSection) → text_said (text_in (table_of around t).bytes (offset_into (table_of around t) (value_field u form v))) ≡ class_shown u (offset_class t) form v
-    by_table in_str = ap (λ (z : Located). text_said (text_in z.bytes (offset_into z (value_field u form v)))) a.str_is
-    by_table in_line_str = ap (λ (z : Located). text_said (text_in z.bytes (offset_into z (value_field u form v)))) a.line_str_is
+    by_table InStr = ap (λ (z : Located). text_said (text_in z.bytes (offset_into z (value_field u form v)))) a.str_is
+    by_table InLineStr = ap (λ (z : Located). text_said (text_in z.bytes (offset_into z (value_field u form v)))) a.line_str_is
 
 -- what stands behind a count
 pub counted-said : (u : ShownUnit) (cells : List Cell) (s : UnitState) (place n form : ℕ) (v : Value) → IsIn cells s u

@@ -4,7 +4,6 @@ pub mod LineTexts
 pub mod TableLists
 pub mod UnitTexts
 pub mod PieceTexts
-pub mod PieceRuns
 pub mod ShownUnits
 pub mod EntryIndexes
 pub mod UnitReads

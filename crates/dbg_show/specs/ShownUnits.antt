@@ -31,10 +31,12 @@ use Rattle.dw_base.specs.declared.values.ValueClass.TheVariants.{Address, Signed
 use Rattle.dw_base.specs.declared.view_fields.Field.{Field}
 use Rattle.dw_base.specs.declared.view_fields.Field.TheVariants.{Num, Into, Sym}
 use Rattle.dw_entries.specs.ViewUnits.{unit_section_at}
-use Rattle.dw_find.specs.TextPlaces.{is_macros, is_start_form, own_form}
 use Rattle.dw_find.specs.UnitPlaces.{unit_number}
 use Rattle.dbg_show.specs.declared.listed_unit.ListedUnit.{ListedUnit}
 use Rattle.dbg_show.specs.UnitTexts.{attribute_line, bytes_said, entry_line, entry_said, field_said, kind_name, lines_said, macros_said, relocation_said, signed_said, stray_said, text_said, unit_line}
+use Rattle.dw_base.specs.Roles.{is_macros}
+use Rattle.dw_base.specs.TableStarts.{is_start_form, own_form}
+use Rattle.dw_meaning.specs.PieceRuns.{values_end}
 
 -- where units and their entries start, in order
 pub record EntryIndex : Type 0 where
@@ -55,15 +57,6 @@ pub record UnitSource : Type 0 where
 -- the bytes of the section of a unit, up to the unit's end
 abbrev pub unit_bytes : View → UnitHeader → List ℕ
 unit_bytes v h = bytes_up_to (unit_section_at v h.section) h
-
--- where values end that begin at a place
-abbrev pub end_behind : (ℕ → Option ℕ) → ℕ → Option Value → Option ℕ
-end_behind f place None = None
-end_behind f place (Some v) = f (place + v.size)
-
-abbrev pub values_end : Params → List ℕ → List Spec → ℕ → Option ℕ
-values_end params bytes [] place = Some place
-values_end params bytes (x ∷ xs) place = end_behind (λ p. values_end params bytes xs p) place (value_at params x bytes place)
 
 -- the entries from a place on, where so many lists of children are open
 abbrev pub entry_ended : (ℕ → ℕ → List Scanned) → ℕ → ℕ → Abbreviation → Option ℕ → List Scanned

@@ -1,27 +1,26 @@
 -- Laws of a pass over the fields of entries, while they are scanned.
-use Rattle.std.proofs.Common.{◌≡◌, ℕ, ◌+◌, ◌<◌, ◌≤◌, List, [], ◌∷◌, ◌++◌, length, drop, Option, Some, None, Result, Ok, refl, sym, ap, ◌∙◌, subst, arith}
-use Rattle.std.specs.Option.{IfSome}
+use Rattle.std.proofs.Common.{◌≡◌, ℕ, ◌+◌, ◌<◌, ◌≤◌, List, [], ◌∷◌, ◌++◌, length, Option, Some, None, Result, Ok, refl, sym, ap, ◌∙◌, subst, arith}
 use Rattle.std.proofs.lemmas.List.{length-append}
 use Rattle.dw_base.specs.AbbreviationTables.{Abbreviation, abbreviation_of}
 use Rattle.dw_base.specs.Cells.{Cell}
-use Rattle.dw_base.specs.EntryScans.{AreEntries, EntryFails, IsEntry, Scans, SpellsValues, entry as an_entry, more_values, no_values, null, scanned, starts}
-use Rattle.dw_base.specs.Lebs.{IsSized, uleb_at}
+use Rattle.dw_base.specs.EntryScans.{AreEntries, EntryFails, Scans, entry as an_entry, null, scanned, starts}
+use Rattle.dw_base.specs.Lebs.{uleb_at}
 use Rattle.dw_base.specs.RelocationRows.{FieldPlace}
 use Rattle.dw_base.specs.declared.fault.Refusal.{Refusal}
 use Rattle.dw_base.specs.declared.shared.Params.{Params}
 use Rattle.dw_base.specs.declared.units.Scanned.{Scanned}
 use Rattle.dw_base.specs.declared.units.UnitHeader.{UnitHeader}
 use Rattle.dw_base.specs.declared.values.Spec.{Spec}
-use Rattle.dw_base.proofs.LebLaws.{uleb_at-size}
-use Rattle.dw_meaning.proofs.ValueCutLaws.{uleb-inside}
-use Rattle.dw_forms.proofs.InsideLaws.{value_at-inside}
 use Rattle.dw_entries.specs.ScanStates.{Gives, GivesEntry, GivesNothing, GivesRefusal, HasGiven, ScanState, scan_start}
 use Rattle.dw_fields.specs.FieldWalks.{Goes, Ground, StandsAt}
-use Rattle.dw_fields.specs.UnitFields.{entries_fields, entry_fields, fields_coded, fields_listed, values_end, values_fields}
+use Rattle.dw_fields.specs.UnitFields.{entries_fields, entry_fields, of_entry, of_value, values_fields}
 use Rattle.dw_fields.specs.UnitPasses.{EntriesPassed, EntriesSo, IsGiven, end_of}
 use Rattle.dw_fields.specs.declared.marks.Marks.{Marks}
-use Rattle.dw_fields.proofs.UnitFieldLaws.{entries_fields-more, spells-end}
+use Rattle.dw_fields.proofs.UnitFieldLaws.{entries_fields-more}
 use Rattle.dw_fields.proofs.WalkLaws.{goes-from, goes-more, goes-none, goes-to, stands-on}
+use Rattle.dw_meaning.proofs.EntryRowLaws.{spells-end}
+use Rattle.dw_meaning.specs.PieceRuns.{coded_out, listed_out, values_end}
+use Rattle.dw_entries.proofs.LastEntryLaws.{LastEntry, last-entry, scans-room}
 
 -- an entry that was given has a code, with an abbreviation
 pair-once : (a b c d : ℕ) → ◌≡◌ {A = Option (ℕ × ℕ)} (Some (a, b)) (Some (c, d)) → (a ≡ c) × (b ≡ d)
@@ -67,8 +66,8 @@ fields-coded : (params : Params) (table : List Abbreviation) (bytes : List ℕ) 
     → values_fields params bytes number a.tag a.specs (e.offset + size) ≡ entry_fields params table bytes number e
 unfolding entry_fields
 fields-coded params table bytes number e code size a is own =
-    ap (fields_listed params bytes number (e.offset + size)) own
-    ∙ ap (fields_coded params table bytes number e.offset) is
+    ap (listed_out of_entry (of_value params bytes) params bytes number e (e.offset + size)) own
+    ∙ ap (coded_out of_entry (of_value params bytes) params table bytes number e) is
 
 pub entry-goes : (g : Ground) (params : Params) (table : List Abbreviation) (bytes : List ℕ) (number : ℕ) (e : Scanned) (code size tag : ℕ) (a : Abbreviation)
     (specs : List Spec) (p q : Result Marks Refusal) → Some (code, size) ≡ uleb_at bytes e.offset → Some a ≡ abbreviation_of table code → tag ≡ a.tag → specs ≡ a.specs
@@ -94,48 +93,6 @@ scans-end h table bytes items place depth starts = omega arith
 scans-end h table bytes items z d (null its place depth size s is) = let before = scans-end h table bytes items place depth s in omega (arith, before)
 scans-end h table bytes all z d (an_entry items place depth after a s is root) =
     let end = end_of-more h.first items (scanned place depth a after) in omega (arith, end)
-
--- the last of entries that were read, and those before it
-record LastEntry (h : UnitHeader) (table : List Abbreviation) (bytes : List ℕ) (items : List Scanned) (e : Scanned) : Type 0 where
-  abbreviation : Abbreviation
-  depth : ℕ
-  scans : Scans h table bytes items e.offset depth
-  is : IsEntry h.params table bytes e.offset abbreviation e.after
-
-last-same : (xs ys : List Scanned) (x y : Scanned) → xs ++ x ∷ [] ≡ ys ++ y ∷ [] → (xs ≡ ys) × (x ≡ y)
-last-same [] [] x y e = (refl, head-is x y e)
-  where
-    head-is : (x y : Scanned) → x ∷ [] ≡ y ∷ [] → x ≡ y
-    head-is x y e = cc
-last-same [] (z ∷ zs) x y e = absurd (omega (arith, ap length e, length-append zs (y ∷ [])))
-last-same (z ∷ zs) [] x y e = absurd (omega (arith, ap length e, length-append zs (x ∷ [])))
-last-same (w ∷ ws) (z ∷ zs) x y e =
-    let rest = last-same ws zs x y (tail-is w z (ws ++ x ∷ []) (zs ++ y ∷ []) e) in
-    (ap (λ (v : Scanned). v ∷ ws) (head-is w z (ws ++ x ∷ []) (zs ++ y ∷ []) e) ∙ ap (λ (vs : List Scanned). z ∷ vs) rest.0, rest.1)
-  where
-    head-is : (x y : Scanned) (xs ys : List Scanned) → x ∷ xs ≡ y ∷ ys → x ≡ y
-    head-is x y xs ys e = cc
-
-    tail-is : (x y : Scanned) (xs ys : List Scanned) → x ∷ xs ≡ y ∷ ys → xs ≡ ys
-    tail-is x y xs ys e = cc
-
-no-last : (xs : List Scanned) (x : Scanned) → [] ≡ xs ++ x ∷ [] → ⊥
-no-last xs x e = omega (arith, ap length e, length-append xs (x ∷ []))
-
-last-entry : (h : UnitHeader) (table : List Abbreviation) (bytes : List ℕ) (all items : List Scanned) (e : Scanned) (place depth : ℕ)
-    → Scans h table bytes all place depth → all ≡ items ++ e ∷ [] → LastEntry h table bytes items e
-last-entry h table bytes all items e place depth starts same = absurd (no-last items e same)
-last-entry h table bytes all items e z d (null its place depth size s is) same = last-entry h table bytes all items e place depth s same
-last-entry h table bytes all items e z d (an_entry its place depth after a s is root) same =
-    let both = last-same its items (scanned place depth a after) e same in
-    let offset : place ≡ e.offset = ap (λ (x : Scanned). x.offset) both.1 in
-    let behind : after ≡ e.after = ap (λ (x : Scanned). x.after) both.1 in
-    record {
-      abbreviation = a;
-      depth = depth;
-      scans = subst (λ (p : ℕ). Scans h table bytes items p depth) offset (subst (λ (xs : List Scanned). Scans h table bytes xs place depth) both.0 s);
-      is = subst (λ (p : ℕ). IsEntry h.params table bytes p a e.after) offset (subst (IsEntry h.params table bytes place a) behind is);
-    }
 
 -- the scan
 pub scan-starts : (g : Ground) (h : UnitHeader) (table : List Abbreviation) (bytes : List ℕ) (s : ScanState) (p : Result Marks Refusal) → s ≡ scan_start h table bytes
@@ -224,31 +181,7 @@ scan-ends g h table bytes s u number p q so gives =
           (scans-end h table bytes so.items h.end 0 entries_) so.goes;
     }
 
--- so many entries are few: values end behind where they begin, and each entry has a code
-values-room : (params : Params) (bytes : List ℕ) (start : ℕ) (xs : List Spec) (place : ℕ) → SpellsValues params bytes start xs place → start ≤ length bytes
-    → (start ≤ place) × (place ≤ length bytes)
-values-room params bytes start xs place no_values le = (omega arith, le)
-values-room params bytes start xs z (more_values ys y place v s is) le =
-    let before = values-room params bytes start ys place s le in
-    (omega (arith, before.0), value_at-inside params y bytes place v is)
-
-uleb-some : (bytes : List ℕ) (place code size : ℕ) → uleb_at bytes place ≡ Some (code, size) → 0 < size
-unfolding uleb_at
-uleb-some bytes place code size is = (subst (λ (o : Option (ℕ × ℕ)). IfSome o (IsSized (length (drop place bytes)))) is (uleb_at-size (drop place bytes))).some
-
-scans-room : (h : UnitHeader) (table : List Abbreviation) (bytes : List ℕ) (items : List Scanned) (place depth : ℕ) → Scans h table bytes items place depth
-    → h.first ≤ length bytes → (length items ≤ place) × (place ≤ length bytes)
-scans-room h table bytes items place depth starts le = (omega arith, le)
-scans-room h table bytes items z d (null its place depth size s is) le =
-    let before = scans-room h table bytes items place depth s le in
-    (omega (arith, before.0), uleb-inside bytes place 0 size is)
-scans-room h table bytes all z d (an_entry items place depth after a s is root) le =
-    let before = scans-room h table bytes items place depth s le in
-    let room : place + is.size ≤ length bytes = uleb-inside bytes place is.code is.size is.spells in
-    let some : 0 < is.size = uleb-some bytes place is.code is.size is.spells in
-    let values = values-room h.params bytes (place + is.size) a.specs after is.values room in
-    (omega (arith, before.0, some, values.0, length-append items (scanned place depth a after ∷ [])), values.1)
-
+-- so many entries are few
 pub scan-few : (g : Ground) (h : UnitHeader) (table : List Abbreviation) (bytes : List ℕ) (s : ScanState) (number : ℕ) (p q : Result Marks Refusal)
     → EntriesSo g h table bytes s number p q → h.first ≤ length bytes → number ≤ length bytes
 scan-few g h table bytes s number p q so le =

@@ -1,8 +1,9 @@
 -- Laws of the fields of values, by their forms.
 use Rattle.std.proofs.Common.{◌≡◌, ◌≢◌, ℕ, ◌&&◌, Bool, true, false, if◌then◌else◌, Option, Some, None, refl, sym, ap, ◌∙◌}
-use Rattle.dw_base.specs.Forms.{TextSection, ValueKind, kind_in, number_of, text_offset, width_size}
+use Rattle.dw_base.specs.Forms.{ValueKind, kind_in, number_of, text_offset, width_size}
 use Rattle.dw_base.specs.RelocationRows.{FieldUse, can_be_offset, is_offset_use, kind_field, listed_field, offset_field, plain_field, use_of_number}
 use Rattle.dw_base.specs.declared.shared.Params.{Params}
+use Rattle.dw_base.specs.declared.texts.TextSection.{TextSection}
 use Rattle.dw_base.specs.declared.values.ValueClass.{ValueClass}
 use Rattle.dw_base.specs.declared.values.ValueClass.TheVariants.{Address, GlobalRef}
 use Rattle.dw_fields.specs.FieldForms.{fields_by, form_by_use, form_of, is_front}

@@ -1,6 +1,5 @@
 pub mod EntryPassLaws
 pub mod FieldCheckLaws
-pub mod FieldRunLaws
 pub mod FormFieldLaws
 pub mod FrontFieldLaws
 pub mod HeaderCheckLaws

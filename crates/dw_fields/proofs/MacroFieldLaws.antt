@@ -1,5 +1,6 @@
 -- The offsets of macro units are the fields of the pieces of their section.
 use Rattle.std.proofs.Common.{Bool, true, false, ◌≡◌, ◌≢◌, ℕ, ◌+◌, ◌<◌, ◌≤◌, nat_le, if◌then◌else◌, List, [], ◌∷◌, ◌++◌, length, take, drop, slice_index, Option, Some, None, refl, sym, ap, ◌∙◌, subst, arith}
+use Rattle.std.specs.Bool.{⊤}
 use Rattle.std.proofs.lemmas.Bool.{leb-true}
 use Rattle.dw_base.specs.Cells.{Cell, bytes_of}
 use Rattle.dw_base.specs.Forms.{width_size}
@@ -22,19 +23,24 @@ use Rattle.dw_meaning.proofs.LineReadLaws.{if-some, some-same}
 use Rattle.dw_meaning.proofs.MacroBackLaws.{byte-at, spelled-at}
 use Rattle.dw_meaning.proofs.MacroCutLaws.{FrontCut, cut-length, cut-stands, operation-cut}
 use Rattle.dw_fields.specs.MacroFields.{fields_at, header_place, operation_field}
-use Rattle.dw_fields.proofs.FieldRunLaws.{FieldRun, all_fields, run-more, run-one}
+use Rattle.dw_meaning.specs.PieceRuns.{all_of}
+use Rattle.dw_meaning.proofs.RunLaws.{PieceRun, run-more, run-one}
+
+-- nothing is asked of a piece
+abbrev pub any_macro : Piece MacroState → Type 0
+any_macro x = ⊤
 
 -- the fields of a piece
 abbrev pub macro_piece : Piece MacroState → List FieldPlace
 macro_piece x = macro_field x.state.mode x.state.place
 
-pub macro_fields-are : (xs : List (Piece MacroState)) → macro_fields xs ≡ all_fields macro_piece xs
+pub macro_fields-are : (xs : List (Piece MacroState)) → macro_fields xs ≡ all_of macro_piece xs
 macro_fields-are [] = refl
 macro_fields-are (x ∷ xs) = ap (λ (l : List FieldPlace). macro_field x.state.mode x.state.place ++ l) (macro_fields-are xs)
 
 -- pieces of a macro section, with their fields
 abbrev pub MacroRun : Order → List Cell → ℕ → MacroMode → ℕ → MacroMode → List FieldPlace → Type 0
-MacroRun order cells a s b t fs = FieldRun (macro_grammar order) macro_piece cells (macros_at a s) (macros_at b t) a b fs
+MacroRun order cells a s b t fs = PieceRun (macro_grammar order) any_macro macro_piece cells (macros_at a s) (macros_at b t) a b fs
 
 -- parts of the section
 part-is : (cells : List Cell) (bs : List ℕ) (a n : ℕ) → bytes_of cells ≡ bs → bytes_of (take n (drop a cells)) ≡ take n (drop a bs)
@@ -53,25 +59,25 @@ front-run order cells bs width place o next is c =
     let bytes : bytes_of (take c.size (drop place cells)) ≡ take c.size (drop place bs) = part-is cells bs place c.size is in
     let size : length (take c.size (drop place cells)) ≡ c.size = part-size cells bs place c.size is c.within in
     let front : front_of (bytes_of (take c.size (drop place cells))) ≡ Some c.kind = ap front_of bytes ∙ c.front in
-    run-one (macro_grammar order) macro_piece cells (macros_at place (at_operation width)) (macros_at (place + c.size) (after_operation width (Some c.kind))) place c.size []
+    run-one (macro_grammar order) any_macro macro_piece cells (macros_at place (at_operation width)) (macros_at (place + c.size) (after_operation width (Some c.kind))) place c.size []
     (record { front = c.kind; is = front })
     (ap (λ (n : ℕ). macros_at (place + n) (after_operation width (front_of (bytes_of (take c.size (drop place cells)))))) size
-    ∙ ap (λ (f : Option OperationFront). macros_at (place + c.size) (after_operation width f)) front) refl
+    ∙ ap (λ (f : Option OperationFront). macros_at (place + c.size) (after_operation width f)) front) refl tt
 
 -- an offset
 offset-run : (order : Order) (cells : List Cell) (bs : List ℕ) (width : Width) (names : OffsetUse) (place : ℕ) → bytes_of cells ≡ bs → place + width_size width ≤ length bs
     → MacroRun order cells place (at_offset width names) (place + width_size width) (at_operation width) (fields_at width (Some place))
 offset-run order cells bs width names place is h =
     let size : length (take (width_size width) (drop place cells)) ≡ width_size width = part-size cells bs place (width_size width) is h in
-    run-one (macro_grammar order) macro_piece cells (macros_at place (at_offset width names)) (macros_at (place + width_size width) (at_operation width)) place (width_size width)
-    (fields_at width (Some place)) size (ap (λ (n : ℕ). macros_at (place + n) (at_operation width)) size) refl
+    run-one (macro_grammar order) any_macro macro_piece cells (macros_at place (at_offset width names)) (macros_at (place + width_size width) (at_operation width)) place (width_size width)
+    (fields_at width (Some place)) size (ap (λ (n : ℕ). macros_at (place + n) (at_operation width)) size) refl tt
 
 line-run : (order : Order) (cells : List Cell) (bs : List ℕ) (width : Width) (place : ℕ) → bytes_of cells ≡ bs → place + width_size width ≤ length bs
     → MacroRun order cells place (at_line width) (place + width_size width) (at_operation width) (fields_at width (Some place))
 line-run order cells bs width place is h =
     let size : length (take (width_size width) (drop place cells)) ≡ width_size width = part-size cells bs place (width_size width) is h in
-    run-one (macro_grammar order) macro_piece cells (macros_at place (at_line width)) (macros_at (place + width_size width) (at_operation width)) place (width_size width)
-    (fields_at width (Some place)) size (ap (λ (n : ℕ). macros_at (place + n) (at_operation width)) size) refl
+    run-one (macro_grammar order) any_macro macro_piece cells (macros_at place (at_line width)) (macros_at (place + width_size width) (at_operation width)) place (width_size width)
+    (fields_at width (Some place)) size (ap (λ (n : ℕ). macros_at (place + n) (at_operation width)) size) refl tt
 
 kind-is : (x : Option OperationFront) (f g : OperationFront) → x ≡ Some f → x ≡ Some g → f ≡ g
 kind-is x f g e h = some-same f g (sym e ∙ h)
@@ -99,7 +105,7 @@ two-run order cells bs width place next field size names kind is same at_is end 
     subst (λ (n : ℕ). MacroRun order cells place (at_operation width) n (at_offset width names) []) (sym at_is)
     (subst (λ (x : OperationFront). MacroRun order cells place (at_operation width) (place + size) (after_operation width (Some x)) []) same r) in
     subst (λ (n : ℕ). MacroRun order cells place (at_operation width) n (at_operation width) (fields_at width (Some field))) (sym end)
-    (run-more (macro_grammar order) macro_piece cells (macros_at place (at_operation width)) (macros_at field (at_offset width names)) (macros_at (field + width_size width) (at_operation width))
+    (run-more (macro_grammar order) any_macro macro_piece cells (macros_at place (at_operation width)) (macros_at field (at_offset width names)) (macros_at (field + width_size width) (at_operation width))
     place field (field + width_size width) [] (fields_at width (Some field)) first (offset-run order cells bs width names field is (omega (arith, end, within))))
 
 by-cut : (order : Order) (cells : List Cell) (bs : List ℕ) (width : Width) (place : ℕ) (o : MacroOperation) (next : ℕ) → bytes_of cells ≡ bs → o ≢ Foreign
@@ -178,14 +184,14 @@ flags-run order cells bs start is h version operands =
     ap (λ (l : List ℕ). spelled order l 0 2) bytes ∙ sym (spelled-at order bs (take 3 (drop start bs)) start 2 stands (omega (arith, whole_size))) in
     let flags : slice_index (bytes_of (take 3 (drop start cells))) 2 ≡ slice_index bs (start + 2) =
     ap (λ (l : List ℕ). slice_index l 2) bytes ∙ sym (byte-at bs (take 3 (drop start bs)) start 2 stands (omega (arith, whole_size))) in
-    run-one (macro_grammar order) macro_piece cells (macros_at start at_unit) (macros_at (start + 3) (after_flags (slice_index bs (start + 2)))) start 3 []
+    run-one (macro_grammar order) any_macro macro_piece cells (macros_at start at_unit) (macros_at (start + 3) (after_flags (slice_index bs (start + 2)))) start 3 []
     (record {
       size = size;
       version = ap is_macro_version number ∙ version;
       operands = ap (λ (n : ℕ). has_flag n OPCODE_OPERANDS_TABLE_FLAG) flags ∙ operands;
     })
     (ap (λ (n : ℕ). macros_at (start + n) (after_flags (slice_index (bytes_of (take 3 (drop start cells))) 2))) size
-    ∙ ap (λ (n : ℕ). macros_at (start + 3) (after_flags n)) flags) refl
+    ∙ ap (λ (n : ℕ). macros_at (start + 3) (after_flags n)) flags) refl tt
 
 abbrev plain_header : ℕ → Width → ℕ → MacroHeader
 plain_header version w place = record { version = version; width = w; has_line = false; line_field = 0; first = place }
@@ -225,7 +231,7 @@ header-run order cells bs start h is e =
         subst (HeaderRun order cells bs start) same
         (record {
           run =
-              run-more (macro_grammar order) macro_piece cells (macros_at start at_unit) (macros_at (start + 3) (at_line w)) (macros_at (start + 3 + width_size w) (at_operation w))
+              run-more (macro_grammar order) any_macro macro_piece cells (macros_at start at_unit) (macros_at (start + 3) (at_line w)) (macros_at (start + 3 + width_size w) (at_operation w))
               start (start + 3) (start + 3 + width_size w) [] (fields_at w (Some (start + 3))) r (line-run order cells bs w (start + 3) is inside);
           before = omega arith;
           within = inside;

@@ -8,7 +8,7 @@ use Rattle.dw_base.specs.MacroHeaders.{macro_header}
 use Rattle.dw_base.specs.MacroOperations.{operation_at}
 use Rattle.dw_base.specs.MacroPieces.{MacroMode, MacroState, ReadsMacros, at_operation, at_unit, macro_grammar, macros_at}
 use Rattle.dw_base.specs.MacroUnits.{AreMacroUnits, IsMacroUnit, MacroUnitsUpTo, OperationsUpTo, is_end, line_of, more_operations, more_units, no_operations, no_units, offset_at, taken_if, unit_operation}
-use Rattle.dw_base.specs.Pieces.{Piece}
+use Rattle.dw_base.specs.Pieces.{EachPiece, Piece}
 use Rattle.dw_base.specs.Refusals.{at}
 use Rattle.dw_base.specs.RelocationRows.{FieldPlace, FieldsFail, FieldsRead, field_place, macro_fields, moving_sections, offset_field}
 use Rattle.dw_base.specs.ViewData.{located}
@@ -27,8 +27,8 @@ use Rattle.dw_macros.proofs.EventLaws.{operation-there}
 use Rattle.dw_fields.specs.FieldWalks.{AllRead, Goes, Ground, HasNone, OneFails, StandsAt, Walked, ground_of}
 use Rattle.dw_fields.specs.MacroFields.{FieldGoes, FieldNext, MacrosFail, MacrosHold, OperationsLeft, OperationsSo, PiecesPassed, UnitNext, UnitStands, UnitsLeft, UnitsSo, fields_at, header_place, last_left, line_place, line_place_by, more_at, more_left, more_of, operation_field}
 use Rattle.dw_fields.specs.declared.marks.Marks.{Marks}
-use Rattle.dw_fields.proofs.FieldRunLaws.{run-more, run-whole}
-use Rattle.dw_fields.proofs.MacroFieldLaws.{HeaderRun, MacroRun, behind_operation, header-run, macro_fields-are, macro_piece, operation-lies, operation-run}
+use Rattle.dw_meaning.proofs.RunLaws.{run-more, run-whole}
+use Rattle.dw_fields.proofs.MacroFieldLaws.{HeaderRun, MacroRun, any_macro, behind_operation, header-run, macro_fields-are, macro_piece, operation-lies, operation-run}
 use Rattle.dw_fields.proofs.QuietLaws.{quiet-reads}
 use Rattle.dw_fields.proofs.SlotFieldLaws.{walked-all}
 use Rattle.dw_fields.proofs.WalkLaws.{goes-from, goes-more, goes-none, goes-to, stands-on}
@@ -217,6 +217,11 @@ stays Leave width e = refl
 stays (Bring f) width e = refl
 stays Foreign width e = refl
 
+-- of all pieces nothing is asked
+each-any : (xs : List (Piece MacroState)) → EachPiece any_macro xs
+each-any [] = tt
+each-any (x ∷ xs) = (tt, each-any xs)
+
 -- pieces with their fields, over which a pass went on
 passed-of : (order : Order) (g : Ground) (a b : ℕ) (s t : MacroMode) (fs : List FieldPlace) (p q : Result Marks Refusal) → MacroRun order g.cells a s b t fs
     → Goes g a b fs p q → PiecesPassed order g a s b t p q
@@ -229,13 +234,13 @@ passed-of order g a b s t fs p q run goes = record {
 
 run-of : (order : Order) (g : Ground) (a b : ℕ) (s t : MacroMode) (p q : Result Marks Refusal) → (h : PiecesPassed order g a s b t p q)
     → MacroRun order g.cells a s b t (macro_fields h.pieces)
-run-of order g a b s t p q h = record { pieces = h.pieces; leads = h.leads; covers = h.covers; fields = sym (macro_fields-are h.pieces) }
+run-of order g a b s t p q h = record { pieces = h.pieces; leads = h.leads; covers = h.covers; fields = sym (macro_fields-are h.pieces); each = each-any h.pieces }
 
 pieces-more : (order : Order) (g : Ground) (a b c : ℕ) (s t u : MacroMode) (fs : List FieldPlace) (p q r : Result Marks Refusal) → PiecesPassed order g a s b t p q
     → MacroRun order g.cells b t c u fs → Goes g b c fs q r → PiecesPassed order g a s c u p r
 pieces-more order g a b c s t u fs p q r h run goes =
     passed-of order g a c s u (macro_fields h.pieces ++ fs) p r
-    (run-more (macro_grammar order) macro_piece g.cells (macros_at a s) (macros_at b t) (macros_at c u) a b c (macro_fields h.pieces) fs (run-of order g a b s t p q h) run)
+    (run-more (macro_grammar order) any_macro macro_piece g.cells (macros_at a s) (macros_at b t) (macros_at c u) a b c (macro_fields h.pieces) fs (run-of order g a b s t p q h) run)
     (goes-more g a b b c (macro_fields h.pieces) fs p q r (omega arith) h.goes goes)
 
 pieces-none : (order : Order) (g : Ground) (a : ℕ) (s : MacroMode) (p : Result Marks Refusal) → StandsAt g.cells a p → PiecesPassed order g a s a s p p
@@ -389,7 +394,7 @@ record PiecesAre (order : Order) (cells : List Cell) (fs : List FieldPlace) : Ty
 pieces-are : (v : View) (i : ℕ) (p q : Result Marks Refusal) → (h : PiecesPassed v.order (ground_of v i) 0 at_unit (length (section_bytes v i)) at_unit p q)
     → PiecesAre v.order (view_cells v i) (macro_fields h.pieces)
 pieces-are v i p q h =
-    let whole = run-whole (macro_grammar v.order) macro_piece (view_cells v i) (macros_at 0 at_unit) (macros_at (length (section_bytes v i)) at_unit) (length (section_bytes v i))
+    let whole = run-whole (macro_grammar v.order) any_macro macro_piece (view_cells v i) (macros_at 0 at_unit) (macros_at (length (section_bytes v i)) at_unit) (length (section_bytes v i))
     (macro_fields h.pieces) (sym (length-view_cells v i)) refl (run-of v.order (ground_of v i) 0 (length (section_bytes v i)) at_unit at_unit p q h) in
     record {
       pieces = whole.pieces;

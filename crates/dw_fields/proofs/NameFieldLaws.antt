@@ -1,5 +1,6 @@
 -- The string offsets of name tables are the fields of the pieces of name tables.
 use Rattle.std.proofs.Common.{◌≡◌, ℕ, zero, suc, ◌+◌, ◌-◌, ◌*◌, ◌≤◌, List, [], ◌∷◌, ◌++◌, length, take, drop, refl, sym, ap, ◌∙◌, subst, arith, append_assoc, append-nil}
+use Rattle.std.specs.Bool.{⊤}
 use Rattle.dw_base.specs.Cells.{Cell, bytes_of}
 use Rattle.dw_base.specs.FileViews.{View}
 use Rattle.dw_base.specs.Forms.{width_size}
@@ -17,13 +18,18 @@ use Rattle.dw_base.proofs.RunLaws.{part-length}
 use Rattle.dw_base.proofs.UnitEditLaws.{length-bytes_of}
 use Rattle.dw_offsets.proofs.NamePieceLaws.{Parts, counts_of, front-next, front-piece, front_size, parts-of}
 use Rattle.dw_fields.specs.FieldRows.{TablesFrom, row_field, row_fields, tables_fields}
-use Rattle.dw_fields.proofs.FieldRunLaws.{FieldRun, all_fields, run-more, run-none, run-one, run-whole}
+use Rattle.dw_meaning.specs.PieceRuns.{all_of}
+use Rattle.dw_meaning.proofs.RunLaws.{PieceRun, run-more, run-none, run-one, run-whole}
+
+-- nothing is asked of a piece
+abbrev any_name : Piece NameState → Type 0
+any_name x = ⊤
 
 -- the fields of a piece
 abbrev pub name_piece : Piece NameState → List FieldPlace
 name_piece x = name_field x.state.mode x.state.place
 
-pub name_fields-are : (xs : List (Piece NameState)) → name_fields xs ≡ all_fields name_piece xs
+pub name_fields-are : (xs : List (Piece NameState)) → name_fields xs ≡ all_of name_piece xs
 name_fields-are [] = refl
 name_fields-are (x ∷ xs) = ap (λ (l : List FieldPlace). name_field x.state.mode x.state.place ++ l) (name_fields-are xs)
 
@@ -55,13 +61,13 @@ one-size W32 k = omega arith
 one-size W64 k = omega arith
 
 strings-run : (order : Order) (cells : List Cell) (w : Width) (k place end : ℕ) → place + k * width_size w ≤ end → end ≤ length cells
-    → FieldRun (name_grammar order) name_piece cells (before_strings_of (length cells) place w k end) (names_at (length cells) end at_table) place end (strings_from w k place)
+    → PieceRun (name_grammar order) any_name name_piece cells (before_strings_of (length cells) place w k end) (names_at (length cells) end at_table) place end (strings_from w k place)
 strings-run order cells w zero place end fits inside =
     let room : place ≤ end = omega (arith, fits) in
     let size : length (take (end - place) (drop place cells)) ≡ end - place = part-length (end - place) place cells (omega (arith, room, inside)) in
     let here : place + length (take (end - place) (drop place cells)) ≡ end = omega (arith, size, room) in
-    let one = run-one (name_grammar order) name_piece cells (names_at (length cells) place (at_rest end)) (names_at (length cells) end at_table) place (end - place) [] here refl refl in
-    subst (λ (b : ℕ). FieldRun (name_grammar order) name_piece cells (names_at (length cells) place (at_rest end)) (names_at (length cells) end at_table) place b [])
+    let one = run-one (name_grammar order) any_name name_piece cells (names_at (length cells) place (at_rest end)) (names_at (length cells) end at_table) place (end - place) [] here refl refl tt in
+    subst (λ (b : ℕ). PieceRun (name_grammar order) any_name name_piece cells (names_at (length cells) place (at_rest end)) (names_at (length cells) end at_table) place b [])
     (omega (arith, room)) one
 strings-run order cells w (suc k) place end fits inside =
     let more : suc k * width_size w ≡ width_size w + k * width_size w = one-size w k in
@@ -70,9 +76,9 @@ strings-run order cells w (suc k) place end fits inside =
     let size : length (take (width_size w) (drop place cells)) ≡ width_size w = part-length (width_size w) place cells whole in
     let next : before_strings_of (length cells) (place + length (take (width_size w) (drop place cells))) w k end ≡ before_strings_of (length cells) (place + width_size w) w k end =
     ap (λ (b : ℕ). before_strings_of (length cells) (place + b) w k end) size in
-    let one = run-one (name_grammar order) name_piece cells (names_at (length cells) place (at_string w k end)) (before_strings_of (length cells) (place + width_size w) w k end) place
-    (width_size w) (field_place place (width_size w) offset_field ∷ []) (record { size = size; before = omega (arith, size, room) }) next refl in
-    run-more (name_grammar order) name_piece cells (names_at (length cells) place (at_string w k end)) (before_strings_of (length cells) (place + width_size w) w k end)
+    let one = run-one (name_grammar order) any_name name_piece cells (names_at (length cells) place (at_string w k end)) (before_strings_of (length cells) (place + width_size w) w k end) place
+    (width_size w) (field_place place (width_size w) offset_field ∷ []) (record { size = size; before = omega (arith, size, room) }) next refl tt in
+    run-more (name_grammar order) any_name name_piece cells (names_at (length cells) place (at_string w k end)) (before_strings_of (length cells) (place + width_size w) w k end)
     (names_at (length cells) end at_table) place (place + width_size w) end (field_place place (width_size w) offset_field ∷ []) (strings_from w k (place + width_size w)) one
     (strings-run order cells w k (place + width_size w) end (omega (arith, fits, more)) inside)
 
@@ -102,21 +108,21 @@ table-lies order cells start t is =
 
 -- a table is its pieces
 table-run : (order : Order) (cells : List Cell) (start : ℕ) (t : NameTable) → IsNameTable order (bytes_of cells) start t
-    → FieldRun (name_grammar order) name_piece cells (names_at (length cells) start at_table) (names_at (length cells) t.end at_table) start t.end
+    → PieceRun (name_grammar order) any_name name_piece cells (names_at (length cells) start at_table) (names_at (length cells) t.end at_table) start t.end
     (row_fields t.strings t.width t.names)
 table-run order cells start t is =
     let parts : Parts cells start t is.lengths (counts_of order cells start is.lengths) (front_size order cells start is.lengths) = parts-of order cells start t is in
     let lies : TableLies (length cells) start t = table-lies order cells start t is in
-    let head = run-one (name_grammar order) name_piece cells (names_at (length cells) start at_table) (before_strings_of (length cells) t.strings t.width t.names t.end) start
+    let head = run-one (name_grammar order) any_name name_piece cells (names_at (length cells) start at_table) (before_strings_of (length cells) t.strings t.width t.names t.end) start
     (front_size order cells start is.lengths) []
     (front-piece order cells start t is.lengths (front_size order cells start is.lengths) parts is.length_is is.version)
-    (front-next order cells start t is.lengths (front_size order cells start is.lengths) parts is.length_is) refl in
-    let first = subst (λ (b : ℕ). FieldRun (name_grammar order) name_piece cells (names_at (length cells) start at_table)
+    (front-next order cells start t is.lengths (front_size order cells start is.lengths) parts is.length_is) refl tt in
+    let first = subst (λ (b : ℕ). PieceRun (name_grammar order) any_name name_piece cells (names_at (length cells) start at_table)
     (before_strings_of (length cells) t.strings t.width t.names t.end) start b []) (sym parts.strings) head in
-    let rest = subst (λ (fs : List FieldPlace). FieldRun (name_grammar order) name_piece cells (before_strings_of (length cells) t.strings t.width t.names t.end)
+    let rest = subst (λ (fs : List FieldPlace). PieceRun (name_grammar order) any_name name_piece cells (before_strings_of (length cells) t.strings t.width t.names t.end)
     (names_at (length cells) t.end at_table) t.strings t.end fs) (row-strings t.width t.names t.strings)
     (strings-run order cells t.width t.names t.strings t.end lies.room lies.within) in
-    run-more (name_grammar order) name_piece cells (names_at (length cells) start at_table) (before_strings_of (length cells) t.strings t.width t.names t.end)
+    run-more (name_grammar order) any_name name_piece cells (names_at (length cells) start at_table) (before_strings_of (length cells) t.strings t.width t.names t.end)
     (names_at (length cells) t.end at_table) start t.strings t.end [] (row_fields t.strings t.width t.names) first rest
 
 tables_fields-more : (list : List NameTable) (t : NameTable) → tables_fields (list ++ t ∷ []) ≡ tables_fields list ++ row_fields t.strings t.width t.names
@@ -127,13 +133,13 @@ tables_fields-more (x ∷ xs) t =
 
 -- so are all of a section
 tables-run : (v : View) (section : ℕ) (cells : List Cell) (list : List NameTable) (place : ℕ) → TablesUpTo v section (bytes_of cells) list place
-    → FieldRun (name_grammar v.order) name_piece cells (names_at (length cells) 0 at_table) (names_at (length cells) place at_table) 0 place (tables_fields list)
+    → PieceRun (name_grammar v.order) any_name name_piece cells (names_at (length cells) 0 at_table) (names_at (length cells) place at_table) 0 place (tables_fields list)
 tables-run v section cells list place no_tables =
-    run-none (name_grammar v.order) name_piece cells (names_at (length cells) 0 at_table) (names_at (length cells) 0 at_table) 0 refl
+    run-none (name_grammar v.order) any_name name_piece cells (names_at (length cells) 0 at_table) (names_at (length cells) 0 at_table) 0 refl
 tables-run v section cells all end (more_tables list t start u is) =
-    subst (λ (fs : List FieldPlace). FieldRun (name_grammar v.order) name_piece cells (names_at (length cells) 0 at_table) (names_at (length cells) t.end at_table) 0 t.end fs)
+    subst (λ (fs : List FieldPlace). PieceRun (name_grammar v.order) any_name name_piece cells (names_at (length cells) 0 at_table) (names_at (length cells) t.end at_table) 0 t.end fs)
     (sym (tables_fields-more list t))
-    (run-more (name_grammar v.order) name_piece cells (names_at (length cells) 0 at_table) (names_at (length cells) start at_table) (names_at (length cells) t.end at_table)
+    (run-more (name_grammar v.order) any_name name_piece cells (names_at (length cells) 0 at_table) (names_at (length cells) start at_table) (names_at (length cells) t.end at_table)
     0 start t.end (tables_fields list) (row_fields t.strings t.width t.names) (tables-run v section cells list start u)
     (table-run v.order cells start t is.table))
 
@@ -158,7 +164,7 @@ pub tables-are : (v : View) (section : ℕ) (cells : List Cell) (list : List Nam
     → NamesAre v.order cells (tables_fields list)
 tables-are v section cells list u =
     let size : length (bytes_of cells) ≡ length cells = length-bytes_of cells in
-    let whole = run-whole (name_grammar v.order) name_piece cells (names_at (length cells) 0 at_table) (names_at (length cells) (length (bytes_of cells)) at_table)
+    let whole = run-whole (name_grammar v.order) any_name name_piece cells (names_at (length cells) 0 at_table) (names_at (length cells) (length (bytes_of cells)) at_table)
     (length (bytes_of cells)) (tables_fields list) size (record { mode = refl; place = size })
     (tables-run v section cells list (length (bytes_of cells)) u) in
     record {

@@ -1,5 +1,5 @@
 -- Laws of a pass over the fields of units.
-use Rattle.std.proofs.Common.{◌≡◌, ℕ, ◌<◌, ◌≤◌, ◌^◌, true, List, length, take, Result, Ok, Err, sym, ap, ◌∙◌, subst, arith}
+use Rattle.std.proofs.Common.{◌≡◌, ℕ, ◌<◌, ◌≤◌, ◌^◌, true, List, length, Result, Ok, Err, sym, ◌∙◌, subst, arith}
 use Rattle.dw_base.specs.AbbreviationTables.{Abbreviation}
 use Rattle.dw_base.specs.EntryScans.{EntryFails}
 use Rattle.dw_base.specs.EntryValues.{HasUnit, bytes_up_to}
@@ -9,9 +9,8 @@ use Rattle.dw_base.specs.UnitHeaders.{IsUnit, UnitBase, UnitSection}
 use Rattle.dw_base.specs.ViewData.{debug_data}
 use Rattle.dw_base.specs.declared.fault.Refusal.{Refusal}
 use Rattle.dw_base.specs.declared.units.UnitHeader.{UnitHeader}
-use Rattle.dw_entries.specs.ScanStates.{ScanState, scan_start}
 use Rattle.dw_entries.specs.ViewUnits.{IsUnitSection, unit_section_at}
-use Rattle.dw_entries.proofs.HasUnitLaws.{is-unit_section, scan-end, unit-of-view, unit-section}
+use Rattle.dw_entries.proofs.HasUnitLaws.{is-unit_section, unit-of-view, unit-section}
 use Rattle.dw_entries.proofs.UnitSectionLaws.{is-of-view}
 use Rattle.dw_meaning.proofs.ScanSectionLaws.{header-placed}
 use Rattle.dw_fields.specs.FieldWalks.{Goes, Ground}
@@ -64,26 +63,6 @@ unit-passed g base z h table p q r front entries = record {
   goes = goes-more g h.start h.first h.first h.end (front_fields base z h.start) (entries_fields h.params table (bytes_up_to z h) 0 entries.items) p q r
       (omega arith) front entries.goes;
 }
-
--- the bytes up to the unit's end
-pub unit-bytes : (v : View) (h : UnitHeader) (bs : List ℕ) → HasUnit (debug_data v) (unit_section_at v h.section) h → bs ≡ section_bytes v h.section
-    → take h.end bs ≡ bytes_up_to (unit_section_at v h.section) h
-unit-bytes v h bs u is = ap (take h.end) is ∙ (unit-of-view v h u).bytes
-
-pub unit-length : (v : View) (h : UnitHeader) (bs : List ℕ) → HasUnit (debug_data v) (unit_section_at v h.section) h → bs ≡ section_bytes v h.section
-    → h.end ≡ length (take h.end bs)
-unit-length v h bs u is = scan-end v h bs (unit-of-view v h u) is
-
-pub unit-starts : (v : View) (h : UnitHeader) (table : List Abbreviation) (bs : List ℕ) (s : ScanState) → HasUnit (debug_data v) (unit_section_at v h.section) h
-    → bs ≡ section_bytes v h.section → s ≡ scan_start h table (bytes_up_to (unit_section_at v h.section) h) → s ≡ scan_start h table (take h.end bs)
-unit-starts v h table bs s u is e = e ∙ ap (scan_start h table) (sym (unit-bytes v h bs u is))
-
-pub first-inside : (v : View) (h : UnitHeader) (bs : List ℕ) → HasUnit (debug_data v) (unit_section_at v h.section) h → bs ≡ section_bytes v h.section
-    → h.first ≤ length (take h.end bs)
-first-inside v h bs u is =
-    let end = unit-length v h bs u is in
-    let ends = (unit-of-view v h u).ends in
-    omega (arith, end, ends)
 
 pub all-passed : (g : Ground) (base : UnitBase) (z : UnitSection) (h : UnitHeader) (table : List Abbreviation) (bytes : List ℕ) (p q : Result Marks Refusal)
     (x : Result (Result Marks Refusal) Refusal) → bytes ≡ bytes_up_to z h → Goes g h.start h.first (front_fields base z h.start) p q

@@ -5,11 +5,8 @@ use Rattle.dw_base.specs.Cells.{Cell}
 use Rattle.dw_base.specs.Forms.{ValueKind, form_in_front, kind_in, number_of, text_offset}
 use Rattle.dw_base.specs.Lebs.{uleb_at}
 use Rattle.dw_base.specs.Numbers.{number_at}
-use Rattle.dw_base.specs.RelocationRows.{FieldPlace, FieldUse, field_place, is_start, kind_field, names_start, offset_field, plain_field, use_of_number}
-use Rattle.dw_base.specs.Roles.{is_path, names_line_table, names_macro_unit, names_other, names_path}
-use Rattle.dw_base.specs.TextIndexes.{is_base}
+use Rattle.dw_base.specs.RelocationRows.{FieldPlace, FieldUse, field_place, kind_field, offset_field, plain_field, use_of_number, is_section_offset}
 use Rattle.dw_base.specs.Values.{number_value, offset_class, value_at, value_of, value_size}
-use Rattle.dw_base.specs.declared.dwarf_numbers.TheConstants.{DW_AT_GNU_macros, DW_AT_macros, DW_AT_stmt_list}
 use Rattle.dw_base.specs.declared.fault.Refusal.{Refusal}
 use Rattle.dw_base.specs.declared.shared.Order.{Order}
 use Rattle.dw_base.specs.declared.shared.Params.{Params}
@@ -22,62 +19,13 @@ use Rattle.dw_meaning.proofs.ScanPieceLaws.{chosen-read}
 use Rattle.std.specs.Prelude.{ℤ}
 use Rattle.dw_fields.specs.FieldForms.{fields_by, form_by_use, form_end, form_of, is_front, use_by}
 use Rattle.dw_fields.specs.FieldWalks.{Goes, Ground, StandsAt}
-use Rattle.dw_fields.specs.UnitFields.{chosen_fields, end_behind, fields_behind, fields_of_kind, value_fields, values_end, values_fields}
+use Rattle.dw_fields.specs.UnitFields.{chosen_fields, fields_of_kind, of_value, value_fields, values_fields}
 use Rattle.dw_fields.specs.declared.forms.FieldForm.{FieldForm}
 use Rattle.dw_fields.specs.declared.marks.Marks.{Marks}
 use Rattle.dw_fields.proofs.FormFieldLaws.{kind-field}
 use Rattle.dw_fields.proofs.WalkLaws.{goes-from, goes-more, goes-none, goes-to, stands-on}
 use Rattle.dw_fields.proofs.ListItemLaws.{front-at}
-
--- an attribute that says where something starts
-start-by : (p s m b : Bool) → (if b then true else (if p then false else (if s then true else m)))
-    ≡ (names_start (if p then names_path else (if s then names_line_table else (if m then names_macro_unit else names_other))) || b)
-start-by true s m true = refl
-start-by true s m false = refl
-start-by false true m true = refl
-start-by false true m false = refl
-start-by false false true true = refl
-start-by false false true false = refl
-start-by false false false true = refl
-start-by false false false false = refl
-
-whole-start : (number tag name : ℕ) → (if is_base number name then true else (if is_path number tag name then false
-    else (if name == DW_AT_stmt_list then true else (name == DW_AT_macros || name == DW_AT_GNU_macros)))) ≡ is_start number tag name
-whole-start number tag name =
-    start-by (is_path number tag name) (name == DW_AT_stmt_list) (name == DW_AT_macros || name == DW_AT_GNU_macros) (is_base number name)
-
-pub start-base : (number tag name : ℕ) → is_base number name ≡ true → true ≡ is_start number tag name
-start-base number tag name b =
-    sym (ap (λ (t : Bool). if t then true else (if is_path number tag name then false
-    else (if name == DW_AT_stmt_list then true else (name == DW_AT_macros || name == DW_AT_GNU_macros)))) b) ∙ whole-start number tag name
-
-pub start-path : (number tag name : ℕ) → is_base number name ≡ false → is_path number tag name ≡ true → false ≡ is_start number tag name
-start-path number tag name b p =
-    sym (ap (λ (t : Bool). if t then false
-    else (if name == DW_AT_stmt_list then true else (name == DW_AT_macros || name == DW_AT_GNU_macros))) p)
-    ∙ sym (ap (λ (t : Bool). if t then true else (if is_path number tag name then false
-    else (if name == DW_AT_stmt_list then true else (name == DW_AT_macros || name == DW_AT_GNU_macros)))) b) ∙ whole-start number tag name
-
-pub start-line : (number tag name : ℕ) → is_base number name ≡ false → is_path number tag name ≡ false → (name == DW_AT_stmt_list) ≡ true
-    → true ≡ is_start number tag name
-start-line number tag name b p s =
-    sym (ap (λ (t : Bool). if t then true else (name == DW_AT_macros || name == DW_AT_GNU_macros)) s)
-    ∙ sym (ap (λ (t : Bool). if t then false
-    else (if name == DW_AT_stmt_list then true else (name == DW_AT_macros || name == DW_AT_GNU_macros))) p)
-    ∙ sym (ap (λ (t : Bool). if t then true else (if is_path number tag name then false
-    else (if name == DW_AT_stmt_list then true else (name == DW_AT_macros || name == DW_AT_GNU_macros)))) b) ∙ whole-start number tag name
-
-pub start-macros : (number tag name : ℕ) (m : Bool) → is_base number name ≡ false → is_path number tag name ≡ false → (name == DW_AT_stmt_list) ≡ false
-    → m ≡ (name == DW_AT_macros || name == DW_AT_GNU_macros) → m ≡ is_start number tag name
-start-macros number tag name m b p s e =
-    e
-    ∙ sym (ap (λ (t : Bool). if t then true else (name == DW_AT_macros || name == DW_AT_GNU_macros)) s)
-    ∙ sym (ap (λ (t : Bool). if t then false
-    else (if name == DW_AT_stmt_list then true else (name == DW_AT_macros || name == DW_AT_GNU_macros))) p)
-    ∙ sym (ap (λ (t : Bool). if t then true else (if is_path number tag name then false
-    else (if name == DW_AT_stmt_list then true else (name == DW_AT_macros || name == DW_AT_GNU_macros)))) b) ∙ whole-start number tag name
-
-pub ruleset start_rules = (start-base, start-path, start-line, start-macros)
+use Rattle.dw_meaning.specs.PieceRuns.{end_behind, value_out, values_end}
 
 -- the field at a place, where there is one
 pub form-none : (g : Ground) (place : ℕ) (o : Option FieldForm) (p : Result Marks Refusal) → o ≡ None → StandsAt g.cells place p
@@ -287,15 +235,15 @@ pub values-more : (g : Ground) (params : Params) (bytes : List ℕ) (number tag 
 values-more g params bytes number tag specs x from after i place size p q r lt is h e goes =
     let v = value-there params x bytes place size e in
     let place_is : place + v.value.size ≡ place + size = ap (λ (n : ℕ). place + n) v.size_is in
-    let behind : fields_behind (λ n. values_fields params bytes number tag (drop (i + 1) specs) n) place (value_at params x bytes place)
-    ≡ values_fields params bytes number tag (drop (i + 1) specs) (place + size) =
-    ap (fields_behind (λ n. values_fields params bytes number tag (drop (i + 1) specs) n) place) v.is
-    ∙ ap (λ (n : ℕ). values_fields params bytes number tag (drop (i + 1) specs) n) place_is in
+    let behind : value_out (of_value params bytes) (λ n. values_fields params bytes number tag (drop (i + 1) specs) n) number tag x place (value_at params x bytes place)
+    ≡ value_fields params bytes number tag x place ++ values_fields params bytes number tag (drop (i + 1) specs) (place + size) =
+    ap (value_out (of_value params bytes) (λ n. values_fields params bytes number tag (drop (i + 1) specs) n) number tag x place) v.is
+    ∙ ap (λ (n : ℕ). value_fields params bytes number tag x place ++ values_fields params bytes number tag (drop (i + 1) specs) n) place_is in
     record {
       front = h.front ++ value_fields params bytes number tag x place;
       is =
           append_assoc h.front (value_fields params bytes number tag x place) (values_fields params bytes number tag (drop (i + 1) specs) (place + size))
-          ∙ ap (λ (l : List FieldPlace). h.front ++ (value_fields params bytes number tag x place ++ l)) (sym behind)
+          ∙ ap (λ (l : List FieldPlace). h.front ++ l) (sym behind)
           ∙ ap (λ (l : List Spec). h.front ++ values_fields params bytes number tag l place) (sym (front-at specs x i lt is)) ∙ h.is;
       ends =
           ap (λ (n : ℕ). values_end params bytes (drop (i + 1) specs) n) (sym place_is)
@@ -307,7 +255,7 @@ values-more g params bytes number tag specs x from after i place size p q r lt i
 -- by what the code knows of the attribute
 pub values-step : (g : Ground) (params : Params) (bytes : List ℕ) (number tag : ℕ) (specs : List Spec) (x : Spec) (from after i place size : ℕ) (start : Bool)
     (p q r : Result Marks Refusal) → i < length specs → x ≡ get_or specs i x → ValuesSo g params bytes number tag specs from after i place p q
-    → value_size (value_at params x bytes place) ≡ Some size → start ≡ is_start number tag x.name
+    → value_size (value_at params x bytes place) ≡ Some size → start ≡ is_section_offset number tag x.name
     → Goes g place (place + size) (fields_of_kind (kind_in params x.form) params bytes start place) q r
     → ValuesSo g params bytes number tag specs from after (i + 1) (place + size) p r
 values-step g params bytes number tag specs x from after i place size start p q r lt is h e said goes =

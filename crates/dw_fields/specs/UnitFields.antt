@@ -1,15 +1,14 @@
 -- The fields of units, in the order of their places: the offset in the header (DWARF 5, 7.5.1), and the values of entries by their forms (7.5.5).
 use Rattle.std.specs.Prelude.{Bool, ℕ, ◌+◌, List, [], ◌∷◌, ◌++◌, drop, Option, Some, None}
-use Rattle.dw_base.specs.AbbreviationTables.{Abbreviation, abbreviation_of}
+use Rattle.dw_base.specs.AbbreviationTables.{Abbreviation}
 use Rattle.dw_base.specs.EntryScans.{AreEntries}
 use Rattle.dw_base.specs.EntryValues.{bytes_up_to}
 use Rattle.dw_base.specs.Forms.{ValueKind, form_in_front, kind_in}
 use Rattle.dw_base.specs.Lebs.{initial_length_at, uleb_at}
-use Rattle.dw_base.specs.RelocationRows.{FieldPlace, header_field, is_start, kind_field}
+use Rattle.dw_base.specs.RelocationRows.{FieldPlace, header_field, kind_field, is_section_offset}
 use Rattle.dw_base.specs.UnitFails.{bytes_from}
 use Rattle.dw_base.specs.UnitHeaders.{IsUnit, UnitBase, UnitSection, header_places}
 use Rattle.dw_base.specs.UnitTables.{IsUnitTable}
-use Rattle.dw_base.specs.Values.{value_at}
 use Rattle.dw_base.specs.declared.shared.Params.{Params}
 use Rattle.dw_base.specs.declared.shared.Width.{Width}
 use Rattle.dw_base.specs.declared.shared.Width.TheVariants.{W32, W64}
@@ -17,6 +16,7 @@ use Rattle.dw_base.specs.declared.units.Scanned.{Scanned}
 use Rattle.dw_base.specs.declared.units.UnitHeader.{UnitHeader}
 use Rattle.dw_base.specs.declared.values.Spec.{Spec}
 use Rattle.dw_base.specs.declared.values.Value.{Value}
+use Rattle.dw_meaning.specs.PieceRuns.{entries_out, entry_out, values_out}
 
 -- the field of a value behind a form that was read at a place
 abbrev pub chosen_fields : Params → Bool → ℕ → Option (ℕ × ℕ) → List FieldPlace
@@ -30,44 +30,23 @@ fields_of_kind k params bytes start place = kind_field k place start
 
 -- that of the value of an attribute at a place, in entry `number` of a tag
 abbrev pub value_fields : Params → List ℕ → ℕ → ℕ → Spec → ℕ → List FieldPlace
-value_fields params bytes number tag x place = fields_of_kind (kind_in params x.form) params bytes (is_start number tag x.name) place
+value_fields params bytes number tag x place = fields_of_kind (kind_in params x.form) params bytes (is_section_offset number tag x.name) place
 
--- where values end that begin at a place
-abbrev pub end_behind : (ℕ → Option ℕ) → ℕ → Option Value → Option ℕ
-end_behind f place None = None
-end_behind f place (Some v) = f (place + v.size)
+-- those of the values of entries, numbered from `number` on; an entry has none of its own
+abbrev pub of_entry : ℕ → ℕ → ℕ → Abbreviation → List FieldPlace
+of_entry number place depth a = []
 
-abbrev pub values_end : Params → List ℕ → List Spec → ℕ → Option ℕ
-values_end params bytes [] place = Some place
-values_end params bytes (x ∷ xs) place = end_behind (λ p. values_end params bytes xs p) place (value_at params x bytes place)
-
--- those of values, one after another
-abbrev pub fields_behind : (ℕ → List FieldPlace) → ℕ → Option Value → List FieldPlace
-fields_behind rest place None = []
-fields_behind rest place (Some v) = rest (place + v.size)
+abbrev pub of_value : Params → List ℕ → ℕ → ℕ → Spec → ℕ → Value → List FieldPlace
+of_value params bytes number tag x place v = value_fields params bytes number tag x place
 
 abbrev pub values_fields : Params → List ℕ → ℕ → ℕ → List Spec → ℕ → List FieldPlace
-values_fields params bytes number tag [] place = []
-values_fields params bytes number tag (x ∷ xs) place =
-    value_fields params bytes number tag x place
-    ++ fields_behind (λ p. values_fields params bytes number tag xs p) place (value_at params x bytes place)
-
--- those of an entry whose code stands at a place
-abbrev pub fields_listed : Params → List ℕ → ℕ → ℕ → Option Abbreviation → List FieldPlace
-fields_listed params bytes number place None = []
-fields_listed params bytes number place (Some a) = values_fields params bytes number a.tag a.specs place
-
-abbrev pub fields_coded : Params → List Abbreviation → List ℕ → ℕ → ℕ → Option (ℕ × ℕ) → List FieldPlace
-fields_coded params table bytes number place None = []
-fields_coded params table bytes number place (Some n) = fields_listed params bytes number (place + n.1) (abbreviation_of table n.0)
+values_fields params bytes number tag xs place = values_out (of_value params bytes) params bytes number tag xs place
 
 unfoldable pub entry_fields : Params → List Abbreviation → List ℕ → ℕ → Scanned → List FieldPlace
-entry_fields params table bytes number e = fields_coded params table bytes number e.offset (uleb_at bytes e.offset)
+entry_fields params table bytes number e = entry_out of_entry (of_value params bytes) params table bytes number e
 
--- those of entries, numbered from `number` on
 abbrev pub entries_fields : Params → List Abbreviation → List ℕ → ℕ → List Scanned → List FieldPlace
-entries_fields params table bytes number [] = []
-entries_fields params table bytes number (e ∷ es) = entry_fields params table bytes number e ++ entries_fields params table bytes (number + 1) es
+entries_fields params table bytes number es = entries_out of_entry (of_value params bytes) params table bytes number es
 
 -- that of the header at a place of a section
 abbrev pub front_fields : UnitBase → UnitSection → ℕ → List FieldPlace

@@ -10,13 +10,12 @@ use Rattle.dw_meaning.specs.RelocationFails.ValueRelocationFails.{value as reloc
 use Rattle.dw_base.specs.DebugData.{DebugData}
 use Rattle.dw_base.specs.EntryScans.{SpellsValues, no_values, more_values, scanned, Scans, starts, null, entry, AreEntries}
 use Rattle.dw_base.specs.EntryValues.{HasTable, HasValue, bytes_up_to}
-use Rattle.dw_base.specs.Forms.{TextSection, in_str, in_line_str}
 use Rattle.dw_base.specs.InlinePaths.{inline_fits}
 use Rattle.dw_base.specs.Lebs.{uleb_at}
 use Rattle.dw_base.specs.Paths.{PathMap}
 use Rattle.dw_base.specs.Refusals.{at as refusal_at}
-use Rattle.dw_base.specs.RelocationRows.{OffsetFails, field_place, is_start as field_start, names_start, offset_field}
-use Rattle.dw_base.specs.Roles.{Role, fixed, offset, inline_path, line_start, is_path, use_of}
+use Rattle.dw_base.specs.RelocationRows.{OffsetFails, field_place, is_section_offset as field_start, names_start, offset_field}
+use Rattle.dw_base.specs.Roles.{Role, fixed, offset, inline_path, line_start, is_path, use_of, is_macros, is_start_name}
 use Rattle.dw_base.specs.declared.dwarf_numbers.TheConstants.{DW_AT_stmt_list}
 use Rattle.dw_base.specs.TextIndexes.{is_base}
 use Rattle.dw_base.specs.Texts.{text_in}
@@ -34,24 +33,28 @@ use Rattle.dw_base.specs.declared.values.ValueClass.TheVariants.{InlineText, Num
 use Rattle.dw_meaning.proofs.ScanPieceLaws.{part-bytes, before-end, bytes_of-take, bytes_of-drop}
 use Rattle.std.proofs.lemmas.List.{length-take}
 use Rattle.dw_base.proofs.UnitEditLaws.{length-bytes_of}
+use Rattle.dw_base.specs.TableStarts.{is_start_form, own_form}
 use Rattle.dw_base.specs.declared.debug_sections.DebugSection.TheVariants.{Info}
+use Rattle.dw_base.specs.declared.texts.TextField.{TextField}
+use Rattle.dw_base.specs.declared.texts.TextSection.{TextSection}
+use Rattle.dw_base.specs.declared.texts.TextSection.TheVariants.{InStr, InLineStr}
 use Rattle.dw_find.specs.Fields.{AreOffsetFields, IsOffsetField, IsStartField, AreStartFields}
 use Rattle.dw_find.specs.EntryTexts.{value_field}
 use Rattle.dw_find.specs.InlineRooms.{AreRooms, grows, Grows, one}
 use Rattle.dw_find.specs.ViewFields.{texts_in}
-use Rattle.dw_find.specs.TextPlaces.{TextPlace, no_index, no_start, unit_base, base_offset, said_base, base_or, base_in, text_index, UnitSays, indexed_at, Indexed, is_macros, is_start, is_start_form, line_at, line_places, macros_in, own_form, said_places, said_value, start_at, starts_in, unit_start, unit_start_at, class_places, value_places, value_places_behind, values_places, entry_places, entries_places, UnitsPlaced, none_placed, more_placed, PlaceNames, PlacesName, fields_in, inline_at, inline_in}
-use Rattle.dw_find.specs.UnitPaths.{field_by, inline_text}
+use Rattle.dw_find.specs.TextPlaces.{TextPlace, no_index, no_start, unit_base, base_offset, said_base, base_or, base_in, text_index, UnitSays, indexed_at, Indexed, line_at, line_places, macros_in, said_places, said_value, start_at, starts_in, unit_start, unit_start_at, class_places, value_places, values_places, entry_places, entries_places, UnitsPlaced, none_placed, more_placed, PlaceNames, PlacesName, fields_in, inline_at, inline_in, of_value}
+use Rattle.dw_find.specs.SectionFields.{field_by, inline_text}
 use Rattle.dw_find.specs.declared.fields.InlinePath.{InlinePath}
-use Rattle.dw_find.specs.declared.fields.PathField.{PathField}
 use Rattle.dw_find.specs.declared.fields.TextBase.{TextBase}
 use Rattle.dw_find.specs.declared.fields.TextBase.TheVariants.{Field as BaseField, Number as BaseNumber}
-use Rattle.dw_find.proofs.EntryRunLaws.{entries_places-more}
 use Rattle.dw_find.proofs.UnitTextLaws.{places-listed}
 use Rattle.dw_find.proofs.InlineTextLaws.{text-front}
 use Rattle.dw_find.proofs.ValueFactLaws.{OffsetRead, OffsetFacts, start-read, value-facts}
-use Rattle.dw_find.proofs.StartFormLaws.{line-use, macro-use, macros-line}
+use Rattle.dw_base.proofs.StartFormLaws.{line-use, macro-use, macros-line}
+use Rattle.dw_find.proofs.PlacedRunLaws.{entries_places-more}
 use Rattle.dw_find.proofs.TextFieldLaws.{start-field}
 use Rattle.dw_find.proofs.ValueTextLaws.{TextRead, value-text}
+use Rattle.dw_meaning.specs.PieceRuns.{value_out}
 
 -- this holds of each of a list
 abbrev pub EachOf : {X : Type 0} → (X → Type 0) → List X → Type 0
@@ -132,13 +135,13 @@ value-each h table bytes number a x place v has =
     let line : Bool = x.name == DW_AT_stmt_list in
     let texts : List TextPlace = class_places v.class (is_path number a.tag x.name) (is_base number x.name) (is_start_form (own_form x bytes place)) place v in
     each-append (ValueBehind h table bytes) (line_places (x.name == DW_AT_stmt_list) (own_form x bytes place) v)
-    (texts ++ said_places (is_start x.name) (is_macros x.name) (own_form x bytes place) place v)
+    (texts ++ said_places (is_start_name x.name) (is_macros x.name) (own_form x bytes place) place v)
     (line-each (ValueBehind h table bytes) (x.name == DW_AT_stmt_list) (own_form x bytes place) v
     (λ (t : TextPlace) n f e. record { number = number; abbreviation = a; spec = x; place = place; value = v; stands = has; is = by_start n f e }))
-    (each-append (ValueBehind h table bytes) texts (said_places (is_start x.name) (is_macros x.name) (own_form x bytes place) place v)
+    (each-append (ValueBehind h table bytes) texts (said_places (is_start_name x.name) (is_macros x.name) (own_form x bytes place) place v)
     (class-each (ValueBehind h table bytes) v.class (is_path number a.tag x.name) (is_base number x.name) (is_start_form (own_form x bytes place)) place v
     (λ (t : TextPlace) e. record { number = number; abbreviation = a; spec = x; place = place; value = v; stands = has; is = by_class e }))
-    (said-each (ValueBehind h table bytes) (is_start x.name) (is_macros x.name) (own_form x bytes place) place v
+    (said-each (ValueBehind h table bytes) (is_start_name x.name) (is_macros x.name) (own_form x bytes place) place v
     (λ (t : TextPlace) n f e. record { number = number; abbreviation = a; spec = x; place = place; value = v; stands = has; is = by_unit n f e })
     (λ (t : TextPlace) e. record { number = number; abbreviation = a; spec = x; place = place; value = v; stands = has; is = by_stray e })))
 
@@ -159,7 +162,7 @@ values-each h table bytes items start depth code size a before (x ∷ xs) place 
   where
     by_value : (o : Option Value) → value_at h.params x bytes place ≡ o
         → ((p : ℕ) → SpellsValues h.params bytes (start + size) (before ++ x ∷ []) p → EachOf (ValueBehind h table bytes) (values_places h.params bytes (length items) a.tag xs p))
-        → EachOf (ValueBehind h table bytes) (value_places_behind (λ p. values_places h.params bytes (length items) a.tag xs p) (length items) a.tag x bytes place o)
+        → EachOf (ValueBehind h table bytes) (value_out (of_value bytes) (λ p. values_places h.params bytes (length items) a.tag xs p) (length items) a.tag x place o)
     by_value None is rest = tt
     by_value (Some v) is rest =
         each-append (ValueBehind h table bytes) (value_places (length items) a.tag x bytes place v) (values_places h.params bytes (length items) a.tag xs (place + v.size))
@@ -297,10 +300,10 @@ class-facts : (c : ValueClass) (b base field : Bool) (d : DebugData) (z : UnitSe
     → HasTable d z h table → HasValue h table (bytes_up_to z h) number a x place v → v.class ≡ c → is_path number a.tag x.name ≡ b
     → OffsetFacts c h.params (bytes_up_to z h) v → class_places c b base field place v ≡ t ∷ [] → RoleFacts t.role d z t
 class-facts StrOffset b base field d z h table number a x place v t there has class path facts e =
-    let same : record { role = offset in_str b; at = v.at; len = v.len; says = no_index } ≡ t = once _ t e in
+    let same : record { role = offset InStr b; at = v.at; len = v.len; says = no_index } ≡ t = once _ t e in
     subst (λ (s : TextPlace). RoleFacts s.role d z s) same (field-place z h v _ facts refl refl)
 class-facts LineStrOffset b base field d z h table number a x place v t there has class path facts e =
-    let same : record { role = offset in_line_str b; at = v.at; len = v.len; says = no_index } ≡ t = once _ t e in
+    let same : record { role = offset InLineStr b; at = v.at; len = v.len; says = no_index } ≡ t = once _ t e in
     subst (λ (s : TextPlace). RoleFacts s.role d z s) same (field-place z h v _ facts refl refl)
 class-facts InlineText true base field d z h table number a x place v t there has class path facts e =
     let same : record { role = inline_path; at = v.at; len = v.len + 1; says = no_index } ≡ t = once _ t e in
@@ -368,9 +371,9 @@ class-said : (c : ValueClass) (b base field : Bool) (place : ℕ) (v : Value) (d
     → (base ≡ true → field ≡ true → StartFacts d z (record { role = fixed; at = v.at; len = v.len; says = base_offset }))
     → SaidFacts t.says d z t
 class-said StrOffset b base field place v d z t e start =
-    subst (λ (s : TextPlace). SaidFacts s.says d z s) (once (record { role = offset in_str b; at = v.at; len = v.len; says = no_index }) t e) tt
+    subst (λ (s : TextPlace). SaidFacts s.says d z s) (once (record { role = offset InStr b; at = v.at; len = v.len; says = no_index }) t e) tt
 class-said LineStrOffset b base field place v d z t e start =
-    subst (λ (s : TextPlace). SaidFacts s.says d z s) (once (record { role = offset in_line_str b; at = v.at; len = v.len; says = no_index }) t e) tt
+    subst (λ (s : TextPlace). SaidFacts s.says d z s) (once (record { role = offset InLineStr b; at = v.at; len = v.len; says = no_index }) t e) tt
 class-said InlineText true base field place v d z t e start =
     subst (λ (s : TextPlace). SaidFacts s.says d z s) (once (record { role = inline_path; at = v.at; len = v.len + 1; says = no_index }) t e) tt
 class-said InlineText false base field place v d z t e start = absurd (none-one t e)
@@ -418,8 +421,8 @@ cells-room z t f =
 
 field-each : (table : TextSection) (r : Role) (d : DebugData) (z : UnitSection) (t : TextPlace) → RoleFacts r d z t → PlaceNames r d (cells_at z.contents t.at t.len)
     → EachOf (IsOffsetField d.base.order (texts_in d table) z.contents) (field_by table r t.at t.len)
-field-each in_str (offset in_str true) d z t f names = (record { sized = f.sized; inside = cells-room z t f; ends = names }, tt)
-field-each in_line_str (offset in_line_str true) d z t f names = (record { sized = f.sized; inside = cells-room z t f; ends = names }, tt)
+field-each InStr (offset InStr true) d z t f names = (record { sized = f.sized; inside = cells-room z t f; ends = names }, tt)
+field-each InLineStr (offset InLineStr true) d z t f names = (record { sized = f.sized; inside = cells-room z t f; ends = names }, tt)
 field-each table r d z t f names = tt
 
 fields-each : (table : TextSection) (d : DebugData) (z : UnitSection) (ts : List TextPlace) → EachOf (PlaceOf d z) ts → PlacesName d z.contents ts
@@ -430,9 +433,9 @@ fields-each table d z (t ∷ ts) each names =
     (field-each table t.role d z t (place-facts d z t each.0) names.0) (fields-each table d z ts each.1 names.1)
 
 -- the fields of paths among places are fields
-pub offset-fields : (order : Order) (table : Located) (cells : List Cell) (fs : List PathField) → EachOf (IsOffsetField order table cells) fs → AreOffsetFields order table cells fs
+pub offset-fields : (order : Order) (table : Located) (cells : List Cell) (fs : List TextField) → EachOf (IsOffsetField order table cells) fs → AreOffsetFields order table cells fs
 offset-fields order table cells fs each = record {
-  each = λ (k : ℕ) (x : PathField) (lt : k < length fs). each-get (IsOffsetField order table cells) fs k x lt each;
+  each = λ (k : ℕ) (x : TextField) (lt : k < length fs). each-get (IsOffsetField order table cells) fs k x lt each;
 }
 
 pub path-fields : (table : TextSection) (d : DebugData) (z : UnitSection) (ts : List TextPlace) → EachOf (PlaceOf d z) ts → PlacesName d z.contents ts
@@ -453,7 +456,7 @@ starts-each d z (t ∷ ts) each =
 
 pub start-fields : (d : DebugData) (z : UnitSection) (ts : List TextPlace) → EachOf (PlaceOf d z) ts → AreStartFields (bytes_of z.contents) (starts_in ts)
 start-fields d z ts each = record {
-  each = λ (k : ℕ) (x : PathField) (lt : k < length (starts_in ts)).
+  each = λ (k : ℕ) (x : TextField) (lt : k < length (starts_in ts)).
       each-get (IsStartField (bytes_of z.contents)) (starts_in ts) k x lt (starts-each d z ts each);
 }
 
@@ -473,12 +476,12 @@ units-each d z (t ∷ ts) each =
 
 pub unit-fields : (d : DebugData) (z : UnitSection) (ts : List TextPlace) → EachOf (PlaceOf d z) ts → AreStartFields (bytes_of z.contents) (macros_in ts)
 unit-fields d z ts each = record {
-  each = λ (k : ℕ) (x : PathField) (lt : k < length (macros_in ts)).
+  each = λ (k : ℕ) (x : TextField) (lt : k < length (macros_in ts)).
       each-get (IsStartField (bytes_of z.contents)) (macros_in ts) k x lt (units-each d z ts each);
 }
 
 -- so is a relocation that refuses one of them
-pub record RowField (d : DebugData) (z : UnitSection) (f : PathField) : Type 0 where
+pub record RowField (d : DebugData) (z : UnitSection) (f : TextField) : Type 0 where
   pub row : (r : Refusal) → OffsetFails d.base.order z.number z.contents (field_place f.at f.size offset_field) r → ValueRelocationFails d r
 
 row-start : (r : Role) (d : DebugData) (z : UnitSection) (t : TextPlace) → RoleFacts r d z t → EachOf (RowField d z) (start_at r t.at t.len)
@@ -506,10 +509,10 @@ units-rows d z (t ∷ ts) each =
     each-append (RowField d z) (unit_start_at t.at t.len t.says) (macros_in ts) (row-unit t.says d z t (said-facts d z t each.0)) (units-rows d z ts each.1)
 
 -- and a base that is an offset
-abbrev pub base_place : PathField → TextPlace
+abbrev pub base_place : TextField → TextPlace
 base_place f = record { role = fixed; at = f.at; len = f.size; says = base_offset }
 
-base-facts : (f : PathField) (d : DebugData) (z : UnitSection) (ts : List TextPlace) → EachOf (PlaceOf d z) ts → base_in ts ≡ Some (BaseField f)
+base-facts : (f : TextField) (d : DebugData) (z : UnitSection) (ts : List TextPlace) → EachOf (PlaceOf d z) ts → base_in ts ≡ Some (BaseField f)
     → StartFacts d z (base_place f)
 base-facts f d z [] each is = absurd (none-some (BaseField f) is)
   where
@@ -517,7 +520,7 @@ base-facts f d z [] each is = absurd (none-some (BaseField f) is)
     none-some b e = cc
 base-facts f d z (t ∷ ts) each is = by_says t.says (said-facts d z t each.0) (base-facts f d z ts each.1) is
   where
-    same : (g : PathField) → Some (BaseField g) ≡ Some (BaseField f) → g ≡ f
+    same : (g : TextField) → Some (BaseField g) ≡ Some (BaseField f) → g ≡ f
     same g e = cc
 
     number : (n : ℕ) → Some (BaseNumber n) ≡ Some (BaseField f) → ⊥
@@ -532,11 +535,11 @@ base-facts f d z (t ∷ ts) each is = by_says t.says (said-facts d z t each.0) (
     by_says (text_index path n) facts rest e = rest e
     by_says (unit_base n) facts rest e = absurd (number n e)
     by_says base_offset facts rest e =
-        subst (λ (g : PathField). StartFacts d z (base_place g)) (same (record { at = t.at; size = t.len }) e)
+        subst (λ (g : TextField). StartFacts d z (base_place g)) (same (record { at = t.at; size = t.len }) e)
         (record { sized = facts.sized; inside = facts.inside; row = facts.row })
 
 -- of a unit
-pub unit-base : (d : DebugData) (z : UnitSection) (h : UnitHeader) (table : List Abbreviation) (items : List Scanned) (f : PathField) → HasTable d z h table
+pub unit-base : (d : DebugData) (z : UnitSection) (h : UnitHeader) (table : List Abbreviation) (items : List Scanned) (f : TextField) → HasTable d z h table
     → AreEntries h table (bytes_up_to z h) items → base_in (entries_places h.params table (bytes_up_to z h) 0 items) ≡ Some (BaseField f)
     → StartFacts d z (base_place f)
 unit-base d z h table items f there e is =

@@ -1,90 +1,22 @@
 -- A section whose units can be read one after another is pieces, and texts stand in them where the units say.
-use Rattle.std.proofs.Common.{◌≡◌, ℕ, ◌+◌, ◌-◌, List, length, take, drop, Some, refl, sym, ap, ◌∙◌, subst, arith, append_assoc, append-nil, ◌++◌, ◌∷◌, [], length-append}
-use Rattle.std.proofs.lemmas.Bool.{eq-eqb}
-use Rattle.std.proofs.lemmas.List.{length-take-le, take-append-drop, drop_all}
-use Rattle.dw_base.specs.AbbreviationBytes.{abbreviations_at}
-use Rattle.dw_base.specs.AbbreviationTables.{Abbreviation}
+use Rattle.std.proofs.Common.{◌≡◌, ℕ, ◌+◌, List, length, drop, refl, sym, ap, ◌∙◌, subst, arith, append_assoc, append-nil, ◌++◌, ◌∷◌, [], length-append}
+use Rattle.std.proofs.lemmas.List.{drop_all}
 use Rattle.dw_base.specs.Cells.{Cell, Located}
 use Rattle.dw_base.specs.DebugData.{units_in}
-use Rattle.dw_base.specs.EntryScans.{AreEntries}
 use Rattle.dw_base.specs.EntryValues.{bytes_up_to}
-use Rattle.dw_base.specs.UnitHeaders.{UnitBase, UnitSection, unit_header, IsUnit}
-use Rattle.dw_base.specs.UnitPieces.{IsHeader, ReadsUnits, unit_grammar}
-use Rattle.dw_base.specs.UnitTables.{IsUnitTable}
 use Rattle.dw_base.specs.Pieces.{Piece, Leads, joined}
 use Rattle.dw_base.specs.TextIndexes.{SaidBase, IndexUse, bases_in, uses_in}
-use Rattle.dw_base.specs.UnitStates.{UnitState, before_unit, between, headed, after_header}
-use Rattle.dw_base.specs.declared.units.Scanned.{Scanned}
+use Rattle.dw_base.specs.UnitHeaders.{UnitBase, UnitSection}
+use Rattle.dw_base.specs.UnitPieces.{ReadsUnits, unit_grammar}
+use Rattle.dw_base.specs.UnitStates.{UnitState}
 use Rattle.dw_base.specs.declared.units.UnitHeader.{UnitHeader}
-use Rattle.dw_base.proofs.AbbreviationLaws.{table-found}
+use Rattle.dw_meaning.specs.PieceRuns.{all_of}
 use Rattle.dw_meaning.proofs.PieceLaws.{leads-chain, leads-more, joined-append}
-use Rattle.dw_meaning.proofs.UnitCutLaws.{header-cut}
-use Rattle.dw_meaning.proofs.ScanSectionLaws.{HeaderPlaced, header-placed}
+use Rattle.dw_meaning.proofs.RunLaws.{all-append}
+use Rattle.dw_meaning.proofs.ScanSectionLaws.{before}
 use Rattle.dw_find.specs.TextPlaces.{TextPlace, BaseSource, UnitSays, places_in, entries_places, uses_among, bases_among, numbered_uses, numbered_bases, UnitsPlaced, none_placed, more_placed, ArePlaced}
-use Rattle.dw_find.proofs.EntryRunLaws.{scan-placed}
-use Rattle.dw_find.proofs.HeaderLaws.{header-of}
 use Rattle.dw_find.proofs.IndexRunLaws.{uses-append, bases-append, run-uses, run-bases, run-begins, numbered_uses-more, numbered_bases-more}
-use Rattle.dw_find.proofs.ValueRunLaws.{PlacedRun, places-append, placed-more, placed-one}
-
--- before a unit of a section
-abbrev before : UnitSection → ℕ → ℕ → UnitState
-before z place unit = before_unit z.number z.kind (length z.contents) place unit
-
--- in a unit that starts at a place
-abbrev in_headed : UnitBase → UnitSection → ℕ → ℕ → UnitHeader → UnitState
-in_headed base z start unit h = headed base (before z start unit) h
-
--- the header is a piece
-header-run : (base : UnitBase) (z : UnitSection) (start unit : ℕ) (h : UnitHeader) (table : List Abbreviation) → IsUnit base z start h
-    → HeaderPlaced z start h → IsUnitTable base h table
-    → PlacedRun base z.contents z.number unit (before z start unit) (between (in_headed base z start unit h) h.first 0 0) start h.first []
-header-run base z start unit h table u placed t =
-    let n : ℕ = h.first - start in
-    let p : List Cell = take (h.first - start) (drop start z.contents) in
-    let size : length (take (h.first - start) (drop start z.contents)) ≡ h.first - start =
-    length-take-le (h.first - start) (drop start z.contents) (omega (arith, placed.inside, placed.behind)) in
-    let whole : start + length (take (h.first - start) (drop start z.contents)) ≡ h.first = omega (arith, size, placed.behind) in
-    let found : unit_header base z.kind z.number start (take (h.first - start) (drop start z.contents)) ≡ Some h =
-    header-cut base z.kind z.number start (take (h.first - start) (drop start z.contents)) (drop (h.first - start) (drop start z.contents)) h
-    (ap (unit_header base z.kind z.number start) (take-append-drop (h.first - start) (drop start z.contents)) ∙ u.header) (omega (arith, whole)) in
-    let fits : IsHeader base (before z start unit) (take (h.first - start) (drop start z.contents)) =
-    record {
-      header = h;
-      is = found;
-      size = whole;
-      own = u.whole;
-      within = u.within;
-      table = subst (IsUnitTable base h) (sym (table-found base.abbrevs.bytes h.abbrevs table t.is)) t;
-    } in
-    let next : after_header base (before z start unit) (start + length (take (h.first - start) (drop start z.contents)))
-    (unit_header base z.kind z.number start (take (h.first - start) (drop start z.contents))) ≡ between (in_headed base z start unit h) h.first 0 0 =
-    ap (after_header base (before z start unit) (start + length (take (h.first - start) (drop start z.contents)))) found
-    ∙ ap (λ (m : ℕ). between (in_headed base z start unit h) m 0 0) whole in
-    let end : start + (h.first - start) ≡ h.first = omega (arith, placed.behind) in
-    subst (λ (m : ℕ). PlacedRun base z.contents z.number unit (before z start unit) (between (in_headed base z start unit h) h.first 0 0) start m []) end
-    (placed-one base z.contents (before z start unit) (between (in_headed base z start unit h) h.first 0 0) start (h.first - start) [] refl fits next refl tt)
-
--- behind the last entry comes the next unit
-unit-ends : (s : UnitState) (e : ℕ) → between s s.header.end e 0 ≡ before_unit s.section s.kind s.whole s.header.end (s.unit + 1)
-unfolding between
-unit-ends s e = rw (eq-eqb s.header.end s.header.end refl) refl
-
--- a unit is pieces
-unit-run : (base : UnitBase) (z : UnitSection) (start unit : ℕ) (h : UnitHeader) (table : List Abbreviation) (items : List Scanned) → IsUnit base z start h
-    → HeaderPlaced z start h → IsUnitTable base h table → AreEntries h table (bytes_up_to z h) items
-    → PlacedRun base z.contents z.number unit (before z start unit) (before z h.end (unit + 1)) start h.end (entries_places h.params table (bytes_up_to z h) 0 items)
-unit-run base z start unit h table items u placed t entries =
-    let order : h.params.order ≡ base.order = (header-of base z start h u.header).order in
-    let same : abbreviations_at base.abbrevs.bytes h.abbrevs ≡ table = table-found base.abbrevs.bytes h.abbrevs table t.is in
-    let own : AreEntries h (abbreviations_at base.abbrevs.bytes h.abbrevs) (bytes_up_to z h) items =
-    subst (λ (list : List Abbreviation). AreEntries h list (bytes_up_to z h) items) (sym same) entries in
-    let all : List TextPlace = entries_places h.params (abbreviations_at base.abbrevs.bytes h.abbrevs) (bytes_up_to z h) 0 items in
-    let scan : PlacedRun base z.contents z.number unit (between (in_headed base z start unit h) h.first 0 0) (before z h.end (unit + 1)) h.first h.end all =
-    subst (λ (x : UnitState). PlacedRun base z.contents z.number unit (between (in_headed base z start unit h) h.first 0 0) x h.first h.end all)
-    (unit-ends (in_headed base z start unit h) (length items)) (scan-placed base z.contents (in_headed base z start unit h) items h.end 0 order own) in
-    subst (λ (list : List Abbreviation). PlacedRun base z.contents z.number unit (before z start unit) (before z h.end (unit + 1)) start h.end (entries_places h.params list (bytes_up_to z h) 0 items)) same
-    (placed-more base z.contents z.number unit (before z start unit) (between (in_headed base z start unit h) h.first 0 0) (before z h.end (unit + 1)) start h.first h.end [] all
-    (header-run base z start unit h table u placed t) scan)
+use Rattle.dw_find.proofs.PlacedRunLaws.{PlacedRun, piece_places, places-all, unit-placed}
 
 -- what bases go by, with a section of string offsets
 abbrev pub sourced : UnitBase → Located → BaseSource
@@ -95,7 +27,7 @@ pub record UnitsRun (base : UnitBase) (z : UnitSection) (first : ℕ) (list : Li
   pub pieces : List (Piece UnitState)
   pub leads : Leads (unit_grammar base) (before z 0 first) pieces (before z place (first + length list))
   pub covers : joined pieces ++ drop place z.contents ≡ z.contents
-  pub places_are : places_in pieces ≡ places
+  pub places_are : all_of piece_places pieces ≡ places
   pub count : length units ≡ length list
   pub uses : uses_in base.order pieces ≡ numbered_uses first units
   pub bases : (y : Located) → bases_in base.order y pieces ≡ numbered_bases (sourced base y) first units
@@ -117,11 +49,12 @@ units-more base z first list h start places here units m n =
           ap (λ (x : List Cell). x ++ drop h.end z.contents) (joined-append m.pieces n.pieces) ∙ append_assoc (joined m.pieces) (joined n.pieces) (drop h.end z.contents)
           ∙ ap (λ (x : List Cell). joined m.pieces ++ x) n.covers ∙ m.covers;
       places_are =
-          places-append m.pieces n.pieces ∙ ap (λ (x : List TextPlace). x ++ places_in n.pieces) m.places_are ∙ ap (λ (x : List TextPlace). places ++ x) n.places;
+          all-append piece_places m.pieces n.pieces ∙ ap (λ (x : List TextPlace). x ++ all_of piece_places n.pieces) m.places_are
+          ∙ ap (λ (x : List TextPlace). places ++ x) n.fields;
       count = (let before_ = m.count in omega (arith, before_, length-append list (h ∷ []), length-append units (record { section = z.number; cells = z.contents; places = here } ∷ [])));
       uses =
           uses-append base.order m.pieces n.pieces ∙ ap (λ (x : List IndexUse). x ++ uses_in base.order n.pieces) m.uses
-          ∙ ap (λ (x : List IndexUse). numbered_uses first units ++ x) (run-uses base.order z.contents z.number u n.pieces n.numbered ∙ ap (uses_among z.number u) n.places)
+          ∙ ap (λ (x : List IndexUse). numbered_uses first units ++ x) (run-uses base.order z.contents z.number u n.pieces n.each ∙ ap (uses_among z.number u) (places-all n.pieces ∙ n.fields))
           ∙ ap (λ (k : ℕ). numbered_uses first units ++ uses_among z.number k here) (sym number)
           ∙ sym (numbered_uses-more first units (record { section = z.number; cells = z.contents; places = here }));
       bases = λ (y : Located). units-bases y;
@@ -134,7 +67,8 @@ units-more base z first list h start places here units m n =
         let number : first + length units ≡ first + length list = ap (λ (k : ℕ). first + k) m.count in
         bases-append base.order y m.pieces n.pieces ∙ ap (λ (x : List SaidBase). x ++ bases_in base.order y n.pieces) (m.bases y)
         ∙ ap (λ (x : List SaidBase). numbered_bases (sourced base y) first units ++ x)
-        (run-bases (sourced base y) z.contents z.number (first + length list) n.pieces n.numbered ∙ ap (bases_among (sourced base y) z.contents (first + length list)) n.places)
+        (run-bases (sourced base y) z.contents z.number (first + length list) n.pieces n.each
+        ∙ ap (bases_among (sourced base y) z.contents (first + length list)) (places-all n.pieces ∙ n.fields))
         ∙ ap (λ (k : ℕ). numbered_bases (sourced base y) first units ++ bases_among (sourced base y) z.contents k here) (sym number)
         ∙ sym (numbered_bases-more (sourced base y) first units (record { section = z.number; cells = z.contents; places = here }))
 
@@ -153,7 +87,7 @@ units-run base z first list place places units none_placed = record {
 units-run base z first all z_end all_places all_units (more_placed list h start places units table items placed u t entries) =
     units-more base z first list h start places (entries_places h.params table (bytes_up_to z h) 0 items) units
     (units-run base z first list start places units placed)
-    (unit-run base z start (first + length list) h table items u (header-placed base z start h u.header) t entries)
+    (unit-placed base z start (first + length list) h table items u t entries)
 
 -- the pieces of a section, with the places of texts in them, and what its units say by index
 pub record PlacedPieces (base : UnitBase) (z : UnitSection) (first : ℕ) (places : List TextPlace) (units : List UnitSays) : Type 0 where
@@ -181,7 +115,7 @@ section-placed base z first list places units placed =
         chain = leads-chain (unit_grammar base) (before z 0 first) (before z (length z.contents) (first + length list)) run.pieces run.leads (record { mode = refl; place = refl });
         cells = cells;
       };
-      places_are = run.places_are;
+      places_are = places-all run.pieces ∙ run.places_are;
       count = omega (arith, number, count);
       uses = run.uses;
       bases = run.bases;

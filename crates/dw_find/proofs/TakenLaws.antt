@@ -4,7 +4,8 @@ use Rattle.dw_base.specs.AbbreviationTables.{Abbreviation, abbreviation_of}
 use Rattle.dw_base.specs.Cells.{Cell}
 use Rattle.dw_base.specs.DebugData.{DebugData}
 use Rattle.dw_base.specs.Lebs.{uleb_at}
-use Rattle.dw_base.specs.Roles.{is_path}
+use Rattle.dw_base.specs.Roles.{is_path, is_macros, is_start_name}
+use Rattle.dw_base.specs.TableStarts.{is_start_form, own_form}
 use Rattle.dw_base.specs.TextIndexes.{is_base}
 use Rattle.dw_base.specs.UnitHeaders.{UnitSection}
 use Rattle.dw_base.specs.Values.{value_at}
@@ -16,8 +17,9 @@ use Rattle.dw_base.specs.declared.values.ValueClass.{ValueClass}
 use Rattle.dw_base.specs.declared.values.ValueClass.TheVariants.{Number, StrOffset, LineStrOffset, InlineText, StrIndex, SecOffset}
 use Rattle.dw_find.specs.EntryTexts.{OffsetNames, IsTaken, TakenBehind, AreTaken}
 use Rattle.dw_base.specs.declared.dwarf_numbers.TheConstants.{DW_AT_stmt_list}
-use Rattle.dw_find.specs.TextPlaces.{TextPlace, PlacesName, class_places, said_base, is_macros, is_start, is_start_form, line_at, line_places, own_form, said_places, said_value, value_places, value_places_behind, values_places, places_behind, places_by, entry_places, entries_places}
+use Rattle.dw_find.specs.TextPlaces.{TextPlace, PlacesName, class_places, said_base, line_at, line_places, said_places, said_value, value_places, values_places, entry_places, entries_places, of_entry, of_value}
 use Rattle.dw_find.specs.UnitTexts.{tables_of, TakenOf, TakenBy, EntryTaken, EntriesTaken}
+use Rattle.dw_meaning.specs.PieceRuns.{value_out, listed_out, coded_out}
 
 -- places that name texts, and more of them
 pub names-append : (d : DebugData) (cells : List Cell) (ts us : List TextPlace) → PlacesName d cells ts → PlacesName d cells us → PlacesName d cells (ts ++ us)
@@ -65,11 +67,11 @@ value-names : (d : DebugData) (z : UnitSection) (bytes : List ℕ) (n tag : ℕ)
 value-names d z bytes n tag x place v taken =
     let form : ℕ = own_form x bytes place in
     let texts : List TextPlace = class_places v.class (is_path n tag x.name) (is_base n x.name) (is_start_form (own_form x bytes place)) place v in
-    names-append d z.contents (line_places (x.name == DW_AT_stmt_list) form v) (texts ++ said_places (is_start x.name) (is_macros x.name) form place v)
+    names-append d z.contents (line_places (x.name == DW_AT_stmt_list) form v) (texts ++ said_places (is_start_name x.name) (is_macros x.name) form place v)
     (line-names (x.name == DW_AT_stmt_list) form d z.contents v)
-    (names-append d z.contents texts (said_places (is_start x.name) (is_macros x.name) form place v)
+    (names-append d z.contents texts (said_places (is_start_name x.name) (is_macros x.name) form place v)
     (class-names v.class (is_path n tag x.name) (is_base n x.name) (is_start_form (own_form x bytes place)) place d z v taken.names)
-    (said-names (is_start x.name) (is_macros x.name) form place v d z.contents))
+    (said-names (is_start_name x.name) (is_macros x.name) form place v d z.contents))
 
 -- so do the values of an entry
 values-names : (d : DebugData) (z : UnitSection) (params : Params) (bytes : List ℕ) (n tag : ℕ) (xs : List Spec) (place : ℕ) → AreTaken (tables_of d z) params bytes xs place
@@ -80,7 +82,7 @@ values-names d z params bytes n tag (x ∷ xs) place taken =
   where
     by_value : (o : Option Value) → ((p : ℕ) → AreTaken (tables_of d z) params bytes xs p → PlacesName d z.contents (values_places params bytes n tag xs p))
         → TakenBehind (λ p. AreTaken (tables_of d z) params bytes xs p) (tables_of d z) place o
-        → PlacesName d z.contents (value_places_behind (λ p. values_places params bytes n tag xs p) n tag x bytes place o)
+        → PlacesName d z.contents (value_out (of_value bytes) (λ p. values_places params bytes n tag xs p) n tag x place o)
     by_value None rest h = tt
     by_value (Some v) rest h =
         names-append d z.contents (value_places n tag x bytes place v) (values_places params bytes n tag xs (place + v.size))
@@ -92,16 +94,19 @@ entry-names : (d : DebugData) (z : UnitSection) (params : Params) (table : List 
 unfolding EntryTaken entry_places
 entry-names d z params table bytes n e taken = by_code (uleb_at bytes e.offset) taken
   where
-    by_listed : (place : ℕ) (a : Option Abbreviation) → TakenOf (tables_of d z) params bytes place a → PlacesName d z.contents (places_behind params bytes n place a)
+    by_listed : (place : ℕ) (a : Option Abbreviation) → TakenOf (tables_of d z) params bytes place a
+        → PlacesName d z.contents (listed_out of_entry (of_value bytes) params bytes n e place a)
     by_listed place None h = tt
     by_listed place (Some a) h = values-names d z params bytes n a.tag a.specs place h
 
-    by_code : (o : Option (ℕ × ℕ)) → TakenBy (tables_of d z) params table bytes e.offset o → PlacesName d z.contents (places_by params table bytes n e.offset o)
+    by_code : (o : Option (ℕ × ℕ)) → TakenBy (tables_of d z) params table bytes e.offset o
+        → PlacesName d z.contents (coded_out of_entry (of_value bytes) params table bytes n e o)
     by_code None h = tt
     by_code (Some (code, size)) h = by_listed (e.offset + size) (abbreviation_of table code) h
 
 pub entries-names : (d : DebugData) (z : UnitSection) (params : Params) (table : List Abbreviation) (bytes : List ℕ) (n : ℕ) (es : List Scanned)
     → EntriesTaken (tables_of d z) params table bytes es → PlacesName d z.contents (entries_places params table bytes n es)
+unfolding entry_places
 entries-names d z params table bytes n [] taken = tt
 entries-names d z params table bytes n (e ∷ es) taken =
     names-append d z.contents (entry_places params table bytes n e) (entries_places params table bytes (n + 1) es)

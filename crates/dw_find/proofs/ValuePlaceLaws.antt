@@ -3,22 +3,26 @@ use Rattle.std.proofs.Common.{Bool, true, false, ◌≡◌, ◌≢◌, ℕ, ◌+
 use Rattle.std.specs.Bool.{⊤}
 use Rattle.std.specs.Prelude.{ℤ, nat_le}
 use Rattle.dw_base.specs.Cells.{Cell, bytes_of}
-use Rattle.dw_base.specs.Forms.{TextSection, in_str, in_line_str, ValueKind, number_of, leb_number, signed_leb, block_of, counted, counted_leb, inline_text, text_offset, present, in_abbreviation, form_in_front, supplementary, unlisted, FormRow, form_rows, kind_by, kind_in}
+use Rattle.dw_base.specs.Forms.{ValueKind, number_of, leb_number, signed_leb, block_of, counted, counted_leb, inline_text, text_offset, present, in_abbreviation, form_in_front, supplementary, unlisted, FormRow, form_rows, kind_by, kind_in}
 use Rattle.dw_base.specs.Lebs.{uleb_at, sleb_at}
 use Rattle.dw_base.specs.Numbers.{number_at, spelled}
-use Rattle.dw_base.specs.Roles.{Role, fixed, offset, inline_path, line_start, role_of_kind, Use, names_path, names_line_table, names_macro_unit, names_other, use_of, is_path_use, is_path, is_line_start}
-use Rattle.dw_base.specs.TableStarts.{can_start, macro_value_by, start_form_by}
+use Rattle.dw_base.specs.Roles.{Role, fixed, offset, inline_path, line_start, role_of_kind, use_of, is_path_use, is_path, is_line_start, is_macros, is_start_name}
+use Rattle.dw_base.specs.TableStarts.{can_start, macro_value_by, start_form_by, is_start_form}
 use Rattle.dw_base.specs.Texts.{ends_in, text_in}
 use Rattle.dw_base.specs.UnitStates.{code_value}
 use Rattle.dw_base.specs.Values.{value_of, number_value, leb_value_at, signed_value_at, block_value, counted_value, counted_leb_value, text_value, bare_value, offset_class}
 use Rattle.dw_base.specs.declared.dwarf_numbers.TheConstants.{DW_AT_stmt_list, DW_AT_macros, DW_AT_GNU_macros}
 use Rattle.dw_base.specs.declared.shared.Order.{Order}
 use Rattle.dw_base.specs.declared.shared.Params.{Params}
+use Rattle.dw_base.specs.declared.texts.TextSection.{TextSection}
+use Rattle.dw_base.specs.declared.texts.TextSection.TheVariants.{InStr, InLineStr}
+use Rattle.dw_base.specs.declared.values.AttributeUse.{AttributeUse}
+use Rattle.dw_base.specs.declared.values.AttributeUse.TheVariants.{NamesPath, NamesLineTable, NamesMacroUnit, NamesOther}
 use Rattle.dw_base.specs.declared.values.Value.{Value}
 use Rattle.dw_base.specs.declared.values.ValueClass.{ValueClass}
 use Rattle.dw_base.specs.declared.values.ValueClass.TheVariants.{InlineText, Number, StrOffset, LineStrOffset, StrIndex, SecOffset, Signed, Bytes, Flag}
-use Rattle.dw_find.specs.TextPlaces.{TextPlace, no_index, unit_start, place_of, indexed_at, indexed_kind, no_start, class_places, is_macros, is_start, is_start_form, line_at, line_places, said_places, said_start, said_value, said_base}
-use Rattle.dw_find.proofs.StartFormLaws.{is_other_use, line-macro, line-macros, line-path, line-starts, line-use, macro-path, macro-starts, macro-use, macro-value, plain-macro, plain-other, plain-starts, plain-use}
+use Rattle.dw_find.specs.TextPlaces.{TextPlace, no_index, unit_start, place_of, indexed_at, indexed_kind, no_start, class_places, line_at, line_places, said_places, said_start, said_value, said_base}
+use Rattle.dw_base.proofs.StartFormLaws.{is_other_use, line-macro, line-macros, line-path, line-starts, line-use, macro-path, macro-starts, macro-use, macro-value, plain-macro, plain-other, plain-starts, plain-use}
 
 -- a class that isn't of texts
 abbrev pub is_plain_class : ValueClass → Bool
@@ -73,7 +77,7 @@ kind_plain params form = kind_by-plain (form_rows params) form (rows_plain param
 path_use : (number tag name : ℕ) → is_path_use (use_of number tag name) ≡ is_path number tag name
 path_use number tag name = by_path (is_path number tag name) (name == DW_AT_stmt_list) (name == DW_AT_macros || name == DW_AT_GNU_macros)
   where
-    by_path : (path line macro : Bool) → is_path_use (cond path names_path (cond line names_line_table (cond macro names_macro_unit names_other))) ≡ path
+    by_path : (path line macro : Bool) → is_path_use (cond path NamesPath (cond line NamesLineTable (cond macro NamesMacroUnit NamesOther))) ≡ path
     by_path true line macro = refl
     by_path false true macro = refl
     by_path false false true = refl
@@ -148,8 +152,8 @@ no_places class path base field place v other is = rw is refl
 -- a field of an offset
 offset_places : (table : TextSection) (used path base field : Bool) (place : ℕ) (v : Value) (at n : ℕ) → used ≡ path → Fields v (offset_class table) at n n
     → place_of (offset table used) at v.size ++ [] ≡ class_places v.class path base field place v
-offset_places in_str used path base field place v at n same f = rw (f.class_is, f.at_is, f.len_is, f.size_is, same) refl
-offset_places in_line_str used path base field place v at n same f = rw (f.class_is, f.at_is, f.len_is, f.size_is, same) refl
+offset_places InStr used path base field place v at n same f = rw (f.class_is, f.at_is, f.len_is, f.size_is, same) refl
+offset_places InLineStr used path base field place v at n same f = rw (f.class_is, f.at_is, f.len_is, f.size_is, same) refl
 
 -- a text
 text_places : (used path base field : Bool) (place : ℕ) (v : Value) (at n : ℕ) → used ≡ path → Fields v InlineText at n (n + 1)
@@ -237,24 +241,24 @@ text-placed supplementary order bytes at i path base field place p v plain can e
 text-placed unlisted order bytes at i path base field place p v plain can e same = absurd cc
 
 -- the role of a value that says no start
-number-other : (u : Use) (class : ValueClass) (n : ℕ) → is_other_use u ≡ true → cond (is_line_start u class n) line_start fixed ≡ fixed
-number-other names_line_table class n other = absurd cc
-number-other names_path class n other = refl
-number-other names_macro_unit class n other = refl
-number-other names_other class n other = refl
+number-other : (u : AttributeUse) (class : ValueClass) (n : ℕ) → is_other_use u ≡ true → cond (is_line_start u class n) line_start fixed ≡ fixed
+number-other NamesLineTable class n other = absurd cc
+number-other NamesPath class n other = refl
+number-other NamesMacroUnit class n other = refl
+number-other NamesOther class n other = refl
 
-role-other : (k : ValueKind) (u : Use) → is_other_use u ≡ true → role_of_kind k u ≡ text_role k (is_path_use u)
+role-other : (k : ValueKind) (u : AttributeUse) → is_other_use u ≡ true → role_of_kind k u ≡ text_role k (is_path_use u)
 role-other (number_of class n) u other = number-other u class n other
 role-other k u other = refl
 
-role-stray : (k : ValueKind) → can_start k ≡ false → role_of_kind k names_line_table ≡ text_role k false
+role-stray : (k : ValueKind) → can_start k ≡ false → role_of_kind k NamesLineTable ≡ text_role k false
 role-stray (number_of class n) no_ = rw no_ refl
 role-stray k no_ = refl
 
 -- a number that says where a line table starts
 start-placed : (k : ValueKind) (order : Order) (bytes : List ℕ) (at : ℕ) (implicit : ℤ) (base field : Bool) (place : ℕ) (p : List Cell) (v : Value)
     → is_plain_kind k ≡ true → can_start k ≡ true → can_start k ≡ field → value_of k order bytes at implicit ≡ Some v → SpellsNumber k order p v.number
-    → place_of (role_of_kind k names_line_table) at v.size ++ (indexed_kind k false base order place at v.size p ++ [])
+    → place_of (role_of_kind k NamesLineTable) at v.size ++ (indexed_kind k false base order place at v.size p ++ [])
     ≡ line_at true v ++ (class_places v.class false base field place v ++ [])
 unfolding value_of
 start-placed (number_of class n) order bytes at i base field place p v plain says can e same =
@@ -284,11 +288,11 @@ pub value-placed : (k : ValueKind) (order : Order) (bytes : List ℕ) (at : ℕ)
     ++ (indexed_kind k (is_path number tag name) base order place at v.size p
     ++ said_start (start_form_by k (use_of number tag name)) (macro_value_by k (use_of number tag name)) place at v.size)
     ≡ line_places (name == DW_AT_stmt_list) form v
-    ++ (class_places v.class (is_path number tag name) base (is_start_form form) place v ++ said_places (is_start name) (is_macros name) form place v)
+    ++ (class_places v.class (is_path number tag name) base (is_start_form form) place v ++ said_places (is_start_name name) (is_macros name) form place v)
 value-placed k order bytes at i number tag name form base place p v plain own starts e same = by_line (name == DW_AT_stmt_list) refl
   where
     by_start : (b : Bool) → can_start k ≡ b → is_start_form form ≡ b
-        → place_of (role_of_kind k names_line_table) at v.size ++ (indexed_kind k false base order place at v.size p ++ said_start b false place at v.size)
+        → place_of (role_of_kind k NamesLineTable) at v.size ++ (indexed_kind k false base order place at v.size p ++ said_start b false place at v.size)
         ≡ line_at (is_start_form form) v ++ (class_places v.class false base (is_start_form form) place v ++ said_value (is_start_form form) false place v)
     by_start true can is =
         start-placed k order bytes at i base (is_start_form form) place p v plain can starts e same
@@ -318,14 +322,14 @@ value-placed k order bytes at i number tag name form base place p v plain own st
         ++ said_start (start_form_by k (use_of number tag name)) (macro_value_by k (use_of number tag name)) place at v.size)
         ≡ class_places v.class (is_path number tag name) base (is_start_form form) place v ++ said_places b b form place v
     by_macro true line macro =
-        ap (λ (u : Use). place_of (role_of_kind k u) at v.size
+        ap (λ (u : AttributeUse). place_of (role_of_kind k u) at v.size
         ++ (indexed_kind k (is_path number tag name) base order place at v.size p ++ said_start (start_form_by k u) (macro_value_by k u) place at v.size)) (macro-use number tag name line macro)
         ∙ ap (λ (r : Role). place_of r at v.size
-        ++ (indexed_kind k (is_path number tag name) base order place at v.size p ++ said_start (start_form_by k names_macro_unit) (macro_value_by k names_macro_unit) place at v.size))
-        (role-other k names_macro_unit refl)
+        ++ (indexed_kind k (is_path number tag name) base order place at v.size p ++ said_start (start_form_by k NamesMacroUnit) (macro_value_by k NamesMacroUnit) place at v.size))
+        (role-other k NamesMacroUnit refl)
         ∙ ap (λ (x : Bool). place_of (text_role k false) at v.size
-        ++ (indexed_kind k x base order place at v.size p ++ said_start (start_form_by k names_macro_unit) (macro_value_by k names_macro_unit) place at v.size)) (macro-path number tag name macro)
-        ∙ ap (λ (x : Bool). place_of (text_role k false) at v.size ++ (indexed_kind k false base order place at v.size p ++ said_start x (macro_value_by k names_macro_unit) place at v.size))
+        ++ (indexed_kind k x base order place at v.size p ++ said_start (start_form_by k NamesMacroUnit) (macro_value_by k NamesMacroUnit) place at v.size)) (macro-path number tag name macro)
+        ∙ ap (λ (x : Bool). place_of (text_role k false) at v.size ++ (indexed_kind k false base order place at v.size p ++ said_start x (macro_value_by k NamesMacroUnit) place at v.size))
         (macro-starts k own)
         ∙ ap (λ (x : Bool). place_of (text_role k false) at v.size ++ (indexed_kind k false base order place at v.size p ++ said_start (can_start k) x place at v.size)) (macro-value k)
         ∙ by_unit (can_start k) refl (sym starts)
@@ -349,13 +353,13 @@ value-placed k order bytes at i number tag name form base place p v plain own st
         ++ said_start (start_form_by k (use_of number tag name)) (macro_value_by k (use_of number tag name)) place at v.size)
         ≡ line_places b form v ++ (class_places v.class (is_path number tag name) base (is_start_form form) place v ++ said_places (b || is_macros name) (is_macros name) form place v)
     by_line true line =
-        ap (λ (u : Use). place_of (role_of_kind k u) at v.size
+        ap (λ (u : AttributeUse). place_of (role_of_kind k u) at v.size
         ++ (indexed_kind k (is_path number tag name) base order place at v.size p ++ said_start (start_form_by k u) (macro_value_by k u) place at v.size)) (line-use number tag name line)
-        ∙ ap (λ (x : Bool). place_of (role_of_kind k names_line_table) at v.size
-        ++ (indexed_kind k x base order place at v.size p ++ said_start (start_form_by k names_line_table) (macro_value_by k names_line_table) place at v.size)) (line-path number tag name line)
-        ∙ ap (λ (x : Bool). place_of (role_of_kind k names_line_table) at v.size ++ (indexed_kind k false base order place at v.size p ++ said_start x (macro_value_by k names_line_table) place at v.size))
+        ∙ ap (λ (x : Bool). place_of (role_of_kind k NamesLineTable) at v.size
+        ++ (indexed_kind k x base order place at v.size p ++ said_start (start_form_by k NamesLineTable) (macro_value_by k NamesLineTable) place at v.size)) (line-path number tag name line)
+        ∙ ap (λ (x : Bool). place_of (role_of_kind k NamesLineTable) at v.size ++ (indexed_kind k false base order place at v.size p ++ said_start x (macro_value_by k NamesLineTable) place at v.size))
         (line-starts k own)
-        ∙ ap (λ (x : Bool). place_of (role_of_kind k names_line_table) at v.size ++ (indexed_kind k false base order place at v.size p ++ said_start (can_start k) x place at v.size)) (line-macro k)
+        ∙ ap (λ (x : Bool). place_of (role_of_kind k NamesLineTable) at v.size ++ (indexed_kind k false base order place at v.size p ++ said_start (can_start k) x place at v.size)) (line-macro k)
         ∙ by_start (can_start k) refl (sym starts)
         ∙ ap (λ (x : Bool). line_at (is_start_form form) v ++ (class_places v.class x base (is_start_form form) place v ++ said_value (is_start_form form) false place v)) (sym (line-path number tag name line))
         ∙ ap (λ (x : Bool). line_at (is_start_form form) v ++ (class_places v.class (is_path number tag name) base (is_start_form form) place v ++ said_value (is_start_form form) x place v))

@@ -110,3 +110,7 @@ pub mod LeftKeptLaws
 pub mod RecordBackLaws
 pub mod SectionsBackLaws
 pub mod LeftRowLaws
+pub mod RunLaws
+pub mod UnitRunLaws
+pub mod WholeUnitLaws
+pub mod WorkedMeanings

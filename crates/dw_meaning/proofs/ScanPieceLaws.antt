@@ -13,11 +13,12 @@ use Rattle.dw_base.specs.declared.shared.Params.{Params}
 use Rattle.dw_base.specs.declared.values.Spec.{Spec}
 use Rattle.dw_base.specs.declared.values.Value.{Value}
 use Rattle.dw_base.proofs.FormLaws.{value_by-own, chosen_value-own}
+use Rattle.dw_base.proofs.LebLaws.{uleb-inside}
 use Rattle.dw_base.proofs.NumberBytes.{number-cut}
 use Rattle.dw_meaning.proofs.PieceLaws.{leads-more, joined-append}
 use Rattle.dw_meaning.proofs.TextEditLaws.{chosen-fits}
 use Rattle.dw_base.proofs.UnitEditLaws.{length-bytes_of}
-use Rattle.dw_meaning.proofs.ValueCutLaws.{IsCut, value_of-own, uleb-inside}
+use Rattle.dw_meaning.proofs.ValueCutLaws.{IsCut, value_of-own}
 
 -- pieces that lead from one state to another, whose cells stand from one place of some cells to another
 pub record Run (base : UnitBase) (cells : List Cell) (s t : UnitState) (a b : ℕ) : Type 0 where
@@ -177,6 +178,10 @@ pub record Chosen (params : Params) (x : Spec) (bytes : List ℕ) (place : ℕ) 
   pub other : kind_in params form ≢ form_in_front
   pub whole : v.size ≡ size + value.size
   pub parts : v ≡ record value { size = size + value.size }
+  pub class_is : v.class ≡ value.class
+  pub at_is : v.at ≡ value.at
+  pub len_is : v.len ≡ value.len
+  pub number_is : v.number ≡ value.number
 
 -- what was chosen has a kind of its own
 chosen-kind : (k : ValueKind) (params : Params) (x : Spec) (bytes : List ℕ) (place : ℕ) (w : Value) → chosen_value k params.order bytes place x.implicit ≡ Some w
@@ -212,6 +217,7 @@ chosen-read params x bytes place v front e = by_read (uleb_at bytes place) refl 
     by_value form size None is same e = absurd cc
     by_value form size (Some w) is same e =
         let kinds = chosen-kind (kind_in params form) params x bytes (place + size) w same in
+        let parts : v ≡ record w { size = size + w.size } = some-once v (record w { size = size + w.size }) (sym e) in
         record {
           form = form;
           size = size;
@@ -221,7 +227,11 @@ chosen-read params x bytes place v front e = by_read (uleb_at bytes place) refl 
           own = kinds.0;
           other = kinds.1;
           whole = sym (ap size_read e);
-          parts = some-once v (record w { size = size + w.size }) (sym e);
+          parts = parts;
+          class_is = ap (λ (y : Value). y.class) parts;
+          at_is = ap (λ (y : Value). y.at) parts;
+          len_is = ap (λ (y : Value). y.len) parts;
+          number_is = ap (λ (y : Value). y.number) parts;
         }
 
     by_read : (o : Option (ℕ × ℕ)) → uleb_at bytes place ≡ o → indirect_value params x bytes place o ≡ Some v → Chosen params x bytes place v

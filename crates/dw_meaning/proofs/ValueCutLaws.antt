@@ -5,7 +5,7 @@ use Rattle.std.proofs.lemmas.Bool.{leb-true, le-leb}
 use Rattle.std.proofs.lemmas.List.{length-append, length-drop, length-take-le, take-append-drop, take-take}
 use Rattle.std.proofs.Math.Seq.{take-append_seam}
 use Rattle.dw_base.specs.Forms.{ValueKind, number_of, leb_number, signed_leb, block_of, counted, counted_leb, inline_text, text_offset, present, in_abbreviation, form_in_front, supplementary, unlisted}
-use Rattle.dw_base.specs.Lebs.{uleb, uleb_within, uleb_at, sleb, sleb_within, sleb_at, IsSized}
+use Rattle.dw_base.specs.Lebs.{uleb_at, sleb, sleb_within, sleb_at, IsSized}
 use Rattle.dw_base.specs.Numbers.{number_at, spelled}
 use Rattle.dw_base.specs.Texts.{text, has_nul, ends_in, text_in}
 use Rattle.dw_base.specs.Values.{value_of, number_value, leb_value_at, signed_value_at, block_value, counted_value, counted_leb_value, text_value, bare_value, offset_class, signed_bits}
@@ -13,7 +13,7 @@ use Rattle.dw_base.specs.declared.shared.Order.{Order}
 use Rattle.dw_base.specs.declared.values.Value.{Value}
 use Rattle.dw_base.specs.declared.values.ValueClass.{ValueClass}
 use Rattle.dw_base.specs.declared.values.ValueClass.TheVariants.{Flag, Bytes, InlineText, Signed}
-use Rattle.dw_base.proofs.LebLaws.{uleb_at-append, uleb_at-size, sleb_at-size}
+use Rattle.dw_base.proofs.LebLaws.{sleb_at-size, uleb-inside, uleb_at-append}
 use Rattle.dw_base.proofs.NumberBytes.{number-cut, signed-cut}
 use Rattle.dw_base.proofs.NumberLaws.{spelled-take, spelled-drop}
 use Rattle.dw_base.proofs.TextLaws.{has_nul-append, text-append_nul, has_nul-text, text-split, length-text}
@@ -57,17 +57,6 @@ number-own class n o bytes place v e = by_room (nat_le (place + n) (length bytes
     by_room false is e = absurd cc
 
 -- a number of LEB128 has a byte at least
-uleb-some : (bytes : List ℕ) (place v n : ℕ) → uleb_at bytes place ≡ Some (v, n) → 0 < n
-unfolding uleb_at
-uleb-some bytes place v n e = by_read (uleb_within (uleb (drop place bytes))) (uleb_at-size (drop place bytes)) e
-  where
-    by_read : (o : Option (ℕ × ℕ)) → IfSome o (IsSized (length (drop place bytes))) → o ≡ Some (v, n) → 0 < n
-    by_read None s e = absurd cc
-    by_read (Some x) s e =
-        let some : 0 < x.1 = s.some in
-        let same : x ≡ (v, n) = cc in
-        subst (λ (y : ℕ × ℕ). 0 < y.1) same some
-
 sleb-some : (bytes : List ℕ) (place : ℕ) (v : ℤ) (n : ℕ) → sleb_at bytes place ≡ Some (v, n) → 0 < n
 unfolding sleb_at
 sleb-some bytes place v n e = by_read (sleb_within (sleb (drop place bytes))) (sleb_at-size (drop place bytes)) e
@@ -78,11 +67,6 @@ sleb-some bytes place v n e = by_read (sleb_within (sleb (drop place bytes))) (s
         let some : 0 < x.1 = s.some in
         let same : x ≡ (v, n) = cc in
         subst (λ (y : ℤ × ℕ). 0 < y.1) same some
-
-pub uleb-inside : (bytes : List ℕ) (place v n : ℕ) → uleb_at bytes place ≡ Some (v, n) → place + n ≤ length bytes
-uleb-inside bytes place v n e =
-    let within : n ≤ length (drop place bytes) = (number-cut bytes place v n e).1 in
-    omega (arith, within, uleb-some bytes place v n e, length-drop place bytes)
 
 pub sleb-inside : (bytes : List ℕ) (place : ℕ) (v : ℤ) (n : ℕ) → sleb_at bytes place ≡ Some (v, n) → place + n ≤ length bytes
 sleb-inside bytes place v n e =

@@ -11,3 +11,4 @@ pub mod LineCells
 pub mod RelocatedBodies
 pub mod LineStretches
 pub mod NewAddends
+pub mod PieceRuns

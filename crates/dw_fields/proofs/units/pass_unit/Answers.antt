@@ -2,9 +2,10 @@
 use Rattle.std.proofs.Common.{take}
 use Rattle.dw_base.specs.EntryValues.{bytes_up_to}
 use Rattle.dw_base.specs.ViewData.{debug_data}
+use Rattle.dw_entries.proofs.HasUnitLaws.{first-inside, unit-bytes, unit-length, unit-starts}
 use Rattle.dw_entries.specs.ViewUnits.{unit_section_at}
 use Rattle.dw_fields.specs.FieldWalks.{ground_of}
-use Rattle.dw_fields.proofs.UnitPassLaws.{all-passed, all-refused, first-inside, unit-bytes, unit-length, unit-read, unit-starts, unit-there}
+use Rattle.dw_fields.proofs.UnitPassLaws.{all-passed, all-refused, unit-read, unit-there}
 use Rattle.dw_fields.proofs.units.pass_unit.Goals as goal
 
 pub bytes-requires : goal.bytes-requires

@@ -1,5 +1,5 @@
 -- What pieces of a unit section say one after another, for anything that a piece says; and the same by the places of values and entries.
-use Rattle.std.specs.Prelude.{ℕ, ◌+◌, List, [], ◌∷◌, ◌++◌, Option, Some, None}
+use Rattle.std.specs.Prelude.{ℕ, ◌+◌, List, [], ◌∷◌, ◌++◌, Option, Some, None, ⊤}
 use Rattle.dw_base.specs.AbbreviationTables.{Abbreviation, abbreviation_of}
 use Rattle.dw_base.specs.Lebs.{uleb_at}
 use Rattle.dw_base.specs.Pieces.{Piece}
@@ -10,9 +10,23 @@ use Rattle.dw_base.specs.declared.units.Scanned.{Scanned}
 use Rattle.dw_base.specs.declared.values.Spec.{Spec}
 use Rattle.dw_base.specs.declared.values.Value.{Value}
 
-abbrev pub all_of : {T : Type 0} → (Piece UnitState → List T) → List (Piece UnitState) → List T
+-- nothing is asked of a piece
+abbrev pub any_piece : Piece UnitState → Type 0
+any_piece x = ⊤
+
+-- of pieces one after another
+abbrev pub all_of : {S : Type 0} → {T : Type 0} → (Piece S → List T) → List (Piece S) → List T
 all_of F [] = []
 all_of F (x ∷ xs) = F x ++ all_of F xs
+
+-- where the values of attributes end, from a place on
+abbrev pub end_behind : (ℕ → Option ℕ) → ℕ → Option Value → Option ℕ
+end_behind f place None = None
+end_behind f place (Some v) = f (place + v.size)
+
+abbrev pub values_end : Params → List ℕ → List Spec → ℕ → Option ℕ
+values_end params bytes [] place = Some place
+values_end params bytes (x ∷ xs) place = end_behind (λ p. values_end params bytes xs p) place (value_at params x bytes place)
 
 -- of values that stand one behind another, of entry `number`, whose tag is `tag`
 abbrev pub value_out : {T : Type 0} → (ℕ → ℕ → Spec → ℕ → Value → List T) → (ℕ → List T) → ℕ → ℕ → Spec → ℕ → Option Value → List T
