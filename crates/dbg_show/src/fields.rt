@@ -3,7 +3,7 @@
 //! Read first: `specs/ShownUnits.antt`.
 
 ghost use Rattle.std.specs.Prelude.{◌≡◌, ◌+◌, ◌<◌, length, nat_le, true};
-ghost use Rattle.dw_base.specs.Cells.{Located as LocatedOf, offset_into};
+ghost use Rattle.dw_base.specs.Cells.{offset_into};
 ghost use Rattle.dw_base.specs.FileViews.{address_at, field_at};
 ghost use Rattle.dw_base.specs.ViewData.{located};
 ghost use Rattle.dbg_show.specs.ShownUnits.{address_field, has_field, is_leb_form, number_field};
@@ -15,63 +15,12 @@ use dw_base::dwarf_numbers::{
 };
 use dw_base::{DebugSection, Field, Value};
 use dw_view::View;
-use std::marker::Model;
-
-/// A section: its number and its bytes; 0 and none where there is no such section.
-#[derive(Drop)]
-pub(crate) struct SectionBytes<'v> {
-    pub number: u32,
-    pub bytes: &'v [u8],
-}
-
-impl<'v> Model for SectionBytes<'v> {
-    ghost Value = { LocatedOf };
-
-    ghost view = { λ z. record { number = z.number; bytes = z.bytes.now } };
-}
-
-/// The section of a name.
-#[tactic(auto, unfolding(dw_base::specs::ViewData::located))]
-pub(crate) fn located<'v>(view: &'v View, name: DebugSection) -> SectionBytes<'v>
-    ensures section { result ≡ located view.now name }
-{
-    match view.first(name) {
-        Some(number) => SectionBytes {
-            number,
-            bytes: view.bytes(number),
-        },
-        None => SectionBytes {
-            number: 0,
-            bytes: &[],
-        },
-    }
-}
-
-/// The offset that a field says into a section: one into another section counts as past it.
-fn offset_of(section: &SectionBytes, field: Field) -> u64
-    ensures offset { result ≡ offset_into section.now field }
-{
-    match field {
-        Field::Num(offset) => offset,
-        Field::Into {
-            section: number,
-            offset,
-        } => {
-            if number == section.number {
-                return offset;
-            }
-            section.bytes.len() as u64
-        }
-        Field::Sym { .. } => section.bytes.len() as u64,
-    }
-}
 
 /// The offset that a field says into the section of a name.
 pub(crate) fn offset_into(view: &View, name: DebugSection, field: Field) -> u64
     ensures offset { result ≡ offset_into (located view.now name) field }
 {
-    let section = located(view, name);
-    offset_of(&section, field)
+    view.located(name).offset(field)
 }
 
 /// So many bytes at a place are there.

@@ -7,7 +7,6 @@ ghost use Rattle.dw_base.specs.LineSources.{LineSource as LineSourceOf};
 ghost use Rattle.dw_base.specs.ViewData.{debug_data};
 ghost use Rattle.dw_base.specs.declared.debug_sections.DebugSection.TheVariants.{Line};
 
-use crate::fields::located;
 use dw_base::{DebugSection, Order, TextPlace};
 use dw_view::View;
 use std::marker::Model;
@@ -48,9 +47,9 @@ pub(crate) fn part(bytes: &[u8], at: u64, len: u64) -> &[u8]
 pub(crate) fn line_source<'v>(view: &'v View<'v>) -> LineSource<'v>
     ensures source { result ≡ line_source (debug_data view.now) }
 {
-    let lines = located(view, DebugSection::Line);
-    let texts = located(view, DebugSection::Str);
-    let line_texts = located(view, DebugSection::LineStr);
+    let lines = view.located(DebugSection::Line);
+    let texts = view.located(DebugSection::Str);
+    let line_texts = view.located(DebugSection::LineStr);
     LineSource {
         view,
         order: view.order(),

@@ -20,7 +20,7 @@ ghost use Rattle.dw_base.specs.LineMeanings.{item_at};
 ghost use Rattle.dw_base.specs.StringOffsets.{slot_place};
 
 use crate::entry_index::{EntryIndex, table_at};
-use crate::fields::{has_room, located, offset_into};
+use crate::fields::{has_room, offset_into};
 use crate::listed_unit::ListedUnit;
 use crate::macro_source::unit_number;
 use dw_abbrev::AbbrevTable;
@@ -189,7 +189,7 @@ pub(crate) fn is_info(view: &View, section: u32) -> bool
 fn first_macro(view: &View) -> u32
     ensures { result ≡ first_macro view.now }
 {
-    located(view, DebugSection::Macro).number
+    view.located(DebugSection::Macro).number
 }
 
 /// The number of the macro unit that a field names, among where they start.
@@ -229,7 +229,7 @@ fn text_from(bytes: &[u8], at: u64) -> &[u8]
 pub(crate) fn text_of<'v>(view: &'v View, table: DebugSection, at: u64) -> &'v [u8]
     ensures { result.now ≡ text_in (located view.now table).bytes at }
 {
-    text_from(located(view, table).bytes, at)
+    text_from(view.located(table).bytes, at)
 }
 
 /// How many bytes the slots of the contribution of a base have.

@@ -2,18 +2,17 @@
 //!
 //! Read first: `specs/FieldOffsets.antt`.
 
-ghost use Rattle.std.specs.Prelude.{◌≡◌, ◌⊎◌, ◌+◌, ◌<◌, ◌≤◌, length, IfErr, IfOk};
-ghost use Rattle.dw_base.specs.Cells.{cells_at, field_of, offset_into, offset_of};
+ghost use Rattle.std.specs.Prelude.{◌≡◌, ◌⊎◌, ◌+◌, ◌<◌, ◌≤◌, true, length, IfErr, IfOk, OnOk};
+ghost use Rattle.dw_base.specs.Cells.{cells_at, field_of, is_placed, offset_into, offset_of};
 ghost use Rattle.dw_base.specs.FileViews.{field_at, section_bytes, view_cells};
 ghost use Rattle.dw_base.specs.RelocationRows.{OffsetFails, field_place, offset_field};
 ghost use Rattle.dw_base.specs.ViewData.{located};
 ghost use Rattle.dw_find.specs.Fields.{IsStartField};
 
-use crate::fields::PathField;
-use dw_base::{DebugSection, Field, Refusal};
-use dw_view::View;
+use dw_base::{DebugSection, Field, Refusal, TextField};
+use dw_view::{SectionBytes, View};
 
-/// The offset that a field holds into the section of a number with these bytes: one into another section counts as past it. Refused as
+/// The offset that a field holds into a section: one into another section counts as past it. Refused as
 /// `Relocation` where a relocation lies on the field only in part, at that, and where the one at it gives no place, at the field.
 #[tactic(auto, using(crate::proofs::FieldOffsetLaws::field_rules))]
 pub(crate) fn offset_at(
@@ -21,35 +20,18 @@ pub(crate) fn offset_at(
     section: u32,
     at: u64,
     size: u8,
-    number: u32,
-    bytes: &[u8],
+    into: &SectionBytes,
 ) -> Result<u64, Refusal>
     requires there { section < length view.now.sections }
     requires some { 0 < size }
     requires wide { size ≤ 8 }
     requires inside { at + size ≤ length (section_bytes view.now section) }
-    ensures offset { IfOk result (λ n. n ≡ offset_into (record { number = number; bytes = bytes.now }) (field_at view.now section at size)) }
+    ensures offset { IfOk result (λ n. n ≡ offset_into into.now (field_at view.now section at size)) }
+    ensures placed { OnOk result (is_placed (field_at view.now section at size) ≡ true) }
     ensures refused { IfErr result (OffsetFails view.now.order section (view_cells view.now section) (field_place at size offset_field)) }
 {
-    let field = view.offset(section, at, size)?;
-    Ok(offset_into(field, number, bytes))
-}
-
-/// The same of a field that was read.
-fn offset_into(field: Field, number: u32, bytes: &[u8]) -> u64
-    ensures { result ≡ offset_into (record { number = number; bytes = bytes.now }) field }
-{
-    match field {
-        Field::Num(offset) => offset,
-        Field::Into { section, offset } => {
-            if section == number {
-                offset
-            } else {
-                bytes.len() as u64
-            }
-        }
-        Field::Sym { .. } => bytes.len() as u64,
-    }
+    let read = view.offset(section, at, size)?;
+    Ok(into.offset(read))
 }
 
 /// The offset that a field of four or eight bytes holds, by the cells of its section.
@@ -59,16 +41,16 @@ pub(crate) fn cells_offset(
     section: u32,
     at: u64,
     size: u8,
-    number: u32,
-    bytes: &[u8],
+    into: &SectionBytes,
 ) -> Result<u64, Refusal>
     requires there { section < length view.now.sections }
     requires sized { (size ≡ 4) ⊎ (size ≡ 8) }
     requires lies { at + size ≤ length (view_cells view.now section) }
-    ensures offset { IfOk result (λ n. n ≡ offset_of view.now.order (record { number = number; bytes = bytes.now }) (cells_at (view_cells view.now section) at size)) }
+    ensures offset { IfOk result (λ n. n ≡ offset_of view.now.order into.now (cells_at (view_cells view.now section) at size)) }
+    ensures placed { OnOk result (is_placed (field_of view.now.order (cells_at (view_cells view.now section) at size)) ≡ true) }
     ensures refused { IfErr result (OffsetFails view.now.order section (view_cells view.now section) (field_place at size offset_field)) }
 {
-    let offset = offset_at(view, section, at, size, number, bytes)?;
+    let offset = offset_at(view, section, at, size, into)?;
     Ok(offset)
 }
 
@@ -77,20 +59,17 @@ pub(crate) fn cells_offset(
 pub(crate) fn section_offset(
     view: &View,
     section: u32,
-    field: PathField,
+    field: TextField,
     of: DebugSection,
 ) -> Result<u64, Refusal>
     requires there { section < length view.now.sections }
     requires field { IsStartField (section_bytes view.now section) field }
     ensures offset { IfOk result (λ n. n ≡ offset_of view.now.order (located view.now of) (cells_at (view_cells view.now section) field.at field.size)) }
+    ensures placed { OnOk result (is_placed (field_of view.now.order (cells_at (view_cells view.now section) field.at field.size)) ≡ true) }
     ensures refused { IfErr result (OffsetFails view.now.order section (view_cells view.now section) (field_place field.at field.size offset_field)) }
 {
-    if let Some(number) = view.first(of) {
-        let bytes = view.bytes(number);
-        let offset = cells_offset(view, section, field.at, field.size, number, bytes)?;
-        return Ok(offset);
-    }
-    let offset = cells_offset(view, section, field.at, field.size, 0, b"")?;
+    let into = view.located(of);
+    let offset = cells_offset(view, section, field.at, field.size, &into)?;
     Ok(offset)
 }
 
@@ -100,6 +79,7 @@ pub(crate) fn cells_field(view: &View, section: u32, at: u64, size: u8) -> Resul
     requires there { section < length view.now.sections }
     requires field { IsStartField (section_bytes view.now section) (record { at = at; size = size }) }
     ensures field { IfOk result (λ f. f ≡ field_of view.now.order (cells_at (view_cells view.now section) at size)) }
+    ensures placed { OnOk result (is_placed (field_of view.now.order (cells_at (view_cells view.now section) at size)) ≡ true) }
     ensures refused { IfErr result (OffsetFails view.now.order section (view_cells view.now section) (field_place at size offset_field)) }
 {
     let field = view.offset(section, at, size)?;

@@ -66,18 +66,6 @@ pub(crate) fn file_numbers(table: &[u8], place: u64) -> Option<(u64, u64)>
     Some((dir, next))
 }
 
-/// The number of a section of texts and its length, both 0 where there is none.
-#[tactic(auto, unfolding(dw_base::specs::ViewData::located))]
-fn section_of(view: &View, texts: DebugSection) -> (u32, u64)
-    ensures number { result.0 ≡ (located view.now texts).number }
-    ensures len { result.1 ≡ length (located view.now texts).bytes }
-{
-    match view.first(texts) {
-        Some(section) => (section, view.bytes(section).len() as u64),
-        None => (0, 0),
-    }
-}
-
 /// The text at an offset of a section of texts, which a field at a place of a section names. Refused as `StringOffset` at the
 /// field exactly where no text that ends begins there.
 #[tactic(auto, using(crate::proofs::TextLaws::text_laws))]
@@ -109,8 +97,7 @@ fn text_if(
 fn offset_into(view: &View, texts: DebugSection, section: u32, offset: u64) -> u64
     ensures offset { result ≡ offset_into (located view.now texts) (Into section offset) }
 {
-    let (number, len) = section_of(view, texts);
-    if section == number { offset } else { len }
+    view.located(texts).offset(Field::Into { section, offset })
 }
 
 /// The text that a field at a place of a section names in a section of texts. Refused at the field: as `Relocation` exactly

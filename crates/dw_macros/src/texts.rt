@@ -97,28 +97,11 @@ pub(crate) fn names_text(
     Ok(is_text(view, texts, read))
 }
 
-/// The number of a section of the view and its length, both 0 where there is none.
-#[tactic(auto, unfolding(dw_base::specs::ViewData::located))]
-pub(crate) fn section_of(view: &View, kind: DebugSection) -> (u32, u64)
-    ensures number { result.0 ≡ (located view.now kind).number }
-    ensures len { result.1 ≡ length (located view.now kind).bytes }
-{
-    match view.first(kind) {
-        Some(section) => (section, view.bytes(section).len() as u64),
-        None => (0, 0),
-    }
-}
-
 /// The offset that a field holds into a section; one into another section is the section's length.
 fn offset_into(view: &View, kind: DebugSection, field: Field) -> u64
     ensures offset { result ≡ offset_into (located view.now kind) field }
 {
-    let (number, len) = section_of(view, kind);
-    match field {
-        Field::Num(offset) => offset,
-        Field::Into { section, offset } => { if section == number { offset } else { len } }
-        Field::Sym { .. } => len,
-    }
+    view.located(kind).offset(field)
 }
 
 /// The offset at a place of a section, into a section of the view.

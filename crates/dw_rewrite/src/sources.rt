@@ -5,7 +5,7 @@
 
 ghost use Rattle.std.specs.Bool.{OnFalse, OnTrue};
 ghost use Rattle.std.specs.Prelude.{◌≡◌, ◌⊎◌, ◌+◌, ◌^◌, ◌<◌, ◌≤◌, length, Some};
-ghost use Rattle.dw_base.specs.Cells.{bytes_of, cells_at, offset_into};
+ghost use Rattle.dw_base.specs.Cells.{bytes_of, cells_at};
 ghost use Rattle.dw_base.specs.FileViews.{view_cells};
 ghost use Rattle.dw_base.specs.NewOffsets.{symbol_value, with_offset};
 ghost use Rattle.dw_base.specs.Numbers.{number_bytes};
@@ -15,9 +15,8 @@ ghost use Rattle.dw_meaning.specs.NewAddends.{Makes, Misses};
 ghost use Rattle.dw_rewrite.specs.Changes.{FieldSource as SourceOf, offset_at, offset_bytes};
 ghost use Rattle.dw_view.specs.Relocations.{relocation_value};
 
-use dw_base::Field;
-use dw_find::PathField;
-use dw_view::{Relocation, View};
+use dw_base::TextField;
+use dw_view::{Relocation, SectionBytes, View};
 use elf_relocs::addend_makes;
 use std::marker::Model;
 
@@ -69,7 +68,7 @@ impl<'v, 'f, 't> FieldSource<'v, 'f, 't> {
     }
 
     /// The offset that a field holds.
-    pub(crate) fn offset(&self, field: PathField) -> u64
+    pub(crate) fn offset(&self, field: TextField) -> u64
         requires sized { (field.size ≡ 4) ⊎ (field.size ≡ 8) }
         requires inside { field.at + field.size ≤ length self.now.cells }
         ensures value { result ≡ offset_at self.now field }
@@ -78,7 +77,7 @@ impl<'v, 'f, 't> FieldSource<'v, 'f, 't> {
     }
 
     /// The number with which a field says another offset.
-    pub(crate) fn number(&self, field: PathField, offset: u64) -> u64
+    pub(crate) fn number(&self, field: TextField, offset: u64) -> u64
         requires sized { (field.size ≡ 4) ⊎ (field.size ≡ 8) }
         requires inside { field.at + field.size ≤ length self.now.cells }
         ensures bytes { number_bytes self.now.order field.size result ≡ offset_bytes self.now field offset }
@@ -89,7 +88,7 @@ impl<'v, 'f, 't> FieldSource<'v, 'f, 't> {
 
     /// A field can say an offset: false where the relocation that begins at it has an addend of 32 bits, which
     /// doesn't make the offset in the eight bytes of the field.
-    pub(crate) fn makes(&self, field: PathField, offset: u64) -> bool
+    pub(crate) fn makes(&self, field: TextField, offset: u64) -> bool
         requires sized { (field.size ≡ 4) ⊎ (field.size ≡ 8) }
         requires inside { field.at + field.size ≤ length self.now.cells }
         ensures makes { OnTrue result (Makes (relocation_at self.now.cells field.at) field.size offset) }
@@ -101,38 +100,23 @@ impl<'v, 'f, 't> FieldSource<'v, 'f, 't> {
 
 /// The offset that a field of the section of a number holds into a table.
 #[tactic(auto, using(crate::proofs::SourceLaws::offset_rules))]
-fn offset_there(view: &View, section: u32, number: u32, table: &[u8], field: PathField) -> u64
+fn offset_there(view: &View, section: u32, number: u32, table: &[u8], field: TextField) -> u64
     requires there { section < length view.now.sections }
     requires sized { (field.size ≡ 4) ⊎ (field.size ≡ 8) }
     requires inside { field.at + field.size ≤ length (view_cells view.now section) }
     ensures value { result ≡ offset_at (record { order = view.now.order; cells = view_cells view.now section; table = record { number = number; bytes = table.now } }) field }
 {
     let value = view.value(section, field.at, field.size);
-    offset_of(value, number, table)
-}
-
-/// The offset that a field that was read holds into a table: one into another section counts as past it.
-fn offset_of(field: Field, number: u32, table: &[u8]) -> u64
-    ensures { result ≡ offset_into (record { number = number; bytes = table.now }) field }
-{
-    match field {
-        Field::Num(offset) => offset,
-        Field::Into {
-            section: target,
-            offset,
-        } => {
-            if target == number {
-                return offset;
-            }
-            table.len() as u64
-        }
-        Field::Sym { .. } => table.len() as u64,
-    }
+    let into = SectionBytes {
+        number,
+        bytes: table,
+    };
+    into.offset(value)
 }
 
 /// The number with which a field of the section of a number says another offset.
 #[tactic(auto, using(crate::proofs::SourceLaws::number_rules))]
-fn number_there(view: &View, section: u32, field: PathField, offset: u64) -> u64
+fn number_there(view: &View, section: u32, field: TextField, offset: u64) -> u64
     requires there { section < length view.now.sections }
     requires sized { (field.size ≡ 4) ⊎ (field.size ≡ 8) }
     requires inside { field.at + field.size ≤ length (view_cells view.now section) }
@@ -158,7 +142,7 @@ fn low_bytes(number: u64, size: u8) -> u64
 
 /// A field of the section of a number can say an offset.
 #[tactic(auto, using(crate::proofs::SourceLaws::makes_rules))]
-fn makes_there(view: &View, section: u32, field: PathField, offset: u64) -> bool
+fn makes_there(view: &View, section: u32, field: TextField, offset: u64) -> bool
     requires there { section < length view.now.sections }
     requires sized { (field.size ≡ 4) ⊎ (field.size ≡ 8) }
     requires inside { field.at + field.size ≤ length (view_cells view.now section) }

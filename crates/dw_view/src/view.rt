@@ -19,6 +19,7 @@ ghost use Rattle.dw_view.specs.PairViews.{pair_view};
 ghost use Rattle.dw_view.specs.Pairs.{IsPaired, PairBlames, PairRefused};
 ghost use Rattle.dw_view.specs.Relocations.{FileKeeps, HasNoNext, IsNextPlace, ViewKeeps, relocation_value};
 ghost use Rattle.dw_view.specs.declared.mismatch.PairErr.{PairErr};
+ghost use Rattle.dw_base.specs.ViewData.{located};
 
 use crate::fields::{Relocation, address_by, field_by, is_placed};
 use crate::found::{next_filled, numbers_of};
@@ -28,6 +29,7 @@ use crate::names::{FRONT_SIZE, kind_fits, names_apart, names_fit};
 use crate::pairing::is_pair;
 use crate::relocations::relocations_of;
 use crate::repeats::names_once;
+use crate::section_bytes::SectionBytes;
 use crate::sections::Sections;
 use dw_base::{
     DebugSection, Fault, Field, Kind, NoMemory, Order, READ_SECTIONS, Refusal, number_in,
@@ -232,6 +234,25 @@ impl<'a> View<'a> {
         ensures small { length result.now ≤ 2 ^ 31 }
     {
         self.sections.bytes(section)
+    }
+
+    /// The first section of one that is read, as one that offsets are into: number 0 and no bytes where there is none. Takes the same
+    /// time in every file.
+    #[tactic(auto, unfolding(dw_base::specs::ViewData::located))]
+    pub fn located<'v>(&'v self, section: DebugSection) -> SectionBytes<'v>
+        ensures section { result ≡ located self.now section }
+        ensures small { length result.bytes ≤ 2 ^ 31 }
+    {
+        match self.first(section) {
+            Some(number) => SectionBytes {
+                number,
+                bytes: self.bytes(number),
+            },
+            None => SectionBytes {
+                number: 0,
+                bytes: &[],
+            },
+        }
     }
 
     /// What a field reads as: the `size` bytes from `at`, in bytes from the start of the section of a

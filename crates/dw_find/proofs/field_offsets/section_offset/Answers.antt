@@ -4,6 +4,3 @@ use Rattle.dw_find.proofs.field_offsets.section_offset.Goals as goal
 
 pub cells_offset-requires-clause-lies : goal.cells_offset-requires-clause-lies
 cells_offset-requires-clause-lies c = field-lies c.args.view.now c.args.section c.args.field c.requires.field
-
-pub cells_offset-requires-2-clause-lies : goal.cells_offset-requires-2-clause-lies
-cells_offset-requires-2-clause-lies c = field-lies c.args.view.now c.args.section c.args.field c.requires.field
