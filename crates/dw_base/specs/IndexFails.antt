@@ -1,9 +1,8 @@
 -- Why texts by index and texts outside of entries can't be read or mapped: an index without a slot, a field of an offset behind
 -- which no text ends, and a slot that a path and something else name.
 use Rattle.std.specs.Prelude.{true, false, ◌≡◌, ◌≢◌, ℕ, List, ◌∷◌, ◌++◌, ⊤, None}
-use Rattle.dw_base.specs.Cells.{Cell}
+use Rattle.dw_base.specs.Cells.{Cell, field_of, is_placed}
 use Rattle.dw_base.specs.DebugData.{Around, path_slots, other_slots}
-use Rattle.dw_base.specs.Forms.{in_str}
 use Rattle.dw_base.specs.OffsetPieces.{OffsetMode, at_slot, OffsetState}
 use Rattle.dw_base.specs.Paths.{PathMap, mapped_path}
 use Rattle.dw_base.specs.Pieces.{Piece}
@@ -16,6 +15,7 @@ use Rattle.dw_base.specs.declared.debug_sections.DebugSection.TheVariants.{Str}
 use Rattle.dw_base.specs.declared.fault.Kind.TheVariants.{StringOffset, StringTable, SharedIndex}
 use Rattle.dw_base.specs.declared.fault.Refusal.{Refusal}
 use Rattle.dw_base.specs.declared.shared.Width.{Width}
+use Rattle.dw_base.specs.declared.texts.TextSection.TheVariants.{InStr}
 
 -- the row of indexes, at the value: its unit has no base, no contribution has that base, or it has no such slot
 pub data IndexFails (g : Indexing) : Refusal → Type 0 where
@@ -31,9 +31,10 @@ pub record HasSlot (xs : List (Piece OffsetState)) (x : Piece OffsetState) : Typ
   pub end : ℕ
   pub mode : x.state.mode ≡ at_slot width end
 
--- the row of slots, at the slot: its offset names no text
+-- the row of slots, at the slot: its offset names no text; a symbol without a place is no offset
 pub data SlotFails (section : ℕ) (around : Around) (xs : List (Piece OffsetState)) : Refusal → Type 0 where
-  no_text : (x : Piece OffsetState) → HasSlot xs x → ends_in (around.stands Str).bytes (offset_in around in_str x.cells) ≡ false
+  no_text : (x : Piece OffsetState) → HasSlot xs x → is_placed (field_of around.lasting.base.order x.cells) ≡ true
+      → ends_in (around.stands Str).bytes (offset_in around InStr x.cells) ≡ false
       → SlotFails section around xs (at StringOffset section x.state.place)
 
 -- the slot of a number may have another text: no value names it that isn't a path, or the text stays when it is mapped

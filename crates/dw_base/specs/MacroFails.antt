@@ -1,5 +1,6 @@
 -- Why macro units can't be read: the refusals of kind Macro, at the unit, of kind Supplementary, at an operation, and of kind
--- StringOffset, at the offset of a text (DWARF 5, 6.3). The units and operations before it can be read.
+-- StringOffset, at the offset of a text, or Relocation, where a symbol without a place stands there (DWARF 5, 6.3). The units and operations
+-- before it can be read.
 use Rattle.std.specs.Prelude.{◌≡◌, ℕ, ◌<◌, List, length, Some, None, Err}
 use Rattle.dw_base.specs.FileViews.{View, section_bytes}
 use Rattle.dw_base.specs.Refusals.{at}

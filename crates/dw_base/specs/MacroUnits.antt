@@ -1,15 +1,17 @@
 -- Macro units (DWARF 5, 6.3): a header, and operations up to the one that ends the unit. Units fill a section, one after another.
 use Rattle.std.specs.Prelude.{Bool, true, false, ◌≡◌, ℕ, if◌then◌else◌, List, [], ◌∷◌, ◌++◌, length, Option, Some, None, Result, Ok, Err}
-use Rattle.dw_base.specs.Cells.{Located, offset_into}
+use Rattle.dw_base.specs.Cells.{Located, is_placed, offset_into}
 use Rattle.dw_base.specs.FileViews.{View, field_at, section_bytes}
 use Rattle.dw_base.specs.Forms.{width_size}
 use Rattle.dw_base.specs.Refusals.{at}
 use Rattle.dw_base.specs.Texts.{ends_in}
 use Rattle.dw_base.specs.ViewData.{located}
 use Rattle.dw_base.specs.declared.debug_sections.DebugSection.TheVariants.{Str, Line}
-use Rattle.dw_base.specs.declared.fault.Kind.TheVariants.{Macro, StringOffset, Supplementary}
+use Rattle.dw_base.specs.declared.fault.Kind.{Kind}
+use Rattle.dw_base.specs.declared.fault.Kind.TheVariants.{Macro, Relocation as RelocationKind, StringOffset, Supplementary}
 use Rattle.dw_base.specs.declared.fault.Refusal.{Refusal}
 use Rattle.dw_base.specs.declared.shared.Width.{Width}
+use Rattle.dw_base.specs.declared.view_fields.Field.{Field}
 use Rattle.dw_base.specs.MacroHeaders.{macro_header}
 use Rattle.dw_base.specs.MacroOperations.{operation_at}
 use Rattle.dw_base.specs.declared.macro_units.MacroHeader.{MacroHeader}
@@ -25,12 +27,17 @@ offset_at v z section field width = offset_into z (field_at v section field (wid
 abbrev pub names_text : View → ℕ → Width → ℕ → Bool
 names_text v section width field = ends_in (located v Str).bytes (offset_at v (located v Str) section field width)
 
+-- the kind of a refusal at a field that names no text: a symbol without a place is no offset
+abbrev pub nameless : Field → Kind
+nameless f = if is_placed f then StringOffset else RelocationKind
+
 -- an operation that was read, with the place behind it: refused at itself where it refers to a supplementary file, and at its
--- offset where that names no text
+-- offset where that names no text or is none
 abbrev pub taken : View → ℕ → Width → ℕ → MacroOperation → ℕ → Result (MacroOperation × ℕ) Refusal
 taken v section width place Foreign next = Err (at Supplementary section place)
 taken v section width place (Named defines line field) next =
-    if names_text v section width field then Ok (Named defines line field, next) else Err (at StringOffset section field)
+    if names_text v section width field then Ok (Named defines line field, next)
+    else Err (at (nameless (field_at v section field (width_size width))) section field)
 taken v section width place o next = Ok (o, next)
 
 -- the same of what was read; where nothing was, the unit is refused

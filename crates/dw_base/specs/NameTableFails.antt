@@ -1,7 +1,9 @@
 -- Why name tables can't be read: the refusals of kind NameTable, at the table, and of kind StringOffset, at the field (DWARF 5,
 -- 6.1.1.4). The tables before it can be read.
-use Rattle.std.specs.Prelude.{false, ◌≡◌, ◌≢◌, ℕ, ◌+◌, ◌<◌, ◌≤◌, List, length, Some, None}
-use Rattle.dw_base.specs.FileViews.{View}
+use Rattle.std.specs.Prelude.{true, false, ◌≡◌, ◌≢◌, ℕ, ◌+◌, ◌<◌, ◌≤◌, List, length, Some, None}
+use Rattle.dw_base.specs.Cells.{is_placed}
+use Rattle.dw_base.specs.FileViews.{View, field_at}
+use Rattle.dw_base.specs.Forms.{width_size}
 use Rattle.dw_base.specs.Lebs.{initial_length_at}
 use Rattle.dw_base.specs.Numbers.{spelled}
 use Rattle.dw_base.specs.Refusals.{at}
@@ -27,9 +29,10 @@ pub data TableFails (order : Order) (bytes : List ℕ) (section start : ℕ) : R
       → l.1 < 32 + before_strings l.0 (name_counts order bytes (start + l.2)) + from_strings l.0 (name_counts order bytes (start + l.2))
       → TableFails order bytes section start (at NameTableKind section start)
 
--- a string offset of a table, the first that does so, names no text, at its field
+-- a string offset of a table, the first that does so, names no text, at its field; a symbol without a place is no offset
 pub data TextFails (v : View) (section : ℕ) (t : NameTable) : Refusal → Type 0 where
-  no_text : (i : ℕ) → i < t.names → NamesTexts v section t i → names_text v section t i ≡ false
+  no_text : (i : ℕ) → i < t.names → NamesTexts v section t i → is_placed (field_at v section (string_place t i) (width_size t.width)) ≡ true
+      → names_text v section t i ≡ false
       → TextFails v section t (at StringOffset section (string_place t i))
 
 -- what is wrong with the table at a place, or with one of its string offsets

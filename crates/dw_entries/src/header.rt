@@ -43,7 +43,7 @@ fn said_by(view: &View, field: Field) -> (u64, bool)
     match field {
         Field::Num(offset) => (offset, false),
         Field::Into { section, offset } => (offset, section != number),
-        Field::Sym { .. } => (0, true),
+        Field::Sym { .. } => (0, false),
     }
 }
 

@@ -1,19 +1,18 @@
 -- Laws of the offsets that fields of a view hold: what was read is the offset of the field's cells, and where none was read that is a row.
-use Rattle.std.proofs.Common.{◌≡◌, ◌⊎◌, inl, inr, ℕ, ◌+◌, ◌<◌, ◌≤◌, List, [], length, Option, Some, None, sym, ap, ◌∙◌, arith}
+use Rattle.std.proofs.Common.{true, ◌≡◌, ◌⊎◌, inl, inr, ℕ, ◌+◌, ◌<◌, ◌≤◌, List, length, sym, ap, ◌∙◌, arith}
 use Rattle.std.specs.Prelude.{Ok, Err}
-use Rattle.dw_base.specs.Cells.{Located, cells_at, field_of, offset_into, offset_of, Cell}
-use Rattle.dw_base.specs.DebugSections.{name_of}
-use Rattle.dw_base.specs.FileViews.{View, field_at, section_bytes, section_named, view_cells}
+use Rattle.dw_base.specs.Cells.{Located, cells_at, field_of, offset_into, offset_of, Cell, is_placed}
+use Rattle.dw_base.specs.FileViews.{View, field_at, section_bytes, view_cells}
 use Rattle.dw_base.specs.RelocationRows.{OffsetFails, field_place, offset_field}
-use Rattle.dw_base.specs.ViewData.{located, located_at}
+use Rattle.dw_base.specs.ViewData.{located}
 use Rattle.dw_base.specs.declared.debug_sections.DebugSection.{DebugSection}
 use Rattle.dw_base.specs.declared.fault.Refusal.{Refusal}
 use Rattle.dw_base.specs.declared.view_fields.Field.{Field}
 use Rattle.dw_base.proofs.ViewCellLaws.{field_at-cells, length-view_cells, offset_at-cells}
 use Rattle.dw_base.proofs.ViewOffsetLaws.{offset-fails, offset-is}
 use Rattle.dw_find.specs.Fields.{IsStartField}
-use Rattle.dw_find.specs.declared.fields.PathField.{PathField}
 use Rattle.dw_base.specs.ViewOffsets.{offset_read}
+use Rattle.dw_base.specs.declared.texts.TextField.{TextField}
 
 -- a field that is refused, and one that was read
 pub field-refused : (v : View) (section place n : ℕ) (r : Refusal) → 0 < n → place + n ≤ length (section_bytes v section) → Err r ≡ offset_read v section place n
@@ -24,7 +23,10 @@ pub offset-at : (v : View) (section place n offset : ℕ) (f : Field) (z : Locat
     → offset ≡ offset_into z (field_at v section place n)
 offset-at v section place n offset f z read is = is ∙ ap (offset_into z) (offset-is v section place n f (sym read)).same
 
-pub ruleset field_rules = (field-refused, offset-at)
+pub offset-placed : (v : View) (section place n : ℕ) (f : Field) → Ok f ≡ offset_read v section place n → is_placed (field_at v section place n) ≡ true
+offset-placed v section place n f read = (offset-is v section place n f (sym read)).placed
+
+pub ruleset field_rules = (field-refused, offset-at, offset-placed)
 
 -- the offset of a value's field
 pub field-inside : (v : View) (section place n : ℕ) → place + n ≤ length (view_cells v section) → place + n ≤ length (section_bytes v section)
@@ -45,7 +47,12 @@ pub offset-cells : (v : View) (section place n offset : ℕ) (z : Located) → (
 offset-cells v section place n offset z sized inside is =
     is ∙ sym (offset_at-cells v z section place n (offset-some n sized) (field-inside v section place n inside))
 
-pub ruleset value_rules = (field-inside, offset-some, offset-few, offset-cells)
+pub placed-cells : (v : View) (section place n : ℕ) → (n ≡ 4) ⊎ (n ≡ 8) → place + n ≤ length (view_cells v section) → is_placed (field_at v section place n) ≡ true
+    → is_placed (field_of v.order (cells_at (view_cells v section) place n)) ≡ true
+placed-cells v section place n sized inside placed =
+    ap is_placed (field_at-cells v section place n (offset-some n sized) (field-inside v section place n inside)) ∙ placed
+
+pub ruleset value_rules = (field-inside, offset-some, offset-few, offset-cells, placed-cells)
 
 -- what a field reads as, by its cells
 pub start-some : (info : List ℕ) (at n : ℕ) → IsStartField info (record { at = at; size = n }) → 0 < n
@@ -62,27 +69,24 @@ pub field-cells : (v : View) (section place n : ℕ) (f : Field) → IsStartFiel
 field-cells v section place n f is read =
     (offset-is v section place n f (sym read)).same ∙ sym (field_at-cells v section place n (offset-some n is.sized) is.inside)
 
-pub ruleset read_rules = (start-some, start-few, start-inside, field-cells, field-refused)
+pub start-placed : (v : View) (section place n : ℕ) (f : Field) → IsStartField (section_bytes v section) (record { at = place; size = n }) → Ok f ≡ offset_read v section place n
+    → is_placed (field_of v.order (cells_at (view_cells v section) place n)) ≡ true
+start-placed v section place n f is read =
+    ap is_placed (field_at-cells v section place n (offset-some n is.sized) is.inside) ∙ offset-placed v section place n f read
+
+pub ruleset read_rules = (start-some, start-few, start-inside, field-cells, field-refused, start-placed)
 
 -- a field lies in its section
-pub field-lies : (v : View) (i : ℕ) (f : PathField) → IsStartField (section_bytes v i) f → f.at + f.size ≤ length (view_cells v i)
+pub field-lies : (v : View) (i : ℕ) (f : TextField) → IsStartField (section_bytes v i) f → f.at + f.size ≤ length (view_cells v i)
 field-lies v i f is =
     let inside = is.inside in
     omega (arith, inside, length-view_cells v i)
 
-pub field-sized : (info : List ℕ) (f : PathField) → IsStartField info f → (f.size ≡ 4) ⊎ (f.size ≡ 8)
+pub field-sized : (info : List ℕ) (f : TextField) → IsStartField info f → (f.size ≡ 4) ⊎ (f.size ≡ 8)
 field-sized info f is = is.sized
 
 -- the first section of a name
-pub named-some : (v : View) (s : DebugSection) (i n : ℕ) (bs : List ℕ) (p : List Cell) → Some i ≡ section_named v (name_of s) → bs ≡ section_bytes v i
-    → n ≡ offset_of v.order (record { number = i; bytes = bs }) p → n ≡ offset_of v.order (located v s) p
-unfolding located
-named-some v s i n bs p found bytes is =
-    is ∙ ap (λ (l : List ℕ). offset_of v.order (record { number = i; bytes = l }) p) bytes ∙ ap (λ (o : Option ℕ). offset_of v.order (located_at v o) p) found
+pub named-located : (v : View) (s : DebugSection) (n : ℕ) (z : Located) (p : List Cell) → z ≡ located v s → n ≡ offset_of v.order z p → n ≡ offset_of v.order (located v s) p
+named-located v s n z p is e = e ∙ ap (λ (y : Located). offset_of v.order y p) is
 
-pub named-none : (v : View) (s : DebugSection) (n : ℕ) (p : List Cell) → None ≡ section_named v (name_of s) → n ≡ offset_of v.order (record { number = 0; bytes = [] }) p
-    → n ≡ offset_of v.order (located v s) p
-unfolding located
-named-none v s n p found is = is ∙ ap (λ (o : Option ℕ). offset_of v.order (located_at v o) p) found
-
-pub ruleset section_rules = (field-lies, field-sized, named-some, named-none)
+pub ruleset section_rules = (field-lies, field-sized, named-located)

@@ -7,7 +7,6 @@ use Rattle.dw_base.specs.Cells.{Cell, Located}
 use Rattle.dw_base.specs.DebugData.{DebugData, line_source}
 use Rattle.dw_base.specs.DebugSections.{name_of}
 use Rattle.dw_base.specs.FileViews.{View, ViewSection, first_filled, is_filled, section_after, section_named, view_cells}
-use Rattle.dw_base.specs.Forms.{TextSection, in_str, in_line_str}
 use Rattle.dw_base.specs.LineReadings.{LineReading, AreTables}
 use Rattle.dw_base.specs.LineSources.{LineSource}
 use Rattle.dw_base.specs.LineTables.{LineTable}
@@ -27,11 +26,11 @@ use Rattle.dw_find.specs.FoundPaths.{UnitsFound, UnitPathsRefuse, texts, without
 use Rattle.dw_find.specs.FoundPaths.UnitPathsRefuse.{inline}
 use Rattle.dw_find.specs.Fields.{AreOffsetFields}
 use Rattle.dw_find.specs.IndexedTexts.{TextsRefuse}
-use Rattle.dw_find.specs.ViewFields.{AllHaveOffsets, offsets_in, table_number}
+use Rattle.dw_find.specs.ViewFields.{AllHaveOffsets}
 use Rattle.dw_find.specs.SlotPaths.{count_of, lines_count}
 use Rattle.dw_find.specs.TextPlaces.{AllPlaced, AllFitRooms}
 use Rattle.dw_find.specs.NamedStarts.{AllStarts}
-use Rattle.dw_find.specs.UnitPaths.{UnitPaths}
+use Rattle.dw_find.specs.SectionFields.{SectionFields}
 use Rattle.dw_find.specs.UnitTexts.{AllTaken, texts_of}
 use Rattle.dw_find.specs.ViewLines.{lines_by, lines_of_view, table_fields}
 use Rattle.dw_find.proofs.LineTextLaws.{TextsApart, lines-fields}
@@ -39,6 +38,8 @@ use Rattle.dw_find.proofs.SectionFactLaws.{taken-placed}
 use Rattle.dw_find.specs.UnitPlaces.{UnitPlaces}
 use Rattle.dw_base.specs.RelocationRows.{HeaderOffsetsRead}
 use Rattle.dw_base.specs.UnitHeaders.{UnitSection}
+use Rattle.dw_base.specs.declared.texts.TextSection.{TextSection}
+use Rattle.dw_base.specs.declared.texts.TextSection.TheVariants.{InStr, InLineStr}
 
 -- of two names that one section has, both are its name
 first-above : (name : List ℕ) (k i : ℕ) (ss : List ViewSection) → first_filled name k ss ≡ Some i → k ≤ i
@@ -100,9 +101,9 @@ lines-offsets-by v rs (Some i) e are =
       record {
         there = subst (λ (n : ℕ). n < length v.sections) number (section_after-within v (name_of Line) 0 i (sym e)).1;
         str = subst (λ (cells : List Cell). AreOffsetFields v.order ((debug_data v).found Str) cells
-            (table_fields (line_source (debug_data v)).number (line_source (debug_data v)).str.number in_str (tables_read (line_source (debug_data v)) rs))) (cells-some v i e) (fields in_str);
+            (table_fields (line_source (debug_data v)).number (line_source (debug_data v)).str.number InStr (tables_read (line_source (debug_data v)) rs))) (cells-some v i e) (fields InStr);
         line_str = subst (λ (cells : List Cell). AreOffsetFields v.order ((debug_data v).found LineStr) cells
-            (table_fields (line_source (debug_data v)).number (line_source (debug_data v)).str.number in_line_str (tables_read (line_source (debug_data v)) rs))) (cells-some v i e) (fields in_line_str);
+            (table_fields (line_source (debug_data v)).number (line_source (debug_data v)).str.number InLineStr (tables_read (line_source (debug_data v)) rs))) (cells-some v i e) (fields InLineStr);
       },
       tt,
     )
@@ -123,7 +124,7 @@ lines-number None g ts = refl
 lines-number (Some i) g ts = refl
 
 -- without the last they are the first two
-pub without-is : (v : View) (us xs : List UnitPaths) (ts : List LineTable) → us ≡ xs ++ lines_of_view v ts → without_lines v us ≡ xs
+pub without-is : (v : View) (us xs : List SectionFields) (ts : List LineTable) → us ≡ xs ++ lines_of_view v ts → without_lines v us ≡ xs
 without-is v us xs ts is =
     ap (without_lines v) is ∙ front-is xs (lines_of_view v ts) (lines_count v) (lines-number (section_named v (name_of Line)) (line_source (debug_data v)) ts)
 
@@ -134,7 +135,7 @@ head-same x y xs ys e = cc
 tail-same : (x y : UnitSection) (xs ys : List UnitSection) → x ∷ xs ≡ y ∷ ys → xs ≡ ys
 tail-same x y xs ys e = cc
 
-taken-headers : (d : DebugData) (zs : List UnitSection) (us : List UnitPaths) → AllTaken d zs us → (before behind : List UnitSection) (z : UnitSection) → zs ≡ before ++ z ∷ behind
+taken-headers : (d : DebugData) (zs : List UnitSection) (us : List SectionFields) → AllTaken d zs us → (before behind : List UnitSection) (z : UnitSection) → zs ≡ before ++ z ∷ behind
     → HeaderOffsetsRead d.base z
 taken-headers d [] us all [] behind z split = absurd cc
 taken-headers d [] us all (b ∷ bs) behind z split = absurd cc
@@ -143,7 +144,7 @@ taken-headers d (y ∷ ys) (u ∷ us) all [] behind z split = subst (HeaderOffse
 taken-headers d (y ∷ ys) (u ∷ us) all (b ∷ bs) behind z split = taken-headers d ys us all.1 bs behind z (tail-same y b ys (bs ++ z ∷ behind) split)
 
 -- what was found of paths in units
-pub units-found : (m : PathMap) (d : DebugData) (starts : List ℕ) (places : UnitPlaces) (us : List UnitPaths) → AllTaken d (d.found Info) us → AllFitRooms m (d.found Info) us
+pub units-found : (m : PathMap) (d : DebugData) (starts : List ℕ) (places : UnitPlaces) (us : List SectionFields) → AllTaken d (d.found Info) us → AllFitRooms m (d.found Info) us
     → AllStarts d starts places (d.found Info) us → UnitsFound m d starts places us
 units-found m d starts places us taken fits all = record {
   headers = record { all = λ before behind z split. taken-headers d (d.found Info) us taken before behind z split };
@@ -152,7 +153,7 @@ units-found m d starts places us taken fits all = record {
   named = all;
 }
 
-pub placed-found : (d : DebugData) (us : List UnitPaths) → AllTaken d (d.found Info) us → AllPlaced d (d.found Info) us
+pub placed-found : (d : DebugData) (us : List SectionFields) → AllTaken d (d.found Info) us → AllPlaced d (d.found Info) us
 placed-found d us taken = taken-placed d (d.found Info) us taken
 
 pub texts-fault : (m : PathMap) (d : DebugData) (list : List Contribution) (f : Fault) → Blames (TextsRefuse d list) f
@@ -160,13 +161,9 @@ pub texts-fault : (m : PathMap) (d : DebugData) (list : List Contribution) (f : 
 texts-fault m d list NoMemory b = tt
 texts-fault m d list (Refused r) b = texts b
 
-pub tables-same : (v : View) (s l : Located) (n m : ℕ) (sb lb : List ℕ) → s ≡ record { number = n; bytes = sb } → l ≡ record { number = m; bytes = lb }
-    → n ≡ table_number (debug_data v) in_str → m ≡ table_number (debug_data v) in_line_str → sb ≡ (offsets_in v in_str).bytes → lb ≡ (offsets_in v in_line_str).bytes
-    → record { str = s; line_str = l } ≡ texts_of (debug_data v)
-tables-same v s l n m sb lb s_is l_is n_is m_is sb_is lb_is =
-    ap (λ (x : Located). record { str = x; line_str = l })
-    (s_is ∙ ap (λ (k : ℕ). record { number = k; bytes = sb }) n_is ∙ ap (λ (bs : List ℕ). record { number = ((debug_data v).found Str).number; bytes = bs }) sb_is)
-    ∙ ap (λ (x : Located). record { str = (debug_data v).found Str; line_str = x })
-    (l_is ∙ ap (λ (k : ℕ). record { number = k; bytes = lb }) m_is ∙ ap (λ (bs : List ℕ). record { number = ((debug_data v).found LineStr).number; bytes = bs }) lb_is)
+pub tables-same : (v : View) (s l a b : Located) → s ≡ a → l ≡ b → a ≡ located v Str → b ≡ located v LineStr → record { str = s; line_str = l } ≡ texts_of (debug_data v)
+unfolding debug_data
+tables-same v s l a b s_is l_is a_is b_is =
+    ap (λ (x : Located). record { str = x; line_str = l }) (s_is ∙ a_is) ∙ ap (λ (x : Located). record { str = located v Str; line_str = x }) (l_is ∙ b_is)
 
 pub ruleset unit_rules = (units-found, placed-found, texts-fault, inline, tables-same)

@@ -3,9 +3,10 @@ use Rattle.std.proofs.Common.{Bool, false, ◌≡◌, ◌≢◌, ℕ, ◌+◌, �
 use Rattle.std.specs.Option.{IfSome}
 use Rattle.std.proofs.lemmas.Bool.{le-leb}
 use Rattle.dw_base.specs.Cells.{Located}
-use Rattle.dw_base.specs.Forms.{in_str, width_size}
+use Rattle.dw_base.specs.Forms.{width_size}
 use Rattle.dw_base.specs.Numbers.{number_at, spelled}
-use Rattle.dw_base.specs.Roles.{is_path, offset}
+use Rattle.dw_base.specs.Roles.{is_path, offset, is_macros, is_start_name}
+use Rattle.dw_base.specs.TableStarts.{is_start_form, own_form}
 use Rattle.dw_base.specs.TextIndexes.{is_base}
 use Rattle.dw_base.specs.Texts.{ends_in}
 use Rattle.dw_base.specs.Values.{value_at}
@@ -14,14 +15,15 @@ use Rattle.dw_base.specs.declared.fault.Refusal.{Refusal}
 use Rattle.dw_base.specs.declared.shared.Params.{Params}
 use Rattle.dw_base.specs.declared.shared.Width.{Width}
 use Rattle.dw_base.specs.declared.shared.Width.TheVariants.{W32, W64}
+use Rattle.dw_base.specs.declared.texts.TextSection.TheVariants.{InStr}
 use Rattle.dw_base.specs.declared.values.Spec.{Spec}
 use Rattle.dw_base.specs.declared.values.ValueClass.TheVariants.{StrOffset}
 use Rattle.dw_entries.specs.Passes.{HasSize}
-use Rattle.dw_find.specs.EntryTexts.{Found, OffsetRefuses, OneRefuses, Tables, ValueTaken, no_text, offset as offset_refuses, offset_in, relocation, some, with_base, with_paths, with_places}
+use Rattle.dw_find.specs.EntryTexts.{FoundTexts, OffsetRefuses, OneRefuses, Tables, ValueTaken, no_text, offset as offset_refuses, offset_in, relocation, some, with_base, with_paths, with_places}
 use Rattle.dw_find.specs.LaterValues.{IsLater, IsNamed, str_field}
 use Rattle.dw_find.specs.QuietValues.{is_text_form}
-use Rattle.dw_find.specs.TextPlaces.{TextPlace, class_places, is_macros, is_start, is_start_form, line_places, no_index, own_form, said_places, value_places}
-use Rattle.dw_find.specs.UnitPaths.{UnitPaths}
+use Rattle.dw_find.specs.TextPlaces.{TextPlace, class_places, line_places, no_index, said_places, value_places}
+use Rattle.dw_find.specs.SectionFields.{SectionFields}
 use Rattle.dw_find.specs.declared.fields.TextBase.{TextBase}
 use Rattle.dw_find.specs.declared.fields.TextIndex.{TextIndex}
 use Rattle.dw_find.proofs.EntryTextLaws.{with_paths-same, with_places-none}
@@ -30,36 +32,36 @@ use Rattle.dw_find.proofs.StrValueLaws.{str-read, str-value}
 
 -- the place of an offset that is no path's: nothing is noted of it
 abbrev plain_place : ℕ → ℕ → TextPlace
-plain_place at len = record { role = offset in_str false; at = at; len = len; says = no_index }
+plain_place at len = record { role = offset InStr false; at = at; len = len; says = no_index }
 
 base-plain : (b : Option TextBase) (at len : ℕ) → with_base b (plain_place at len ∷ []) ≡ b
 base-plain None at len = refl
 base-plain (Some n) at len = refl
 
-paths-plain : (u : UnitPaths) (at len : ℕ) → with_paths u (plain_place at len ∷ []) ≡ u
+paths-plain : (u : SectionFields) (at len : ℕ) → with_paths u (plain_place at len ∷ []) ≡ u
 paths-plain u at len =
     with_paths-same u (plain_place at len ∷ []) (record { str = refl; line_str = refl; starts = refl; macros = refl; inline = refl; stray = refl })
 
-places-plain : (f : Found) (at len : ℕ) → with_places f (plain_place at len ∷ []) ≡ f
+places-plain : (f : FoundTexts) (at len : ℕ) → with_places f (plain_place at len ∷ []) ≡ f
 unfolding with_places
 places-plain f at len =
-    ap (λ (u : UnitPaths). record { paths = u; base = with_base f.base (plain_place at len ∷ []); indexes = f.indexes ++ [] }) (paths-plain f.paths at len)
+    ap (λ (u : SectionFields). record { paths = u; base = with_base f.base (plain_place at len ∷ []); indexes = f.indexes ++ [] }) (paths-plain f.paths at len)
     ∙ ap (λ (b : Option TextBase). record { paths = f.paths; base = b; indexes = f.indexes ++ [] }) (base-plain f.base at len)
     ∙ ap (λ (xs : List TextIndex). record { paths = f.paths; base = f.base; indexes = xs }) (append-nil f.indexes)
 
 -- an attribute of a name that says no start
-no-line : (name : ℕ) → is_start name ≡ false → (name == DW_AT_stmt_list) ≡ false
+no-line : (name : ℕ) → is_start_name name ≡ false → (name == DW_AT_stmt_list) ≡ false
 no-line name e = (or-parts (name == DW_AT_stmt_list) (is_macros name) e).0
 
-str-nothing : (number tag : ℕ) (x : Spec) (bytes : List ℕ) (place size n : ℕ) (f : Found) → number ≢ 0 → is_start x.name ≡ false
+str-nothing : (number tag : ℕ) (x : Spec) (bytes : List ℕ) (place size n : ℕ) (f : FoundTexts) → number ≢ 0 → is_start_name x.name ≡ false
     → f ≡ with_places f (value_places number tag x bytes place (str_field place size n))
 str-nothing number tag x bytes place size n f other start =
     sym (ap (λ (b : Bool). with_places f (line_places b (own_form x bytes place) (str_field place size n)
     ++ (class_places StrOffset (is_path number tag x.name) (is_base number x.name) (is_start_form (own_form x bytes place)) place (str_field place size n)
-    ++ said_places (is_start x.name) (is_macros x.name) (own_form x bytes place) place (str_field place size n)))) (no-line x.name start)
+    ++ said_places (is_start_name x.name) (is_macros x.name) (own_form x bytes place) place (str_field place size n)))) (no-line x.name start)
     ∙ ap (λ (b : Bool). with_places f (class_places StrOffset (is_path number tag x.name) (is_base number x.name) (is_start_form (own_form x bytes place)) place (str_field place size n)
     ++ said_places b (is_macros x.name) (own_form x bytes place) place (str_field place size n))) start
-    ∙ ap (λ (b : Bool). with_places f (record { role = offset in_str b; at = place; len = size; says = no_index } ∷ [])) (path-none number tag x.name other)
+    ∙ ap (λ (b : Bool). with_places f (record { role = offset InStr b; at = place; len = size; says = no_index } ∷ [])) (path-none number tag x.name other)
     ∙ places-plain f place size)
 
 -- a number of so many bytes stands there
@@ -75,7 +77,7 @@ str-there params x bytes place size form is le =
     (str-read params bytes place size (spelled params.order bytes place size) is (number-there params bytes place size le))
 
 -- it names what the field of any number names
-named-later : (t : Tables) (params : Params) (x : Spec) (bytes : List ℕ) (place size : ℕ) (start : Bool) → x.form ≡ DW_FORM_strp → start ≡ is_start x.name → start ≡ false
+named-later : (t : Tables) (params : Params) (x : Spec) (bytes : List ℕ) (place size : ℕ) (start : Bool) → x.form ≡ DW_FORM_strp → start ≡ is_start_name x.name → start ≡ false
     → IsNamed t params bytes place size → IsLater t params bytes x place size
 named-later t params x bytes place size start form is none n = record {
   value = str_field place size (spelled params.order bytes place size);
@@ -96,7 +98,7 @@ is-named t z params bytes place size own size_is le names = record {
 -- what refuses the field of a number refuses that of another
 same-refuses : (t : Tables) (z : Located) (place size m n : ℕ) (r : Refusal) → OffsetRefuses t z (str_field place size m) r → OffsetRefuses t z (str_field place size n) r
 same-refuses t z place size m n r (relocation f) = relocation f
-same-refuses t z place size m n r (no_text e) = no_text e
+same-refuses t z place size m n r (no_text placed e) = no_text placed e
 
 pub named-refused : (t : Tables) (z : Located) (params : Params) (x : Spec) (bytes : List ℕ) (section place size : ℕ) (r : Refusal) → z ≡ t.str
     → x.form ≡ DW_FORM_strp → size ≡ width_size params.width → place + size ≤ length bytes → OffsetRefuses t z (str_field place size 0) r
@@ -114,11 +116,11 @@ offset-sized W64 n e = inr e
 pub ruleset named_rules = (is-named, named-refused, offset-sized)
 
 -- a value that says nothing by its form and its name
-plain-later : (t : Tables) (params : Params) (x : Spec) (bytes : List ℕ) (place size : ℕ) (start text : Bool) → start ≡ is_start x.name → start ≡ false
+plain-later : (t : Tables) (params : Params) (x : Spec) (bytes : List ℕ) (place size : ℕ) (start text : Bool) → start ≡ is_start_name x.name → start ≡ false
     → text ≡ is_text_form x.form → text ≡ false → HasSize params x bytes place size → IsLater t params bytes x place size
 plain-later t params x bytes place size start text start_is no_start text_is no_text_ h =
     let plain : is_text_form x.form ≡ false = sym text_is ∙ no_text_ in
-    let other : is_start x.name ≡ false = sym start_is ∙ no_start in
+    let other : is_start_name x.name ≡ false = sym start_is ∙ no_start in
     let quiet : Quiet x = record { form = plain; line = no-line x.name other; start = other } in
     record {
       value = h.value;
@@ -130,12 +132,12 @@ plain-later t params x bytes place size start text start_is no_start text_is no_
     }
 
 -- where one was found
-pub named-found : (t : Tables) (params : Params) (x : Spec) (bytes : List ℕ) (place : ℕ) (o : Option ℕ) (start : Bool) → x.form ≡ DW_FORM_strp → start ≡ is_start x.name → start ≡ false
+pub named-found : (t : Tables) (params : Params) (x : Spec) (bytes : List ℕ) (place : ℕ) (o : Option ℕ) (start : Bool) → x.form ≡ DW_FORM_strp → start ≡ is_start_name x.name → start ≡ false
     → IfSome o (IsNamed t params bytes place) → IfSome o (IsLater t params bytes x place)
 named-found t params x bytes place None start form is none h = tt
 named-found t params x bytes place (Some n) start form is none h = named-later t params x bytes place n start form is none h
 
-pub plain-found : (t : Tables) (params : Params) (x : Spec) (bytes : List ℕ) (place : ℕ) (o : Option ℕ) (start text : Bool) → start ≡ is_start x.name → start ≡ false
+pub plain-found : (t : Tables) (params : Params) (x : Spec) (bytes : List ℕ) (place : ℕ) (o : Option ℕ) (start text : Bool) → start ≡ is_start_name x.name → start ≡ false
     → text ≡ is_text_form x.form → text ≡ false → IfSome o (HasSize params x bytes place) → IfSome o (IsLater t params bytes x place)
 plain-found t params x bytes place None start text start_is no_start text_is no_text_ h = tt
 plain-found t params x bytes place (Some n) start text start_is no_start text_is no_text_ h =
@@ -144,7 +146,7 @@ plain-found t params x bytes place (Some n) start text start_is no_start text_is
 pub ruleset later_rules = (named-found, plain-found)
 
 -- such a value is taken
-pub later-taken : (t : Tables) (params : Params) (bytes : List ℕ) (number tag : ℕ) (x : Spec) (place size : ℕ) (f : Found) → number ≢ 0
+pub later-taken : (t : Tables) (params : Params) (bytes : List ℕ) (number tag : ℕ) (x : Spec) (place size : ℕ) (f : FoundTexts) → number ≢ 0
     → IsLater t params bytes x place size → ValueTaken t params bytes number tag x place size f f
 later-taken t params bytes number tag x place size f other l =
     record { value = l.value; is = l.is; size_is = l.size_is; taken = l.taken; found = l.nothing number tag f other }

@@ -10,12 +10,12 @@ use Rattle.dw_base.specs.LineMeanings.{is_there}
 use Rattle.dw_base.specs.MacroHeaders.{is_macro_version, has_flag, width_by, header_by, header_of, macro_header}
 use Rattle.dw_base.specs.MacroOperations.{operation_at}
 use Rattle.dw_base.specs.MacroPieces.{OffsetUse, of_text, of_unit, at_line, at_offset}
-use Rattle.dw_base.specs.MacroUnits.{offset_at, names_text, taken, taken_if, unit_operation, is_end, OperationsUpTo, no_operations, more_operations, IsMacroUnit, unit_with}
+use Rattle.dw_base.specs.MacroUnits.{offset_at, names_text, taken, taken_if, unit_operation, is_end, OperationsUpTo, no_operations, more_operations, IsMacroUnit, unit_with, nameless}
 use Rattle.dw_base.specs.Numbers.{spelled}
 use Rattle.dw_base.specs.Refusals.{at}
 use Rattle.dw_base.specs.ViewData.{debug_data, located}
 use Rattle.dw_base.specs.declared.debug_sections.DebugSection.TheVariants.{Line, Macro as macro_table}
-use Rattle.dw_base.specs.declared.fault.Kind.TheVariants.{Macro, StringOffset, Supplementary}
+use Rattle.dw_base.specs.declared.fault.Kind.TheVariants.{Macro, Supplementary}
 use Rattle.dw_base.specs.declared.fault.Refusal.{Refusal}
 use Rattle.dw_base.specs.declared.line_tables.TextPlace.{TextPlace}
 use Rattle.dw_base.specs.declared.macro_numbers.TheConstants.{OFFSET_SIZE_FLAG, DEBUG_LINE_OFFSET_FLAG, OPCODE_OPERANDS_TABLE_FLAG}
@@ -131,9 +131,9 @@ taken-same v section width place End o m next e = ok-same (End, m) (o, next) e
 taken-same v section width place (Inline d l a n) o m next e = ok-same (Inline d l a n, m) (o, next) e
 taken-same v section width place (Named d l field) o m next e = by_text (names_text v section width field) e
   where
-    by_text : (b : Bool) → (if b then ok_read (Named d l field) m else Err (at StringOffset section field)) ≡ ok_read o next → ◌≡◌ {A = MacroOperation × ℕ} (Named d l field, m) (o, next)
+    by_text : (b : Bool) → (if b then ok_read (Named d l field) m else Err (at (nameless (field_at v section field (width_size width))) section field)) ≡ ok_read o next → ◌≡◌ {A = MacroOperation × ℕ} (Named d l field, m) (o, next)
     by_text true g = ok-same (Named d l field, m) (o, next) g
-    by_text false g = absurd (err-ok (at StringOffset section field) (o, next) g)
+    by_text false g = absurd (err-ok (at (nameless (field_at v section field (width_size width))) section field) (o, next) g)
 taken-same v section width place (Enter l f) o m next e = ok-same (Enter l f, m) (o, next) e
 taken-same v section width place Leave o m next e = ok-same (Leave, m) (o, next) e
 taken-same v section width place (Bring f) o m next e = ok-same (Bring f, m) (o, next) e

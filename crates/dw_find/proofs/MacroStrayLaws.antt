@@ -1,17 +1,16 @@
 -- An offset of a macro unit that names no line table or no unit is a piece of its section that names none: one of the rows of debug data.
 use Rattle.std.specs.Bool.{⊤}
 use Rattle.std.specs.Prelude.{option_map}
-use Rattle.std.proofs.Common.{Bool, true, false, ◌≡◌, ℕ, ◌+◌, ◌≤◌, ◌<◌, nat_le, List, [], ◌∷◌, ◌++◌, length, take, drop, slice_index, Option, Some, None, refl, sym, ap, ◌∙◌, subst, arith, append_assoc, if◌then◌else◌}
+use Rattle.std.proofs.Common.{Bool, true, false, ◌≡◌, ℕ, ◌+◌, ◌≤◌, ◌<◌, List, [], ◌∷◌, ◌++◌, length, take, drop, slice_index, Option, Some, None, refl, sym, ap, ◌∙◌, subst, arith, append_assoc, if◌then◌else◌}
 use Rattle.std.proofs.Math.Seq.{take-append_seam}
-use Rattle.std.proofs.lemmas.Bool.{leb-true}
 use Rattle.std.proofs.lemmas.List.{length-drop}
-use Rattle.dw_base.specs.Cells.{Cell, CellSection, bytes_of, located_cells, offset_of, Located}
+use Rattle.dw_base.specs.Cells.{Cell, CellSection, bytes_of, located_cells, offset_of, Located, field_of, is_placed}
 use Rattle.dw_base.specs.DebugData.{DataReadings, ReadsAll, around_of, line_table, macro_places, macro_unit, start_number, unit_named}
 use Rattle.dw_base.specs.FileViews.{View, field_at, section_bytes}
 use Rattle.dw_base.specs.Forms.{width_size}
 use Rattle.dw_base.specs.LineMeanings.{is_there}
 use Rattle.dw_base.specs.LineReadings.{LineReading, table_starts}
-use Rattle.dw_base.specs.MacroHeaders.{has_flag, width_by, header_of, macro_header}
+use Rattle.dw_base.specs.MacroHeaders.{has_flag, width_by, macro_header}
 use Rattle.dw_base.specs.MacroOperations.{operation_at}
 use Rattle.dw_base.specs.MacroPieces.{OffsetUse, of_text, of_unit, OperationFront, whole, last, before_offset, MacroMode, at_unit, at_line, at_operation, at_offset, MacroState, macros_at, whole_by, front_of, FitsMacros, after_operation, mode_behind, macro_grammar, ReadsMacros}
 use Rattle.dw_base.specs.MacroReadings.{MacroReading, ReadsAllMacros}
@@ -52,8 +51,8 @@ use Rattle.dw_find.specs.MacroNames.MacrosStray.{section as section_stray}
 use Rattle.dw_find.specs.MacroNames.UnitStrays.{line as unit_line, events as unit_strays}
 use Rattle.dw_find.specs.MacroNames.UnitsStray.{unit as unit_stray}
 use Rattle.dw_find.specs.MacroSections.{HaveUnits, SectionUnits, UnitsFoundIn}
-use Rattle.dw_base.specs.MacroOffsets.{AreReadUnits, IsReadUnit, UnitsReadUpTo, more_unit, no_unit}
-use Rattle.dw_macros.proofs.CallerLaws.{read-unit}
+use Rattle.dw_base.specs.MacroOffsets.{AreReadUnits, IsReadUnit, UnitsReadUpTo, more_unit, no_unit, FieldReads, OperationReads, ReadsFrom}
+use Rattle.dw_macros.proofs.CallerLaws.{read-unit, unit-reads}
 use Rattle.dw_find.proofs.MacroAskedLaws.{bring-room, event-ends, event-same, event_read, field-there, header-events, line-room, line-there, lined_header, none-event, plain_header}
 use Rattle.dw_find.proofs.MacroHaveLaws.{AllBelow, AllCells, numbers-below}
 use Rattle.dw_find.proofs.MacroStartLaws.{all-cells}
@@ -61,6 +60,8 @@ use Rattle.dw_base.specs.declared.view_fields.Field.TheVariants.{Num, Into, Sym}
 use Rattle.dw_find.specs.UnitPlaces.{UnitPlaces, has_unit, names_place}
 use Rattle.dw_find.proofs.FoundLaws.{field-unit}
 use Rattle.dw_find.proofs.UnitPlaceLaws.{first-number}
+use Rattle.dw_base.proofs.MacroRowLaws.{macro_header-inside}
+use Rattle.dw_macros.proofs.MeaningLaws.{placed-field, reads-at, reads-past}
 
 -- the pieces of a section from a state on
 record PiecesFrom (v : View) (section : ℕ) (cells : List Cell) (xs : List (Piece MacroState)) (s : MacroState) : Type 0 where
@@ -321,13 +322,6 @@ record HeaderPieces (v : View) (section : ℕ) (cells : List Cell) (xs : List (P
   behind : PiecesFrom v section cells xs (macros_at h.first (at_operation h.width))
   line : h.has_line ≡ true → OffsetIn cells xs (at_line h.width) h.width h.line_field
 
-header-inside : (v : View) (section start : ℕ) (h : MacroHeader) → macro_header v.order (section_bytes v section) start ≡ Some h → start + 3 ≤ length (section_bytes v section)
-unfolding macro_header
-header-inside v section start h e =
-    leb-true (start + 3) (length (section_bytes v section))
-    (if-some (nat_le (start + 3) (length (section_bytes v section)))
-    (header_of (section_bytes v section) (spelled v.order (section_bytes v section) start 2) (slice_index (section_bytes v section) (start + 2)) (start + 3)) h e).0
-
 header-pieces : (v : View) (section : ℕ) (cells : List Cell) (xs : List (Piece MacroState)) (start : ℕ) (h : MacroHeader) → CellsOf v section cells
     → PiecesFrom v section cells xs (macros_at start at_unit) → macro_header v.order (section_bytes v section) start ≡ Some h → HeaderPieces v section cells xs h
 header-pieces v section cells xs start h c f e =
@@ -335,7 +329,7 @@ header-pieces v section cells xs start h c f e =
   where
     inside : start < length cells
     inside =
-        let room = header-inside v section start h e in
+        let room = macro_header-inside v.order (section_bytes v section) start h e in
         let same : length (bytes_of cells) ≡ length (section_bytes v section) = ap length c.bytes in
         omega (arith, room, same, length-bytes_of cells)
 
@@ -383,7 +377,7 @@ header-pieces v section cells xs start h c f e =
     by_line false has k =
         let same : plain_header (spelled v.order (bytes_of n.piece.cells) 0 2) (width_by (has_flag (slice_index (bytes_of n.piece.cells) 2) OFFSET_SIZE_FLAG)) (start + 3) ≡ h =
         some-same (plain_header (spelled v.order (bytes_of n.piece.cells) 0 2) (width_by (has_flag (slice_index (bytes_of n.piece.cells) 2) OFFSET_SIZE_FLAG)) (start + 3)) h
-        (sym (header-plain v section start (spelled v.order (bytes_of n.piece.cells) 0 2) (slice_index (bytes_of n.piece.cells) 2) (header-inside v section start h e) version flags n.fits.version
+        (sym (header-plain v section start (spelled v.order (bytes_of n.piece.cells) 0 2) (slice_index (bytes_of n.piece.cells) 2) (macro_header-inside v.order (section_bytes v section) start h e) version flags n.fits.version
         n.fits.operands has) ∙ e) in
         let behind : PiecesFrom v section cells xs (macros_at (start + 3) (at_operation (width_by (has_flag (slice_index (bytes_of n.piece.cells) 2) OFFSET_SIZE_FLAG)))) =
         subst (λ (i : ℕ). PiecesFrom v section cells xs (macros_at (start + i) (at_operation (width_by (has_flag (slice_index (bytes_of n.piece.cells) 2) OFFSET_SIZE_FLAG))))) n.fits.size k in
@@ -479,6 +473,7 @@ record ImportIn (v : View) (section : ℕ) (cells : List Cell) (xs : List (Piece
   offset : OffsetIn cells xs (at_offset width of_unit) width field
   room : field + width_size width ≤ length (section_bytes v section)
   says : import_of (located v Macro) field (field_at v section field (width_size width)) ≡ Import in_section n field
+  placed : is_placed (field_at v section field (width_size width)) ≡ true
 
 abbrev imported : ℕ → ℕ → ℕ → MacroEvent
 imported section n field = Import section n field
@@ -530,24 +525,24 @@ import-none places z field in_section n (Sym s k a) first e none = refl
 
 import-by : (v : View) (section : ℕ) (cells : List Cell) (xs : List (Piece MacroState)) (width : Width) (place next in_section n field : ℕ) (o : MacroOperation) → CellsOf v section cells
     → PiecesFrom v section cells xs (macros_at place (at_operation width)) → operation_at (section_bytes v section) width place ≡ read_as o next
-    → event_by v section width o next ≡ event_read (imported in_section n field) next → ImportIn v section cells xs width in_section n field
+    → OperationReads v section width o → event_by v section width o next ≡ event_read (imported in_section n field) next → ImportIn v section cells xs width in_section n field
 unfolding event_by import_at
-import-by v section cells xs width place next in_section n field End c f is h = absurd (none-event (Import in_section n field) next h)
-import-by v section cells xs width place next in_section n field (Inline d l a k) c f is h =
+import-by v section cells xs width place next in_section n field End c f is reads h = absurd (none-event (Import in_section n field) next h)
+import-by v section cells xs width place next in_section n field (Inline d l a k) c f is reads h =
     absurd (text-not d l next next in_section n field (inline_place section a k) h)
-import-by v section cells xs width place next in_section n field (Named d l a) c f is h =
+import-by v section cells xs width place next in_section n field (Named d l a) c f is reads h =
     absurd (named-not d l next next in_section n field (named_place v section width a) h)
-import-by v section cells xs width place next in_section n field (Enter l a) c f is h =
+import-by v section cells xs width place next in_section n field (Enter l a) c f is reads h =
     absurd (clash l a in_section n field (event-same (StartFile l a) (Import in_section n field) next next h).0)
   where
     clash : (l a s n f : ℕ) → StartFile l a ≡ Import s n f → ⊥
     clash l a s n f e = cc
-import-by v section cells xs width place next in_section n field Leave c f is h =
+import-by v section cells xs width place next in_section n field Leave c f is reads h =
     absurd (clash in_section n field (event-same EndFile (Import in_section n field) next next h).0)
   where
     clash : (s n f : ℕ) → EndFile ≡ Import s n f → ⊥
     clash s n f e = cc
-import-by v section cells xs width place next in_section n field (Bring a) c f is h =
+import-by v section cells xs width place next in_section n field (Bring a) c f is reads h =
     let brings = (event-same (import_at v section width a) (Import in_section n field) next next h).0 in
     let own : a ≡ field = import-field (located v Macro) a in_section n field (field_at v section a (width_size width)) brings in
     let here : operation_at (section_bytes v section) width place ≡ read_as (Bring field) next = is ∙ ap (λ (k : ℕ). read_as (Bring k) next) own in
@@ -555,8 +550,9 @@ import-by v section cells xs width place next in_section n field (Bring a) c f i
       offset = bring-piece v section cells xs width place next field c f here;
       room = bring-room (section_bytes v section) width place next field here;
       says = subst (λ (k : ℕ). import_of (located v Macro) k (field_at v section k (width_size width)) ≡ imported in_section n field) own brings;
+      placed = subst (λ (k : ℕ). is_placed (field_at v section k (width_size width)) ≡ true) own (placed-field v section width a reads);
     }
-import-by v section cells xs width place next in_section n field Foreign c f is h = absurd (none-event (Import in_section n field) next h)
+import-by v section cells xs width place next in_section n field Foreign c f is reads h = absurd (none-event (Import in_section n field) next h)
 
 event-head : (x y : MacroEvent) (xs ys : List MacroEvent) → x ∷ xs ≡ y ∷ ys → x ≡ y
 event-head x y xs ys e = cc
@@ -569,18 +565,18 @@ none-events [] behind e h = cc
 none-events (x ∷ xs) behind e h = cc
 
 import-in : (v : View) (section : ℕ) (cells : List Cell) (xs : List (Piece MacroState)) (width : Width) (place end : ℕ) (es before behind : List MacroEvent) (in_section n field : ℕ) → CellsOf v section cells
-    → es ≡ before ++ imported in_section n field ∷ behind → PiecesFrom v section cells xs (macros_at place (at_operation width)) → SpellsEvents v section width place es end
-    → ImportIn v section cells xs width in_section n field
-import-in v section cells xs width place end es before behind in_section n field c split f (over p q is) =
+    → es ≡ before ++ imported in_section n field ∷ behind → PiecesFrom v section cells xs (macros_at place (at_operation width)) → ReadsFrom v section width place
+    → SpellsEvents v section width place es end → ImportIn v section cells xs width in_section n field
+import-in v section cells xs width place end es before behind in_section n field c split f reads (over p q is) =
     absurd (none-events before behind (Import in_section n field) split)
-import-in v section cells xs width place end es [] behind in_section n field c split f (one_event p next q e rest is s) =
+import-in v section cells xs width place end es [] behind in_section n field c split f reads (one_event p next q e rest is s) =
     let o : EventOf v section width p next e = event-of v section width p next e is in
-    import-by v section cells xs width p next in_section n field o.operation c f o.is
+    import-by v section cells xs width p next in_section n field o.operation c f o.is (reads-at v section width p next o.operation reads o.is)
     (o.says ∙ ap (λ (x : MacroEvent). event_read x next) (event-head e (Import in_section n field) rest behind split))
-import-in v section cells xs width place end es (b ∷ bs) behind in_section n field c split f (one_event p next q e rest is s) =
+import-in v section cells xs width place end es (b ∷ bs) behind in_section n field c split f reads (one_event p next q e rest is s) =
     let o : EventOf v section width p next e = event-of v section width p next e is in
     import-in v section cells xs width next q rest bs behind in_section n field c (event-tail e b rest (bs ++ imported in_section n field ∷ behind) split)
-    (pieces-more v section cells xs width p next o.operation c f o.is o.more) s
+    (pieces-more v section cells xs width p next o.operation c f o.is o.more) (reads-past v section width p next o.operation reads o.is o.more) s
 
 -- a section that was read, among all
 record SectionRead (v : View) (rs : List MacroReading) (s : SectionUnits) : Type 0 where
@@ -630,17 +626,20 @@ piece-of v rs s mode width field r o = record { before = r.front; behind = r.res
 -- no line table starts where a unit says
 line-row : (v : View) (us : Readings) (ls : List LineReading) (ms : List MacroReading) (starts : List ℕ) (s : SectionUnits) (width : Width) (field n : ℕ) → starts ≡ table_starts ls
     → (r : SectionRead v ms s) → OffsetIn r.place.contents r.reading.pieces (at_line width) width field → field + width_size width ≤ length (section_bytes v r.place.number)
-    → offset_at v (located v Line) r.place.number field width ≡ n → start_number 0 starts n ≡ None
+    → FieldReads v r.place.number width field → offset_at v (located v Line) r.place.number field width ≡ n → start_number 0 starts n ≡ None
     → MacroStrayFails (around_of (debug_data v) (starts_with us ls ms)) ms (at Stray r.place.number field)
 unfolding debug_data
-line-row v us ls ms starts s width field n is r o room number none =
+line-row v us ls ms starts s width field n is r o room reads number none =
     let p : HasMacroPiece ms r.reading o.piece = piece-of v ms s (at_line width) width field r o in
     let says : is_there (line_table (around_of (debug_data v) (starts_with us ls ms)) o.piece.cells) ≡ false =
     ap (λ (x : List Cell). is_there (start_number 0 (table_starts ls) (offset_of v.order (located_cells ((debug_data v).found Line)) x))) o.cells_are
     ∙ ap (λ (k : ℕ). is_there (start_number 0 (table_starts ls) k)) (line-there v r.place.number r.place.contents width field r.cells room ∙ number)
     ∙ ap (λ (l : List ℕ). is_there (start_number 0 l n)) (sym is) ∙ ap is_there none in
+    let placed : is_placed (field_of v.order o.piece.cells) ≡ true =
+    ap (λ (x : List Cell). is_placed (field_of v.order x)) o.cells_are ∙ ap is_placed (field-there v r.place.number r.place.contents width field r.cells room)
+    ∙ placed-field v r.place.number width field reads in
     let row : MacroStrayFails (around_of (debug_data v) (starts_with us ls ms)) ms (at Stray r.reading.number o.piece.state.place) =
-    no_line r.reading o.piece width p (ap (λ (z : MacroState). z.mode) o.state) says in
+    no_line r.reading o.piece width p (ap (λ (z : MacroState). z.mode) o.state) placed says in
     subst (λ (k : ℕ). MacroStrayFails (around_of (debug_data v) (starts_with us ls ms)) ms (at Stray r.place.number k)) (ap (λ (z : MacroState). z.place) o.state)
     (subst (λ (k : ℕ). MacroStrayFails (around_of (debug_data v) (starts_with us ls ms)) ms (at Stray k o.piece.state.place)) r.number row)
 
@@ -656,8 +655,11 @@ import-row v us ls places s width field in_section n units r i none =
     ∙ ap (λ (x : Field). is_there (unit_named (macro_places (debug_data v) (starts_with us ls units.readings)) x)) (field-there v r.place.number r.place.contents width field r.cells i.room)
     ∙ field-unit places (macro_places (debug_data v) (starts_with us ls units.readings)) (field_at v r.place.number field (width_size width)) units.start
     ∙ import-none places (located v Macro) field in_section n (field_at v r.place.number field (width_size width)) (first-number v places units) i.says none in
+    let placed : is_placed (field_of v.order i.offset.piece.cells) ≡ true =
+    ap (λ (x : List Cell). is_placed (field_of v.order x)) i.offset.cells_are ∙ ap is_placed (field-there v r.place.number r.place.contents width field r.cells i.room)
+    ∙ i.placed in
     let row : MacroStrayFails (around_of (debug_data v) (starts_with us ls units.readings)) units.readings (at Stray r.reading.number i.offset.piece.state.place) =
-    no_import r.reading i.offset.piece width p (ap (λ (z : MacroState). z.mode) i.offset.state) says in
+    no_import r.reading i.offset.piece width p (ap (λ (z : MacroState). z.mode) i.offset.state) placed says in
     subst (λ (k : ℕ). MacroStrayFails (around_of (debug_data v) (starts_with us ls units.readings)) units.readings (at Stray r.place.number k)) (ap (λ (z : MacroState). z.place) i.offset.state)
     (subst (λ (k : ℕ). MacroStrayFails (around_of (debug_data v) (starts_with us ls units.readings)) units.readings (at Stray k i.offset.piece.state.place)) r.number row)
 
@@ -676,7 +678,7 @@ line-fails v us starts places s u f reads tables units r a (line_stray n some no
     (header-pieces v r.place.number r.place.contents r.reading.pieces a.start a.is.header r.cells first a.is.header_is).line both.0 in
     let row : MacroStrayFails (around_of (debug_data v) (starts_with us tables.tables units.readings)) units.readings (at Stray r.place.number a.is.header.line_field) =
     line-row v us tables.tables units.readings starts s a.is.header.width a.is.header.line_field n tables.is r o
-    (line-room v.order (section_bytes v r.place.number) a.start a.is.header a.is.header_is both.0)
+    (line-room v.order (section_bytes v r.place.number) a.start a.is.header a.is.header_is both.0) (a.is.line_reads both.0)
     (some-same (offset_at v (located v Line) r.place.number a.is.header.line_field a.is.header.width) n both.1) none in
     macro_stray (starts_with us tables.tables units.readings) (record { units = reads; lines = tables.are; macros = units.are })
     (subst (λ (k : ℕ). MacroStrayFails (around_of (debug_data v) (starts_with us tables.tables units.readings)) units.readings (at Stray u.section k)) (sym field)
@@ -692,7 +694,8 @@ import-fails v us starts places s u f reads tables units r a (event before behin
     let i : ImportIn v r.place.number r.place.contents r.reading.pieces a.is.header.width in_section n field =
     import-in v r.place.number r.place.contents r.reading.pieces a.is.header.width a.is.header.first u.end (unit_events v u) before behind in_section n field r.cells
     (split ∙ ap (λ (x : MacroEvent). before ++ x ∷ behind) is)
-    (header-pieces v r.place.number r.place.contents r.reading.pieces a.start a.is.header r.cells first a.is.header_is).behind (own-events v r.place.number a.start u r.there a.is) in
+    (header-pieces v r.place.number r.place.contents r.reading.pieces a.start a.is.header r.cells first a.is.header_is).behind (unit-reads v r.place.number a.start u a.is)
+    (own-events v r.place.number a.start u r.there a.is) in
     macro_stray (starts_with us tables.tables units.readings) (record { units = reads; lines = tables.are; macros = units.are })
     (subst (λ (k : ℕ). MacroStrayFails (around_of (debug_data v) (starts_with us tables.tables units.readings)) units.readings (at Stray k field)) (sym own)
     (import-row v us tables.tables places s a.is.header.width field in_section n units r i none))

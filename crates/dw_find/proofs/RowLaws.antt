@@ -9,15 +9,16 @@ use Rattle.dw_base.specs.DebugData.{DebugData}
 use Rattle.dw_base.specs.EntryScans.{IsEntry, Scans}
 use Rattle.dw_base.specs.EntryScans.EntryFails.{values}
 use Rattle.dw_base.specs.EntryValues.{HasTable, HasValue, bytes_up_to}
-use Rattle.dw_base.specs.Forms.{TextSection, in_str, in_line_str}
 use Rattle.dw_base.specs.Lebs.{uleb_at}
 use Rattle.dw_base.specs.Refusals.{Blames}
-use Rattle.dw_base.specs.RelocationRows.{is_start}
+use Rattle.dw_base.specs.RelocationRows.{is_section_offset}
 use Rattle.dw_base.specs.UnitHeaders.{UnitSection}
 use Rattle.dw_base.specs.Values.{offset_class}
 use Rattle.dw_base.specs.declared.fault.Fault.{Fault}
 use Rattle.dw_base.specs.declared.fault.Fault.TheVariants.{NoMemory, Refused}
 use Rattle.dw_base.specs.declared.fault.Refusal.{Refusal}
+use Rattle.dw_base.specs.declared.texts.TextSection.{TextSection}
+use Rattle.dw_base.specs.declared.texts.TextSection.TheVariants.{InStr, InLineStr}
 use Rattle.dw_base.specs.declared.units.Scanned.{Scanned}
 use Rattle.dw_base.specs.declared.units.UnitHeader.{UnitHeader}
 use Rattle.dw_base.specs.declared.values.Spec.{Spec}
@@ -38,19 +39,19 @@ table-same d z class = refl
 
 -- a class that has one is that of an offset into it
 text-class : (d : DebugData) (z : UnitSection) (class : ValueClass) (y : Located) → table_by (tables_of d z) class ≡ Some y → (t : TextSection) × (class ≡ offset_class t)
-text-class d z StrOffset y e = (in_str, refl)
-text-class d z LineStrOffset y e = (in_line_str, refl)
+text-class d z StrOffset y e = (InStr, refl)
+text-class d z LineStrOffset y e = (InLineStr, refl)
 text-class d z class y e = absurd cc
 
 -- a value that can't be taken, in a unit of debug data
 value-row : (d : DebugData) (z : UnitSection) (h : UnitHeader) (table : List Abbreviation) (number : ℕ) (a : Abbreviation) (x : Spec) (place : ℕ) (v : Value) (r : Refusal)
     → HasTable d z h table → HasValue h table (bytes_up_to z h) number a x place v → ValueRefuses (tables_of d z) v r → UnitsRefuse d r
-value-row d z h table number a x place v r there has (offset y class (no_text none)) =
-    text_fails (text_row z h table number a x place v y there has (sym (table-same d z v.class) ∙ class) none)
+value-row d z h table number a x place v r there has (offset y class (no_text placed none)) =
+    text_fails (text_row z h table number a x place v y there has (sym (table-same d z v.class) ∙ class) placed none)
 value-row d z h table number a x place v r there has (offset y class (relocation f)) =
     let t : (t : TextSection) × (v.class ≡ offset_class t) = text-class d z v.class y class in
     relocation_fails (relocation_row z h table number a x place v (value_field v) there has
-    (text-field h.params x (bytes_up_to z h) place v t.0 (is_start number a.tag x.name) has.is t.1) refl f)
+    (text-field h.params x (bytes_up_to z h) place v t.0 (is_section_offset number a.tag x.name) has.is t.1) refl f)
 
 read-same : (a b : ℕ × ℕ) (o : Option (ℕ × ℕ)) → o ≡ Some a → o ≡ Some b → a ≡ b
 read-same a b o e f = cc

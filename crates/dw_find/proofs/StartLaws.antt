@@ -9,7 +9,7 @@ use Rattle.std.proofs.lemmas.Cmp.{ranked}
 use Rattle.std.proofs.lemmas.List.{drop_all, drop_more}
 use Rattle.std.proofs.lemmas.List.Sorted.{IsNonDecreasingBy-from_default}
 use Rattle.dw_base.specs.AbbreviationTables.{Abbreviation, abbreviation_of}
-use Rattle.dw_base.specs.Cells.{Cell, Located, cells_at, field_of, offset_of}
+use Rattle.dw_base.specs.Cells.{Cell, Located, cells_at, field_of, offset_of, is_placed}
 use Rattle.dw_base.specs.DebugData.{DebugData, DataReadings, ReadsAll, around_of, line_source, line_table, macro_unit, start_number, units_in, macro_places}
 use Rattle.dw_base.specs.EntryScans.{depth_behind}
 use Rattle.dw_base.specs.FileViews.{View, section_bytes, view_cells}
@@ -34,6 +34,7 @@ use Rattle.dw_base.specs.declared.shared.Order.{Order}
 use Rattle.dw_base.specs.declared.units.UnitHeader.{UnitHeader}
 use Rattle.dw_base.specs.declared.values.Spec.{Spec}
 use Rattle.dw_base.proofs.ViewCellLaws.{lines-located, piece-cells}
+use Rattle.dw_base.specs.declared.texts.TextField.{TextField}
 use Rattle.dw_entries.specs.Fronts.{IsOfView}
 use Rattle.dw_meaning.specs.DataFails.{StartsFail, stray}
 use Rattle.dw_meaning.specs.RelocationFails.{ValueRelocationFails}
@@ -47,9 +48,8 @@ use Rattle.dw_find.specs.LineStarts.{FieldStrays, HasStart, IsStartGap, Rises, S
 use Rattle.dw_find.specs.ViewFields.{HasPlaces, info_of}
 use Rattle.dw_find.specs.TextPlaces.{AllPlaced, SectionSays, macros_in, starts_in}
 use Rattle.dw_find.specs.NamedStarts.{AllStarts, FieldsSay, SectionStarts, says_start, says_unit}
-use Rattle.dw_find.specs.UnitPaths.{UnitPaths, paths_in, paths_of, macro_by, macro_fields, start_by, start_fields, stray_among, fields_into}
+use Rattle.dw_find.specs.SectionFields.{SectionFields, paths_in, paths_of, macro_by, macro_fields, start_by, start_fields, stray_among, fields_into}
 use Rattle.dw_find.specs.UnitTexts.{AllTaken}
-use Rattle.dw_find.specs.declared.fields.PathField.{PathField}
 use Rattle.dw_find.proofs.FoundLaws.{FoundReadings, found-readings, field-unit}
 use Rattle.dw_find.proofs.PlaceValueLaws.{EachOf, PlaceOf, RowField, each-get, starts-rows, units-rows}
 use Rattle.dw_find.proofs.PlacedLaws.{PlacedCells, placed-cells}
@@ -135,27 +135,28 @@ starts-rise d starts t =
     subst Rises (sym t.is) (record { rise = λ (i j : ℕ) (less : i < j) (lt : j < length (table_starts t.tables)). starts-between (line_source d) 0 (length (line_source d).bytes) i j t.tables t.are less lt })
 
 -- if the fields that are left say this, all do
-pub record FieldsPassed (says : List Cell → Bool) (cells : List Cell) (fields : List PathField) (i : ℕ) : Type 0 where
+pub record FieldsPassed (says : List Cell → Bool) (cells : List Cell) (fields : List TextField) (i : ℕ) : Type 0 where
   pub here : FieldsSay says cells (drop i fields) → FieldsSay says cells fields
 
-pub fields-none : (says : List Cell → Bool) (cells : List Cell) (fields : List PathField) → FieldsPassed says cells fields 0
+pub fields-none : (says : List Cell → Bool) (cells : List Cell) (fields : List TextField) → FieldsPassed says cells fields 0
 fields-none says cells fields = record { here = λ h. h }
 
-pub fields-more : (says : List Cell → Bool) (cells : List Cell) (fields : List PathField) (i : ℕ) (f : PathField) (b : Bool) → i < length fields → f ≡ get_or fields i f
+pub fields-more : (says : List Cell → Bool) (cells : List Cell) (fields : List TextField) (i : ℕ) (f : TextField) (b : Bool) → i < length fields → f ≡ get_or fields i f
     → b ≡ says (cells_at cells f.at f.size) → b ≡ true → FieldsPassed says cells fields i → FieldsPassed says cells fields (i + 1)
 fields-more says cells fields i f b lt is said yes_ passed =
-    let front : drop i fields ≡ f ∷ drop (i + 1) fields = drop_more fields i f lt ∙ ap (λ (g : PathField). g ∷ drop (i + 1) fields) (sym is) in
+    let front : drop i fields ≡ f ∷ drop (i + 1) fields = drop_more fields i f lt ∙ ap (λ (g : TextField). g ∷ drop (i + 1) fields) (sym is) in
     record { here = λ rest. passed.here (subst (FieldsSay says cells) (sym front) (sym said ∙ yes_, rest)) }
 
-pub fields-all : (says : List Cell → Bool) (cells : List Cell) (fields : List PathField) (i : ℕ) → length fields ≤ i → FieldsPassed says cells fields i → FieldsSay says cells fields
+pub fields-all : (says : List Cell → Bool) (cells : List Cell) (fields : List TextField) (i : ℕ) → length fields ≤ i → FieldsPassed says cells fields i → FieldsSay says cells fields
 fields-all says cells fields i end passed = passed.here (subst (FieldsSay says cells) (sym (drop_all i fields end)) tt)
 
-pub fields-refused : (order : Order) (section : ℕ) (cells : List Cell) (says : List Cell → Bool) (fields : List PathField) (i : ℕ) (f : PathField) (b : Bool) (r : Refusal) → i < length fields
-    → f ≡ get_or fields i f → b ≡ says (cells_at cells f.at f.size) → b ≡ false → r ≡ at Stray section f.at → FieldStrays order section cells says fields r
-fields-refused order section cells says fields i f b r lt is said none same =
-    subst (FieldStrays order section cells says fields) (sym same) (field i f lt is (sym said ∙ none))
+pub fields-refused : (order : Order) (section : ℕ) (cells : List Cell) (says : List Cell → Bool) (fields : List TextField) (i : ℕ) (f : TextField) (b : Bool) (r : Refusal) → i < length fields
+    → f ≡ get_or fields i f → is_placed (field_of order (cells_at cells f.at f.size)) ≡ true → b ≡ says (cells_at cells f.at f.size) → b ≡ false → r ≡ at Stray section f.at
+    → FieldStrays order section cells says fields r
+fields-refused order section cells says fields i f b r lt is placed said none same =
+    subst (FieldStrays order section cells says fields) (sym same) (field i f lt is placed (sym said ∙ none))
 
-pub fields-unread : (order : Order) (section : ℕ) (cells : List Cell) (says : List Cell → Bool) (fields : List PathField) (i : ℕ) (f : PathField) (r : Refusal) → i < length fields
+pub fields-unread : (order : Order) (section : ℕ) (cells : List Cell) (says : List Cell → Bool) (fields : List TextField) (i : ℕ) (f : TextField) (r : Refusal) → i < length fields
     → f ≡ get_or fields i f → OffsetFails order section cells (field_place f.at f.size offset_field) r → FieldStrays order section cells says fields r
 fields-unread order section cells says fields i f r lt is fails = no_offset i f lt is fails
 
@@ -170,10 +171,10 @@ says-nothing order z starts p n o read number none = sym (ap (λ (m : ℕ). is_t
 
 pub ruleset says_rules = (says-table, says-nothing)
 
-pub field-room : (info : List ℕ) (f : PathField) → IsStartField info f → f.at + f.size ≤ length info
+pub field-room : (info : List ℕ) (f : TextField) → IsStartField info f → f.at + f.size ≤ length info
 field-room info f is = is.inside
 
-pub field-few : (info : List ℕ) (f : PathField) → IsStartField info f → f.size ≤ 8
+pub field-few : (info : List ℕ) (f : TextField) → IsStartField info f → f.size ≤ 8
 field-few info f is = few is.sized
   where
     few : (f.size ≡ 4) ⊎ (f.size ≡ 8) → f.size ≤ 8
@@ -183,28 +184,28 @@ field-few info f is = few is.sized
 pub ruleset field_rules = (field-room, field-few)
 
 -- a section
-pub section-there : (v : View) (u : UnitPaths) → HasPlaces v u → u.number < length v.sections
+pub section-there : (v : View) (u : SectionFields) → HasPlaces v u → u.number < length v.sections
 section-there v u h = h.there
 
-pub section-fields : (v : View) (u : UnitPaths) (n : ℕ) (fields : List PathField) → HasPlaces v u → n ≡ u.number → fields ≡ fields_into u Line → AreStartFields (section_bytes v n) fields
+pub section-fields : (v : View) (u : SectionFields) (n : ℕ) (fields : List TextField) → HasPlaces v u → n ≡ u.number → fields ≡ fields_into u Line → AreStartFields (section_bytes v n) fields
 section-fields v u n fields h en ef = subst (λ (k : ℕ). AreStartFields (section_bytes v k) fields) (sym en) (subst (AreStartFields (info_of v u)) (sym ef) h.starts)
 
-pub unit-fields : (v : View) (u : UnitPaths) (n : ℕ) (fields : List PathField) → HasPlaces v u → n ≡ u.number → fields ≡ fields_into u Macro → AreStartFields (section_bytes v n) fields
+pub unit-fields : (v : View) (u : SectionFields) (n : ℕ) (fields : List TextField) → HasPlaces v u → n ≡ u.number → fields ≡ fields_into u Macro → AreStartFields (section_bytes v n) fields
 unit-fields v u n fields h en ef = subst (λ (k : ℕ). AreStartFields (section_bytes v k) fields) (sym en) (subst (AreStartFields (info_of v u)) (sym ef) h.macros)
 
-pub section-strays : (v : View) (n : ℕ) (starts : List ℕ) (places : UnitPlaces) (u : UnitPaths) (fields : List PathField) (r : Refusal) → n ≡ u.number → fields ≡ fields_into u Line
+pub section-strays : (v : View) (n : ℕ) (starts : List ℕ) (places : UnitPlaces) (u : SectionFields) (fields : List TextField) (r : Refusal) → n ≡ u.number → fields ≡ fields_into u Line
     → FieldStrays v.order n (view_cells v n) (says_start v.order (located v Line) starts) fields r → SectionStrays v starts places u r
 section-strays v n starts places u fields r en ef h =
     no_table (subst (λ (k : ℕ). FieldStrays v.order k (view_cells v k) (says_start v.order (located v Line) starts) (fields_into u Line) r) en
-    (subst (λ (fs : List PathField). FieldStrays v.order n (view_cells v n) (says_start v.order (located v Line) starts) fs r) ef h))
+    (subst (λ (fs : List TextField). FieldStrays v.order n (view_cells v n) (says_start v.order (located v Line) starts) fs r) ef h))
 
-pub unit-strays : (v : View) (n : ℕ) (starts : List ℕ) (places : UnitPlaces) (u : UnitPaths) (fields : List PathField) (r : Refusal) → n ≡ u.number → fields ≡ fields_into u Macro
+pub unit-strays : (v : View) (n : ℕ) (starts : List ℕ) (places : UnitPlaces) (u : SectionFields) (fields : List TextField) (r : Refusal) → n ≡ u.number → fields ≡ fields_into u Macro
     → FieldStrays v.order n (view_cells v n) (says_unit v.order places) fields r → SectionStrays v starts places u r
 unit-strays v n starts places u fields r en ef h =
     no_unit (subst (λ (k : ℕ). FieldStrays v.order k (view_cells v k) (says_unit v.order places) (fields_into u Macro) r) en
-    (subst (λ (fs : List PathField). FieldStrays v.order n (view_cells v n) (says_unit v.order places) fs r) ef h))
+    (subst (λ (fs : List TextField). FieldStrays v.order n (view_cells v n) (says_unit v.order places) fs r) ef h))
 
-pub section-stray : (v : View) (starts : List ℕ) (places : UnitPlaces) (u : UnitPaths) (n place : ℕ) (r : Refusal) → n ≡ u.number → u.stray ≡ Some place → r ≡ at Stray n place
+pub section-stray : (v : View) (starts : List ℕ) (places : UnitPlaces) (u : SectionFields) (n place : ℕ) (r : Refusal) → n ≡ u.number → u.stray ≡ Some place → r ≡ at Stray n place
     → SectionStrays v starts places u r
 section-stray v starts places u n place r en some same =
     subst (SectionStrays v starts places u) (sym (same ∙ ap (λ (k : ℕ). at Stray k place) en)) (other_form place some)
@@ -298,7 +299,7 @@ stray-found (x ∷ xs) place e = by_form (has_start_form x) refl e (stray-found 
         record { one = x; front = []; rest = xs; split = refl; form = is; there = some-once (value_begin x.state) place f }
 
 -- the piece of a field that says where a line table starts
-record StartPiece (xs : List (Piece UnitState)) (f : PathField) : Type 0 where
+record StartPiece (xs : List (Piece UnitState)) (f : TextField) : Type 0 where
   one : Piece UnitState
   front : List (Piece UnitState)
   rest : List (Piece UnitState)
@@ -319,7 +320,7 @@ start-pieces all front (x ∷ xs) split =
     by_role line_start e rest = (record { one = x; front = front; rest = xs; split = split; role = e; is = refl }, rest)
 
 -- the piece of a field that says where a macro unit starts
-record UnitPiece (xs : List (Piece UnitState)) (f : PathField) : Type 0 where
+record UnitPiece (xs : List (Piece UnitState)) (f : TextField) : Type 0 where
   one : Piece UnitState
   front : List (Piece UnitState)
   rest : List (Piece UnitState)
@@ -338,7 +339,7 @@ unit-pieces all front (x ∷ xs) split =
     by_value true e rest = (record { one = x; front = front; rest = xs; split = split; value = e; is = refl }, rest)
 
 -- the reading of a section that says this
-record ReadingOf (v : View) (rs : Readings) (u : UnitPaths) : Type 0 where
+record ReadingOf (v : View) (rs : Readings) (u : SectionFields) : Type 0 where
   before : Readings
   behind : Readings
   reading : Reading
@@ -346,17 +347,17 @@ record ReadingOf (v : View) (rs : Readings) (u : UnitPaths) : Type 0 where
   says : paths_in reading ≡ u
   facts : EachPiece (PieceFacts u.number (view_cells v u.number)) reading.pieces
 
-reading-here : (v : View) (before zs : List UnitSection) (z : UnitSection) (first : ℕ) (r : Reading) (u : UnitPaths) → (debug_data v).found Info ≡ before ++ z ∷ zs → r.number ≡ z.number
+reading-here : (v : View) (before zs : List UnitSection) (z : UnitSection) (first : ℕ) (r : Reading) (u : SectionFields) → (debug_data v).found Info ≡ before ++ z ∷ zs → r.number ≡ z.number
     → ReadsUnits (debug_data v).base z first r.pieces → u ≡ paths_in r → EachPiece (PieceFacts u.number (view_cells v u.number)) r.pieces
 reading-here v before zs z first r u split number reads is =
     let own : IsOfView v z.number z = own-section v before zs z split in
-    let same : z.number ≡ u.number = sym number ∙ sym (ap (λ (x : UnitPaths). x.number) is) in
+    let same : z.number ≡ u.number = sym number ∙ sym (ap (λ (x : SectionFields). x.number) is) in
     let here : EachPiece (PieceFacts z.number z.contents) r.pieces =
     piece-facts (debug_data v).base z.number z.contents (before_unit z.number z.kind (length z.contents) 0 first) 0 r.pieces refl reads.chain
     (placed-cells (debug_data v).base z.contents (before_unit z.number z.kind (length z.contents) 0 first) 0 r.pieces refl reads.chain reads.cells) in
     subst (λ (n : ℕ). EachPiece (PieceFacts n (view_cells v n)) r.pieces) same (subst (λ (cells : List Cell). EachPiece (PieceFacts z.number cells) r.pieces) own.contents here)
 
-reading-of : (v : View) (before zs : List UnitSection) (first : ℕ) (rs : Readings) (i : ℕ) (u : UnitPaths) → (debug_data v).found Info ≡ before ++ zs
+reading-of : (v : View) (before zs : List UnitSection) (first : ℕ) (rs : Readings) (i : ℕ) (u : SectionFields) → (debug_data v).found Info ≡ before ++ zs
     → ReadsAll (debug_data v).base first zs rs → i < length (paths_of rs) → u ≡ get_or (paths_of rs) i u → ReadingOf v rs u
 reading-of v before zs first [] i u split reads lt is = absurd (omega (arith, lt))
 reading-of v before [] first (r ∷ rs) i u split reads lt is = absurd reads
@@ -404,8 +405,13 @@ no-unit-there v q places x section start p none =
     ∙ ap (says_unit v.order places) (sym (piece-is section (view_cells v section) x p))
     ∙ none
 
+-- by the byte order of the debug data
+placed-there : (v : View) (q : DataReadings) (p : List Cell) → is_placed (field_of v.order p) ≡ true → is_placed (field_of (around_of (debug_data v) q).lasting.base.order p) ≡ true
+unfolding debug_data
+placed-there v q p placed = placed
+
 -- the field of a section of debug data is that of the view
-own-fails : (v : View) (before behind : List UnitSection) (z : UnitSection) (u : UnitPaths) (g : PathField) (r : Refusal) → (debug_data v).found Info ≡ before ++ z ∷ behind
+own-fails : (v : View) (before behind : List UnitSection) (z : UnitSection) (u : SectionFields) (g : TextField) (r : Refusal) → (debug_data v).found Info ≡ before ++ z ∷ behind
     → SectionSays (debug_data v) z u → OffsetFails v.order u.number (view_cells v u.number) (field_place g.at g.size offset_field) r
     → OffsetFails (debug_data v).base.order z.number z.contents (field_place g.at g.size offset_field) r
 unfolding debug_data
@@ -415,40 +421,48 @@ own-fails v before behind z u g r split says fails =
     (subst (λ (n : ℕ). OffsetFails v.order n (view_cells v n) (field_place g.at g.size offset_field) r) (says-number (debug_data v) z u says) fails)
 
 -- a value that says none is a row
-pub section-row : (v : View) (starts : List ℕ) (places : UnitPlaces) (us : List UnitPaths) (i : ℕ) (u : UnitPaths) (r : Refusal) → AllTaken (debug_data v) ((debug_data v).found Info) us
+pub section-row : (v : View) (starts : List ℕ) (places : UnitPlaces) (us : List SectionFields) (i : ℕ) (u : SectionFields) (r : Refusal) → AllTaken (debug_data v) ((debug_data v).found Info) us
     → TablesStart (debug_data v) starts → UnitsStart (debug_data v) places → i < length us → u ≡ get_or us i u → SectionStrays v starts places u r
     → StartsRefuse (debug_data v) r
 section-row v starts places us i u r taken t ms lt is row =
     let d : DebugData = debug_data v in
     let f : FoundReadings (debug_data v) 0 ((debug_data v).found Info) us = found-readings (debug_data v) 0 ((debug_data v).found Info) us (taken-placed (debug_data v) ((debug_data v).found Info) us taken) in
-    by_row f (reading-of v [] ((debug_data v).found Info) 0 f.readings i u refl f.reads (subst (λ (xs : List UnitPaths). i < length xs) (sym f.says) lt)
-    (is ∙ ap (λ (xs : List UnitPaths). get_or xs i u) (sym f.says))) r row
+    by_row f (reading-of v [] ((debug_data v).found Info) 0 f.readings i u refl f.reads (subst (λ (xs : List SectionFields). i < length xs) (sym f.says) lt)
+    (is ∙ ap (λ (xs : List SectionFields). get_or xs i u) (sym f.says))) r row
   where
     all : FoundReadings (debug_data v) 0 ((debug_data v).found Info) us → DataReadings
     all f = record { units = f.readings; offsets = []; lines = t.tables; macros = ms.readings; names = [] }
 
-    by_field : (f : FoundReadings (debug_data v) 0 ((debug_data v).found Info) us) (x : ReadingOf v f.readings u) (g : PathField) → StartPiece x.reading.pieces g
-        → says_start v.order (located v Line) starts (cells_at (view_cells v u.number) g.at g.size) ≡ false → StartsFail (debug_data v) (at Stray u.number g.at)
-    by_field f x g s none =
+    own-placed : (g : TextField) (y : Piece UnitState) → PieceFacts u.number (view_cells v u.number) y → g ≡ record { at = y.state.place; size = length y.cells }
+        → is_placed (field_of v.order (cells_at (view_cells v u.number) g.at g.size)) ≡ true → is_placed (field_of v.order y.cells) ≡ true
+    own-placed g y facts is placed =
+        ap (λ (cs : List Cell). is_placed (field_of v.order cs)) (sym (piece-is u.number (view_cells v u.number) y facts))
+        ∙ subst (λ (k : TextField). is_placed (field_of v.order (cells_at (view_cells v u.number) k.at k.size)) ≡ true) is placed
+
+    by_field : (f : FoundReadings (debug_data v) 0 ((debug_data v).found Info) us) (x : ReadingOf v f.readings u) (g : TextField) → StartPiece x.reading.pieces g
+        → is_placed (field_of v.order (cells_at (view_cells v u.number) g.at g.size)) ≡ true → says_start v.order (located v Line) starts (cells_at (view_cells v u.number) g.at g.size) ≡ false → StartsFail (debug_data v) (at Stray u.number g.at)
+    by_field f x g s placed none =
         let facts : PieceFacts u.number (view_cells v u.number) s.one =
         piece-among (PieceFacts u.number (view_cells v u.number)) s.front s.rest s.one (subst (EachPiece (PieceFacts u.number (view_cells v u.number))) s.split x.facts) in
         let absent : says_start v.order (located v Line) starts (cells_at (view_cells v u.number) s.one.state.place (length s.one.cells)) ≡ false =
-        subst (λ (y : PathField). says_start v.order (located v Line) starts (cells_at (view_cells v u.number) y.at y.size) ≡ false) s.is none in
-        refused-at (StartsFail (debug_data v)) s.one.state.section u.number s.one.state.place g.at facts.own (sym (ap (λ (y : PathField). y.at) s.is))
+        subst (λ (y : TextField). says_start v.order (located v Line) starts (cells_at (view_cells v u.number) y.at y.size) ≡ false) s.is none in
+        let is_placed_ : is_placed (field_of v.order s.one.cells) ≡ true = own-placed g s.one facts s.is placed in
+        refused-at (StartsFail (debug_data v)) s.one.state.section u.number s.one.state.place g.at facts.own (sym (ap (λ (y : TextField). y.at) s.is))
         (stray (all f) (record { units = f.reads; lines = t.are; macros = ms.are })
-        (table_row s.one (record { before = x.before; behind = x.behind; section = x.reading; sections = x.sections; front = s.front; rest = s.rest; pieces = s.split }) s.role
+        (table_row s.one (record { before = x.before; behind = x.behind; section = x.reading; sections = x.sections; front = s.front; rest = s.rest; pieces = s.split }) s.role (placed-there v (all f) s.one.cells is_placed_)
         (none-there v (all f) starts s.one u.number t.is facts absent)))
 
-    by_unit : (f : FoundReadings (debug_data v) 0 ((debug_data v).found Info) us) (x : ReadingOf v f.readings u) (g : PathField) → UnitPiece x.reading.pieces g
-        → says_unit v.order places (cells_at (view_cells v u.number) g.at g.size) ≡ false → StartsFail (debug_data v) (at Stray u.number g.at)
-    by_unit f x g s none =
+    by_unit : (f : FoundReadings (debug_data v) 0 ((debug_data v).found Info) us) (x : ReadingOf v f.readings u) (g : TextField) → UnitPiece x.reading.pieces g
+        → is_placed (field_of v.order (cells_at (view_cells v u.number) g.at g.size)) ≡ true → says_unit v.order places (cells_at (view_cells v u.number) g.at g.size) ≡ false → StartsFail (debug_data v) (at Stray u.number g.at)
+    by_unit f x g s placed none =
         let facts : PieceFacts u.number (view_cells v u.number) s.one =
         piece-among (PieceFacts u.number (view_cells v u.number)) s.front s.rest s.one (subst (EachPiece (PieceFacts u.number (view_cells v u.number))) s.split x.facts) in
         let absent : says_unit v.order places (cells_at (view_cells v u.number) s.one.state.place (length s.one.cells)) ≡ false =
-        subst (λ (y : PathField). says_unit v.order places (cells_at (view_cells v u.number) y.at y.size) ≡ false) s.is none in
-        refused-at (StartsFail (debug_data v)) s.one.state.section u.number s.one.state.place g.at facts.own (sym (ap (λ (y : PathField). y.at) s.is))
+        subst (λ (y : TextField). says_unit v.order places (cells_at (view_cells v u.number) y.at y.size) ≡ false) s.is none in
+        let is_placed_ : is_placed (field_of v.order s.one.cells) ≡ true = own-placed g s.one facts s.is placed in
+        refused-at (StartsFail (debug_data v)) s.one.state.section u.number s.one.state.place g.at facts.own (sym (ap (λ (y : TextField). y.at) s.is))
         (stray (all f) (record { units = f.reads; lines = t.are; macros = ms.are })
-        (unit_row s.one (record { before = x.before; behind = x.behind; section = x.reading; sections = x.sections; front = s.front; rest = s.rest; pieces = s.split }) s.value
+        (unit_row s.one (record { before = x.before; behind = x.behind; section = x.reading; sections = x.sections; front = s.front; rest = s.rest; pieces = s.split }) s.value (placed-there v (all f) s.one.cells is_placed_)
         (no-unit-there v (all f) places s.one u.number ms.start facts absent)))
 
     section : SectionFacts v u
@@ -457,39 +471,39 @@ section-row v starts places us i u r taken t ms lt is row =
     places_each : EachOf (PlaceOf (debug_data v) section.section) section.says.places
     places_each = facts-each v u section
 
-    unread : (g : PathField) (q : Refusal) → RowField (debug_data v) section.section g → OffsetFails v.order u.number (view_cells v u.number) (field_place g.at g.size offset_field) q
+    unread : (g : TextField) (q : Refusal) → RowField (debug_data v) section.section g → OffsetFails v.order u.number (view_cells v u.number) (field_place g.at g.size offset_field) q
         → ValueRelocationFails (debug_data v) q
     unread g q row fails = row.row q (own-fails v section.before section.behind section.section u g q section.split section.says fails)
 
     by_row : (f : FoundReadings (debug_data v) 0 ((debug_data v).found Info) us) (x : ReadingOf v f.readings u) (q : Refusal) → SectionStrays v starts places u q → StartsRefuse (debug_data v) q
     by_row f x q (other_form place some) =
-        let s : StrayPiece x.reading.pieces place = stray-found x.reading.pieces place (ap (λ (y : UnitPaths). y.stray) x.says ∙ some) in
+        let s : StrayPiece x.reading.pieces place = stray-found x.reading.pieces place (ap (λ (y : SectionFields). y.stray) x.says ∙ some) in
         let facts : PieceFacts u.number (view_cells v u.number) s.one =
         piece-among (PieceFacts u.number (view_cells v u.number)) s.front s.rest s.one (subst (EachPiece (PieceFacts u.number (view_cells v u.number))) s.split x.facts) in
         says_none (refused-at (StartsFail (debug_data v)) s.one.state.section u.number (value_begin s.one.state) place facts.own s.there
         (stray (all f) (record { units = f.reads; lines = t.are; macros = ms.are })
         (form_row s.one (record { before = x.before; behind = x.behind; section = x.reading; sections = x.sections; front = s.front; rest = s.rest; pieces = s.split }) s.form)))
-    by_row f x q (no_table (field k g lt_k is_k none)) =
-        let same : start_fields x.reading.pieces ≡ fields_into u Line = ap (λ (y : UnitPaths). fields_into y Line) x.says in
+    by_row f x q (no_table (field k g lt_k is_k placed none)) =
+        let same : start_fields x.reading.pieces ≡ fields_into u Line = ap (λ (y : SectionFields). fields_into y Line) x.says in
         let piece : StartPiece x.reading.pieces g =
         subst (StartPiece x.reading.pieces) (sym is_k)
         (each-get (StartPiece x.reading.pieces) (fields_into u Line) k g lt_k (subst (EachOf (StartPiece x.reading.pieces)) same (start-pieces x.reading.pieces [] x.reading.pieces refl))) in
-        says_none (by_field f x g piece none)
+        says_none (by_field f x g piece placed none)
     by_row f x q (no_table (no_offset k g lt_k is_k fails)) =
-        let same : fields_into u Line ≡ starts_in section.says.places = ap (λ (y : UnitPaths). fields_into y Line) section.says.says in
+        let same : fields_into u Line ≡ starts_in section.says.places = ap (λ (y : SectionFields). fields_into y Line) section.says.says in
         let row : RowField (debug_data v) section.section g =
         subst (RowField (debug_data v) section.section) (sym is_k)
         (each-get (RowField (debug_data v) section.section) (fields_into u Line) k g lt_k (subst (EachOf (RowField (debug_data v) section.section)) (sym same)
         (starts-rows (debug_data v) section.section section.says.places places_each))) in
         reads_none (unread g q row fails)
-    by_row f x q (no_unit (field k g lt_k is_k none)) =
-        let same : macro_fields x.reading.pieces ≡ fields_into u Macro = ap (λ (y : UnitPaths). fields_into y Macro) x.says in
+    by_row f x q (no_unit (field k g lt_k is_k placed none)) =
+        let same : macro_fields x.reading.pieces ≡ fields_into u Macro = ap (λ (y : SectionFields). fields_into y Macro) x.says in
         let piece : UnitPiece x.reading.pieces g =
         subst (UnitPiece x.reading.pieces) (sym is_k)
         (each-get (UnitPiece x.reading.pieces) (fields_into u Macro) k g lt_k (subst (EachOf (UnitPiece x.reading.pieces)) same (unit-pieces x.reading.pieces [] x.reading.pieces refl))) in
-        says_none (by_unit f x g piece none)
+        says_none (by_unit f x g piece placed none)
     by_row f x q (no_unit (no_offset k g lt_k is_k fails)) =
-        let same : fields_into u Macro ≡ macros_in section.says.places = ap (λ (y : UnitPaths). fields_into y Macro) section.says.says in
+        let same : fields_into u Macro ≡ macros_in section.says.places = ap (λ (y : SectionFields). fields_into y Macro) section.says.says in
         let row : RowField (debug_data v) section.section g =
         subst (RowField (debug_data v) section.section) (sym is_k)
         (each-get (RowField (debug_data v) section.section) (fields_into u Macro) k g lt_k (subst (EachOf (RowField (debug_data v) section.section)) (sym same)
@@ -497,10 +511,10 @@ section-row v starts places us i u r taken t ms lt is row =
         reads_none (unread g q row fails)
 
 -- the same of sections: what was tested holds of all
-abbrev pub StartsIn : View → List ℕ → UnitPlaces → UnitPaths → Type 0
+abbrev pub StartsIn : View → List ℕ → UnitPlaces → SectionFields → Type 0
 StartsIn v starts places u = SectionStarts v starts places u
 
-all-starts : (v : View) (starts : List ℕ) (places : UnitPlaces) (before zs : List UnitSection) (us : List UnitPaths) → (debug_data v).found Info ≡ before ++ zs → AllPlaced (debug_data v) zs us
+all-starts : (v : View) (starts : List ℕ) (places : UnitPlaces) (before zs : List UnitSection) (us : List SectionFields) → (debug_data v).found Info ≡ before ++ zs → AllPlaced (debug_data v) zs us
     → EachOf (StartsIn v starts places) us → AllStarts (debug_data v) starts places zs us
 unfolding debug_data
 all-starts v starts places before [] us split all each = tt
@@ -518,28 +532,28 @@ all-starts v starts places before (z ∷ zs) (u ∷ us) split all each =
       all-starts v starts places (before ++ z ∷ []) zs us (split ∙ sym (append_assoc before (z ∷ []) zs)) all.1 each.1,
     )
 
-sections-front : (us : List UnitPaths) (u : UnitPaths) (i : ℕ) → i < length us → u ≡ get_or us i u → drop i us ≡ u ∷ drop (i + 1) us
+sections-front : (us : List SectionFields) (u : SectionFields) (i : ℕ) → i < length us → u ≡ get_or us i u → drop i us ≡ u ∷ drop (i + 1) us
 sections-front us u i lt is =
     let next : suc i ≡ i + 1 = omega arith in
-    drop-cons us i u lt ∙ ap (λ (n : ℕ). get_or us i u ∷ drop n us) next ∙ ap (λ (y : UnitPaths). y ∷ drop (i + 1) us) (sym is)
+    drop-cons us i u lt ∙ ap (λ (n : ℕ). get_or us i u ∷ drop n us) next ∙ ap (λ (y : SectionFields). y ∷ drop (i + 1) us) (sym is)
 
-pub record AllPassed (v : View) (starts : List ℕ) (places : UnitPlaces) (us : List UnitPaths) (i : ℕ) : Type 0 where
+pub record AllPassed (v : View) (starts : List ℕ) (places : UnitPlaces) (us : List SectionFields) (i : ℕ) : Type 0 where
   pub here : EachOf (StartsIn v starts places) (drop i us) → EachOf (StartsIn v starts places) us
 
-pub all-none : (v : View) (starts : List ℕ) (places : UnitPlaces) (us : List UnitPaths) → AllPassed v starts places us 0
+pub all-none : (v : View) (starts : List ℕ) (places : UnitPlaces) (us : List SectionFields) → AllPassed v starts places us 0
 all-none v starts places us = record { here = λ h. h }
 
-pub all-more : (v : View) (starts : List ℕ) (places : UnitPlaces) (us : List UnitPaths) (i : ℕ) (u : UnitPaths) → i < length us → u ≡ get_or us i u → AllPassed v starts places us i
+pub all-more : (v : View) (starts : List ℕ) (places : UnitPlaces) (us : List SectionFields) (i : ℕ) (u : SectionFields) → i < length us → u ≡ get_or us i u → AllPassed v starts places us i
     → SectionStarts v starts places u → AllPassed v starts places us (i + 1)
 all-more v starts places us i u lt is passed here = record { here = λ h. passed.here (subst (EachOf (StartsIn v starts places)) (sym (sections-front us u i lt is)) (here, h)) }
 
-pub all-end : (v : View) (starts : List ℕ) (places : UnitPlaces) (us : List UnitPaths) (i : ℕ) → AllTaken (debug_data v) ((debug_data v).found Info) us → length us ≤ i → AllPassed v starts places us i
+pub all-end : (v : View) (starts : List ℕ) (places : UnitPlaces) (us : List SectionFields) (i : ℕ) → AllTaken (debug_data v) ((debug_data v).found Info) us → length us ≤ i → AllPassed v starts places us i
     → AllStarts (debug_data v) starts places ((debug_data v).found Info) us
 all-end v starts places us i taken end passed =
     all-starts v starts places [] ((debug_data v).found Info) us refl (taken-placed (debug_data v) ((debug_data v).found Info) us taken)
     (passed.here (subst (EachOf (StartsIn v starts places)) (sym (drop_all i us end)) tt))
 
-pub taken-paths : (v : View) (us : List UnitPaths) (i : ℕ) (u : UnitPaths) → AllTaken (debug_data v) ((debug_data v).found Info) us → i < length us → u ≡ get_or us i u → HasPlaces v u
+pub taken-paths : (v : View) (us : List SectionFields) (i : ℕ) (u : SectionFields) → AllTaken (debug_data v) ((debug_data v).found Info) us → i < length us → u ≡ get_or us i u → HasPlaces v u
 taken-paths v us i u taken lt is = places-at v us i u (taken-placed (debug_data v) ((debug_data v).found Info) us taken) lt is
 
 pub ruleset all_rules = (all-none)

@@ -1,13 +1,14 @@
 -- What a pass over the values of an entry finds: the texts that they name, and the paths among them; and what it refuses (DWARF 5, 7.5.5, class
 -- string; gABI ch. 4 "Relocation").
 use Rattle.std.specs.Prelude.{true, false, ◌≡◌, ◌⊎◌, ℕ, ◌+◌, ◌≤◌, List, [], ◌∷◌, ◌++◌, IsTrue, ⊤, Option, Some, None}
-use Rattle.dw_base.specs.Cells.{Cell, Located, cells_at, offset_of}
+use Rattle.dw_base.specs.Cells.{Cell, Located, cells_at, offset_of, field_of, is_placed}
 use Rattle.dw_base.specs.EntryScans.{SpellsValues, ValuesFail}
 use Rattle.dw_base.specs.FormFails.{FormFails}
 use Rattle.dw_base.specs.Forms.{width_size}
 use Rattle.dw_base.specs.Numbers.{number_at}
 use Rattle.dw_base.specs.Refusals.{at}
 use Rattle.dw_base.specs.RelocationRows.{FieldPlace, OffsetFails, field_place, offset_field}
+use Rattle.dw_base.specs.TableStarts.{is_start_form}
 use Rattle.dw_base.specs.Texts.{ends_in}
 use Rattle.dw_base.specs.Values.{number_value, value_at}
 use Rattle.dw_base.specs.declared.debug_sections.DebugSection.{DebugSection}
@@ -15,15 +16,15 @@ use Rattle.dw_base.specs.declared.fault.Kind.TheVariants.{StringOffset}
 use Rattle.dw_base.specs.declared.fault.Refusal.{Refusal}
 use Rattle.dw_base.specs.declared.shared.Order.{Order}
 use Rattle.dw_base.specs.declared.shared.Params.{Params}
+use Rattle.dw_base.specs.declared.texts.TextField.{TextField}
 use Rattle.dw_base.specs.declared.values.Spec.{Spec}
 use Rattle.dw_base.specs.declared.values.Value.{Value}
 use Rattle.dw_base.specs.declared.values.ValueClass.{ValueClass}
 use Rattle.dw_base.specs.declared.values.ValueClass.TheVariants.{StrOffset, LineStrOffset}
-use Rattle.dw_find.specs.TextPlaces.{TextPlace, base_in, indexes_in, inline_in, is_start_form, places_into, stray_in, value_places}
-use Rattle.dw_find.specs.UnitPaths.{UnitPaths, each_behind, lists_by, with_field, with_inline, with_stray_at}
+use Rattle.dw_find.specs.TextPlaces.{TextPlace, base_in, indexes_in, inline_in, places_into, stray_in, value_places}
+use Rattle.dw_find.specs.SectionFields.{SectionFields, each_behind, lists_by, with_field, with_inline, with_stray_at}
 use Rattle.dw_find.specs.declared.fields.TextBase.{TextBase}
 use Rattle.dw_find.specs.declared.fields.InlinePath.{InlinePath}
-use Rattle.dw_find.specs.declared.fields.PathField.{PathField}
 use Rattle.dw_find.specs.declared.fields.TextIndex.{TextIndex}
 
 -- the tables of texts
@@ -47,17 +48,17 @@ abbrev pub offset_in : Tables → Located → Value → ℕ
 offset_in t z v = offset_of t.order z (cells_at t.cells v.at v.len)
 
 -- what a pass over a unit section found: what it says of paths, and of the unit where the pass is its base and its values by index
-pub record Found : Type 0 where
-  pub paths : UnitPaths
+pub record FoundTexts : Type 0 where
+  pub paths : SectionFields
   pub base : Option TextBase
   pub indexes : List TextIndex
 
 -- nothing was found in a section
-abbrev pub no_paths : ℕ → UnitPaths
+abbrev pub no_paths : ℕ → SectionFields
 no_paths number = record { number = number; fields = lists_by (λ s. []); inline = []; stray = None }
 
 -- what was found before a unit: the paths of those before it
-abbrev pub none_found : UnitPaths → Found
+abbrev pub none_found : SectionFields → FoundTexts
 none_found u = record { paths = u; base = None; indexes = [] }
 
 -- the first value that can't say where a line table or a macro unit starts, or else one of these places
@@ -66,7 +67,7 @@ with_stray None ts = stray_in ts
 with_stray (Some n) ts = Some n
 
 -- paths, with more places behind
-unfoldable pub with_paths : UnitPaths → List TextPlace → UnitPaths
+unfoldable pub with_paths : SectionFields → List TextPlace → SectionFields
 with_paths u ts = record {
   number = u.number;
   fields = each_behind u.fields (lists_by (places_into ts));
@@ -76,16 +77,16 @@ with_paths u ts = record {
 
 -- what was found, with one more field that holds an offset into a section, path that stands in its value, or value by index; and with the first place of a
 -- value that can't say a start
-abbrev pub noted : Found → DebugSection → PathField → Found
+abbrev pub noted : FoundTexts → DebugSection → TextField → FoundTexts
 noted f into field = record { paths = with_field f.paths into field; base = f.base; indexes = f.indexes }
 
-abbrev pub inline_noted : Found → InlinePath → Found
+abbrev pub inline_noted : FoundTexts → InlinePath → FoundTexts
 inline_noted f p = record { paths = with_inline f.paths p; base = f.base; indexes = f.indexes }
 
-abbrev pub index_noted : Found → TextIndex → Found
+abbrev pub index_noted : FoundTexts → TextIndex → FoundTexts
 index_noted f i = record { paths = f.paths; base = f.base; indexes = f.indexes ++ i ∷ [] }
 
-abbrev pub stray_noted : Found → ℕ → Found
+abbrev pub stray_noted : FoundTexts → ℕ → FoundTexts
 stray_noted f place = record { paths = with_stray_at f.paths place; base = f.base; indexes = f.indexes }
 
 -- with the base, where there is none yet
@@ -93,7 +94,7 @@ abbrev pub base_kept : Option TextBase → TextBase → Option TextBase
 base_kept None b = Some b
 base_kept (Some x) b = Some x
 
-abbrev pub base_noted : Found → TextBase → Found
+abbrev pub base_noted : FoundTexts → TextBase → FoundTexts
 base_noted f b = record { paths = f.paths; base = base_kept f.base b; indexes = f.indexes }
 
 -- a base, or else one that these places say
@@ -102,7 +103,7 @@ with_base None ts = base_in ts
 with_base (Some b) ts = Some b
 
 -- what was found, with more places behind
-unfoldable pub with_places : Found → List TextPlace → Found
+unfoldable pub with_places : FoundTexts → List TextPlace → FoundTexts
 with_places f ts = record {
   paths = with_paths f.paths ts;
   base = with_base f.base ts;
@@ -158,7 +159,8 @@ table_by t class = None
 -- field
 pub data OffsetRefuses (t : Tables) (z : Located) (v : Value) : Refusal → Type 0 where
   relocation : {r : Refusal} → OffsetFails t.order t.number t.cells (value_field v) r → OffsetRefuses t z v r
-  no_text : ends_in z.bytes (offset_in t z v) ≡ false → OffsetRefuses t z v (at StringOffset t.number v.at)
+  no_text : is_placed (field_of t.order (cells_at t.cells v.at v.len)) ≡ true → ends_in z.bytes (offset_in t z v) ≡ false
+      → OffsetRefuses t z v (at StringOffset t.number v.at)
 
 -- so can't a value be taken that is such an offset
 pub data ValueRefuses (t : Tables) (v : Value) : Refusal → Type 0 where
@@ -177,7 +179,7 @@ pub data ValuesRefuse (t : Tables) (params : Params) (bytes : List ℕ) (section
       → ValuesRefuse t params bytes section start specs r
 
 -- a value of an attribute of entry `number` was read at a place, and what it says of paths stands behind what was found
-pub record ValueTaken (t : Tables) (params : Params) (bytes : List ℕ) (number tag : ℕ) (x : Spec) (place size : ℕ) (old new : Found) : Type 0 where
+pub record ValueTaken (t : Tables) (params : Params) (bytes : List ℕ) (number tag : ℕ) (x : Spec) (place size : ℕ) (old new : FoundTexts) : Type 0 where
   pub value : Value
   pub is : value_at params x bytes place ≡ Some value
   pub size_is : size ≡ value.size

@@ -1,7 +1,7 @@
 -- Where line tables and macro units start, by their numbers: which value says one of these starts, where they start anew, and why a value
 -- says none (DWARF 5, 3.1.1).
-use Rattle.std.specs.Prelude.{Bool, false, ◌≡◌, ℕ, ◌≤◌, ◌<◌, List, length, get_or, Some}
-use Rattle.dw_base.specs.Cells.{Cell, cells_at}
+use Rattle.std.specs.Prelude.{true, Bool, false, ◌≡◌, ℕ, ◌≤◌, ◌<◌, List, length, get_or, Some}
+use Rattle.dw_base.specs.Cells.{Cell, cells_at, field_of, is_placed}
 use Rattle.dw_base.specs.DebugData.{DebugData}
 use Rattle.dw_base.specs.FileViews.{View, view_cells}
 use Rattle.dw_base.specs.Refusals.{at}
@@ -11,12 +11,12 @@ use Rattle.dw_base.specs.declared.debug_sections.DebugSection.TheVariants.{Line,
 use Rattle.dw_base.specs.declared.fault.Kind.TheVariants.{Stray}
 use Rattle.dw_base.specs.declared.fault.Refusal.{Refusal}
 use Rattle.dw_base.specs.declared.shared.Order.{Order}
+use Rattle.dw_base.specs.declared.texts.TextField.{TextField}
 use Rattle.dw_meaning.specs.DataFails.{StartsFail}
 use Rattle.dw_meaning.specs.RelocationFails.{ValueRelocationFails}
 use Rattle.dw_find.specs.NamedStarts.{says_start, says_unit}
-use Rattle.dw_find.specs.UnitPaths.{UnitPaths, fields_into}
+use Rattle.dw_find.specs.SectionFields.{SectionFields, fields_into}
 use Rattle.dw_find.specs.UnitPlaces.{UnitPlaces}
-use Rattle.dw_find.specs.declared.fields.PathField.{PathField}
 
 -- starts rise
 pub record Rises (starts : List ℕ) : Type 0 where
@@ -34,14 +34,15 @@ pub record IsStartGap (starts : List ℕ) (start i : ℕ) : Type 0 where
   pub behind : (k : ℕ) → i ≤ k → k < length starts → start < get_or starts k 0
 
 -- a field of a section doesn't say this; or a relocation lies on it only in part, or gives it no place
-pub data FieldStrays (order : Order) (section : ℕ) (cells : List Cell) (says : List Cell → Bool) (fields : List PathField) : Refusal → Type 0 where
-  field : (k : ℕ) (f : PathField) → k < length fields → f ≡ get_or fields k f → says (cells_at cells f.at f.size) ≡ false
+pub data FieldStrays (order : Order) (section : ℕ) (cells : List Cell) (says : List Cell → Bool) (fields : List TextField) : Refusal → Type 0 where
+  field : (k : ℕ) (f : TextField) → k < length fields → f ≡ get_or fields k f → is_placed (field_of order (cells_at cells f.at f.size)) ≡ true
+      → says (cells_at cells f.at f.size) ≡ false
       → FieldStrays order section cells says fields (at Stray section f.at)
-  no_offset : (k : ℕ) (f : PathField) {r : Refusal} → k < length fields → f ≡ get_or fields k f
+  no_offset : (k : ℕ) (f : TextField) {r : Refusal} → k < length fields → f ≡ get_or fields k f
       → OffsetFails order section cells (field_place f.at f.size offset_field) r → FieldStrays order section cells says fields r
 
 -- so does a value of a section of a view that is to say where a line table or a macro unit starts, or its form can't
-pub data SectionStrays (v : View) (starts : List ℕ) (places : UnitPlaces) (u : UnitPaths) : Refusal → Type 0 where
+pub data SectionStrays (v : View) (starts : List ℕ) (places : UnitPlaces) (u : SectionFields) : Refusal → Type 0 where
   other_form : (place : ℕ) → u.stray ≡ Some place → SectionStrays v starts places u (at Stray u.number place)
   no_table : {r : Refusal} → FieldStrays v.order u.number (view_cells v u.number) (says_start v.order (located v Line) starts) (fields_into u Line) r
       → SectionStrays v starts places u r

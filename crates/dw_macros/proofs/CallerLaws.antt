@@ -12,15 +12,19 @@ use Rattle.dw_base.specs.declared.shared.Width.{Width}
 use Rattle.dw_macros.proofs.EventLaws.{operation-there, reads-front}
 use Rattle.dw_macros.proofs.UnitLaws.{read-unit as unit-read}
 
+-- the operations of a unit that was read
+pub unit-reads : (v : View) (section start : ℕ) (u : MacroUnit) → (is : IsReadUnit v section start u) → ReadsFrom v section is.header.width is.header.first
+unit-reads v section start u is =
+    reads-front v section start is.header.width is.header.first is.last is.operations
+    (over_there is.last is.end (operation-there v section start is.last is.end is.header.width End is.ends))
+
 -- a unit that was read
 pub read-unit : (v : View) (section start : ℕ) (u : MacroUnit) → section < length v.sections → IsReadUnit v section start u → IsUnitIn v u
 read-unit v section start u there is =
     let own : section ≡ u.section = sym (ap (λ (x : MacroUnit). x.section) is.is) in
     let width : is.header.width ≡ u.width = sym (ap (λ (x : MacroUnit). x.width) is.is) in
     let first : is.header.first ≡ u.first = sym (ap (λ (x : MacroUnit). x.first) is.is) in
-    let reads : ReadsFrom v section is.header.width is.header.first =
-    reads-front v section start is.header.width is.header.first is.last is.operations
-    (over_there is.last is.end (operation-there v section start is.last is.end is.header.width End is.ends)) in
+    let reads : ReadsFrom v section is.header.width is.header.first = unit-reads v section start u is in
     record {
       start = start;
       there = subst (λ (n : ℕ). n < length v.sections) own there;

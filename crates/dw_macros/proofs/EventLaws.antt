@@ -11,14 +11,14 @@ use Rattle.dw_base.specs.Refusals.{at}
 use Rattle.dw_base.specs.Texts.{ends_in, has_nul, text_in}
 use Rattle.dw_base.specs.ViewData.{located, located_at}
 use Rattle.dw_base.specs.declared.debug_sections.DebugSection.TheVariants.{Macro as MacroSection, Str}
-use Rattle.dw_base.specs.declared.fault.Kind.TheVariants.{Macro, StringOffset, Supplementary}
+use Rattle.dw_base.specs.declared.fault.Kind.TheVariants.{Macro, Supplementary}
 use Rattle.dw_base.specs.declared.fault.Refusal.{Refusal}
 use Rattle.dw_base.specs.declared.shared.Width.{Width}
 use Rattle.dw_base.specs.declared.view_fields.Field.{Field}
 use Rattle.dw_base.specs.declared.view_fields.Field.TheVariants.{Num, Into, Sym}
 use Rattle.dw_macros.specs.MacroEvents.{EventsFit, IsUnitIn, SpellsEvents, over, one_event, event_by, event_if, event_in, events_behind, events_from, events_start, import_at, import_of, inline_place, named_place, text_event, text_if, unit_events, with_those}
 use Rattle.dw_base.specs.MacroOffsets.{FieldReads, FieldRefuses, OperationReads, ReadUpTo, none_read, more_read, ReadsFrom, over_there, one_there}
-use Rattle.dw_base.specs.MacroUnits.{OperationsUpTo, no_operations, more_operations, is_end, names_text, offset_at, taken, taken_if, unit_operation}
+use Rattle.dw_base.specs.MacroUnits.{OperationsUpTo, no_operations, more_operations, is_end, names_text, offset_at, taken, taken_if, unit_operation, nameless}
 use Rattle.dw_macros.proofs.OperationLaws.{operation-behind}
 use Rattle.dw_base.specs.MacroOperations.{operation_at, operation_of}
 use Rattle.dw_base.specs.declared.macro_units.MacroEvent.{MacroEvent}
@@ -311,10 +311,10 @@ has-event v section place n next width (Inline d l a k) o e more = record {
 has-event v section place n next width (Named d l f) o e more = by_test (names_text v section width f) refl e
   where
     by_test : (b : Bool) → names_text v section width f ≡ b
-        → ◌≡◌ {A = Result (MacroOperation × ℕ) Refusal} (if b then Ok (Named d l f, n) else Err (at StringOffset section f)) (Ok (o, next)) → HasEvent v section width (Named d l f) n next
+        → ◌≡◌ {A = Result (MacroOperation × ℕ) Refusal} (if b then Ok (Named d l f, n) else Err (at (nameless (field_at v section f (width_size width))) section f)) (Ok (o, next)) → HasEvent v section width (Named d l f) n next
     by_test true t g =
         subst (λ (m : ℕ). HasEvent v section width (Named d l f) n m) (place-same (Named d l f) o n next g) (text-there v section f width d l n t)
-    by_test false t g = absurd (err-ok (at StringOffset section f) (o, next) g)
+    by_test false t g = absurd (err-ok (at (nameless (field_at v section f (width_size width))) section f) (o, next) g)
 has-event v section place n next width (Enter l f) o e more = record {
   event = StartFile l f;
   is = ap (λ (m : ℕ). Some (StartFile l f, m)) (place-same (Enter l f) o n next e);
@@ -362,10 +362,10 @@ taken-same v section place width x n next o e = by_kind x e
     same : (y : MacroOperation) → ◌≡◌ {A = Result (MacroOperation × ℕ) Refusal} (Ok (y, n)) (Ok (o, next)) → ◌≡◌ {A = Option (MacroOperation × ℕ)} (Some (y, n)) (Some (o, next))
     same y f = ap (λ (p : MacroOperation). Some (p, n)) (kind-same y o n next f) ∙ ap (λ (k : ℕ). Some (o, k)) (place-same y o n next f)
 
-    by_test : (d : Bool) (l g : ℕ) (b : Bool) → ◌≡◌ {A = Result (MacroOperation × ℕ) Refusal} (if b then Ok (Named d l g, n) else Err (at StringOffset section g)) (Ok (o, next))
+    by_test : (d : Bool) (l g : ℕ) (b : Bool) → ◌≡◌ {A = Result (MacroOperation × ℕ) Refusal} (if b then Ok (Named d l g, n) else Err (at (nameless (field_at v section g (width_size width))) section g)) (Ok (o, next))
         → ◌≡◌ {A = Option (MacroOperation × ℕ)} (Some (Named d l g, n)) (Some (o, next))
     by_test d l g true f = same (Named d l g) f
-    by_test d l g false f = absurd (err-ok (at StringOffset section g) (o, next) f)
+    by_test d l g false f = absurd (err-ok (at (nameless (field_at v section g (width_size width))) section g) (o, next) f)
 
     by_kind : (y : MacroOperation) → taken v section width place y n ≡ Ok (o, next) → ◌≡◌ {A = Option (MacroOperation × ℕ)} (Some (y, n)) (Some (o, next))
     by_kind End f = same End f

@@ -1,13 +1,12 @@
 -- Macro units whose offsets can be read exclude what refuses them.
-use Rattle.std.proofs.Common.{Bool, true, false, ◌≡◌, ℕ, ◌+◌, ◌≤◌, nat_le, if◌then◌else◌, List, [], ◌∷◌, ◌++◌, length, Option, Some, None, refl, sym, ap, ◌∙◌, subst, arith}
-use Rattle.std.specs.Prelude.{Result, Ok, Err, slice_index}
+use Rattle.std.proofs.Common.{true, false, ◌≡◌, ℕ, ◌+◌, ◌≤◌, nat_le, if◌then◌else◌, List, [], ◌∷◌, ◌++◌, length, Option, Some, None, refl, sym, ap, ◌∙◌, subst, arith}
+use Rattle.std.specs.Prelude.{Result, Ok, Err}
 use Rattle.std.proofs.lemmas.Bool.Decides.{nat_tests}
 use Rattle.dw_base.specs.FileViews.{View, field_at, section_bytes}
 use Rattle.dw_base.specs.Forms.{width_size}
-use Rattle.dw_base.specs.MacroHeaders.{header_of, macro_header}
+use Rattle.dw_base.specs.MacroHeaders.{macro_header}
 use Rattle.dw_base.specs.MacroOperations.{operation_at}
 use Rattle.dw_base.specs.MacroUnits.{is_end, unit_operation, unit_with}
-use Rattle.dw_base.specs.Numbers.{spelled}
 use Rattle.dw_base.specs.declared.fault.Refusal.{Refusal}
 use Rattle.dw_base.specs.declared.macro_units.MacroHeader.{MacroHeader}
 use Rattle.dw_base.specs.declared.macro_units.MacroOperation.{MacroOperation}
@@ -20,6 +19,7 @@ use Rattle.dw_base.proofs.ReachLaws.{Reaches, here, reach-more, Determined, Stop
 use Rattle.dw_base.specs.MacroOffsets.{FieldReads, FieldRefuses, OperationReads, OperationRefuses, ReadUpTo, none_read, more_read, IsReadUnit, UnitsReadUpTo, no_unit, more_unit, AreReadUnits, OffsetRefuses, of_line, of_operation, UnitsRefuse, units, offsets}
 use Rattle.dw_macros.proofs.EventLaws.{operation-there}
 use Rattle.dw_macros.proofs.UnitListLaws.{read-units}
+use Rattle.dw_base.proofs.MacroRowLaws.{macro_header-inside}
 
 ok-once : {Y E : Type 0} (x y : Y) (r : Result Y E) → r ≡ Ok x → r ≡ Ok y → x ≡ y
 ok-once {Y = Y} {E = E} x y r e f = by_kind (sym e ∙ f)
@@ -111,17 +111,6 @@ at_most m n e = grind (arith, nat_tests)
 none-some : {Y : Type 0} (y : Y) → None ≡ Some y → ⊥
 none-some y e = cc
 
-header-inside : (v : View) (section start : ℕ) (h : MacroHeader) → macro_header v.order (section_bytes v section) start ≡ Some h
-    → start + 3 ≤ length (section_bytes v section)
-unfolding macro_header
-header-inside v section start h e = by_test (nat_le (start + 3) (length (section_bytes v section))) refl e
-  where
-    by_test : (b : Bool) → nat_le (start + 3) (length (section_bytes v section)) ≡ b
-        → (if b then header_of (section_bytes v section) (spelled v.order (section_bytes v section) start 2) (slice_index (section_bytes v section) (start + 2)) (start + 3) else None) ≡ Some h
-        → start + 3 ≤ length (section_bytes v section)
-    by_test true t f = at_most (start + 3) (length (section_bytes v section)) t
-    by_test false t f = absurd (none-some h f)
-
 -- units that were read, up to a place
 record UnitsRead : Type 0 where
   list : List MacroUnit
@@ -151,7 +140,7 @@ units-reach v section list place (more_unit before c start u is) =
 -- none starts at the section's end
 end-stops : (v : View) (section : ℕ) (list : List MacroUnit) → Stops (NextUnit v section) (read_to list (length (section_bytes v section)))
 end-stops v section list t n =
-    let inside = header-inside v section (length (section_bytes v section)) n.is.header n.is.header_is in
+    let inside = macro_header-inside v.order (section_bytes v section) (length (section_bytes v section)) n.is.header n.is.header_is in
     absurd (omega (arith, inside))
 
 -- where an offset of a unit is refused, none can be read

@@ -1,19 +1,16 @@
 -- Units that were read mean what the pieces of their section mean.
 use Rattle.std.specs.Prelude.{option_and_then, option_map}
-use Rattle.std.proofs.Common.{Bool, true, false, ◌≡◌, ℕ, zero, suc, ◌+◌, ◌<◌, ◌≤◌, nat_le, List, [], ◌∷◌, ◌++◌, length, map, take, drop, slice_index, Option, Some, None, refl, sym, ap, ◌∙◌, subst, arith, if◌then◌else◌}
-use Rattle.std.proofs.lemmas.Bool.{leb-true}
+use Rattle.std.proofs.Common.{Bool, true, false, ◌≡◌, ℕ, zero, suc, ◌+◌, ◌<◌, ◌≤◌, List, [], ◌∷◌, ◌++◌, length, map, take, drop, Option, Some, None, refl, sym, ap, ◌∙◌, subst, arith, if◌then◌else◌}
 use Rattle.std.proofs.lemmas.List.{append-nil}
 use Rattle.dw_base.specs.Cells.{Located, is_placed, offset_into}
 use Rattle.dw_base.specs.DebugData.{Around, DataReadings, around_of, start_number, started_unit, unit_named}
 use Rattle.dw_base.specs.FileViews.{View, field_at, section_bytes, section_named}
 use Rattle.dw_base.specs.DebugSections.{name_of}
 use Rattle.dw_base.specs.Forms.{width_size}
-use Rattle.dw_base.specs.MacroHeaders.{header_of, macro_header}
 use Rattle.dw_base.specs.MacroMeanings.{EventMeaning, defined, undefined, brought, MacroMeaning, text_event as event_of_text}
 use Rattle.dw_base.specs.MacroOperations.{operation_at}
 use Rattle.dw_base.specs.MacroOffsets.{AreReadUnits, FieldReads, IsReadUnit, OperationReads, ReadsFrom, UnitsReadUpTo, no_unit, more_unit, over_there, one_there}
 use Rattle.dw_base.specs.MacroUnits.{is_end, offset_at, unit_with}
-use Rattle.dw_base.specs.Numbers.{spelled}
 use Rattle.dw_base.specs.Texts.{has_nul, text, ends_in, text_in}
 use Rattle.dw_base.specs.ViewData.{debug_data, located, located_at}
 use Rattle.dw_base.specs.declared.debug_sections.DebugSection.TheVariants.{Str, Line, Macro as MacroSection}
@@ -34,9 +31,10 @@ use Rattle.dw_macros.proofs.CallerLaws.{read-unit}
 use Rattle.dw_macros.proofs.EventLaws.{reads-here, unit-whole}
 use Rattle.dw_macros.specs.EventMeanings.{text_bytes, event_meaning, unit_meaning}
 use Rattle.dw_macros.specs.MacroEvents.{IsUnitIn, import_of, SpellsEvents, over, one_event, event_by, event_if, event_in, import_at, inline_place, named_place, text_event, unit_events}
-use Rattle.dw_meaning.proofs.LineReadLaws.{if-some, some-same}
+use Rattle.dw_meaning.proofs.LineReadLaws.{some-same}
 use Rattle.dw_meaning.proofs.MacroFirstLaws.{first-macros}
 use Rattle.dw_meaning.proofs.MacroMeantLaws.{operation_meaning, EventsFrom, events_over, events_more, line_meant, UnitsFrom, units_over, units_more}
+use Rattle.dw_base.proofs.MacroRowLaws.{macro_header-inside}
 
 -- what stands around macro units is that of the view
 pub record Seen (v : View) (g : Around) : Type 0 where
@@ -126,7 +124,7 @@ import-says v g field (Sym s k a) first placed = absurd (false-true placed)
     false-true : false ≡ true → ⊥
     false-true e = cc
 
-placed-field : (v : View) (section : ℕ) (width : Width) (field : ℕ) → FieldReads v section width field → is_placed (field_at v section field (width_size width)) ≡ true
+pub placed-field : (v : View) (section : ℕ) (width : Width) (field : ℕ) → FieldReads v section width field → is_placed (field_at v section field (width_size width)) ≡ true
 placed-field v section width field h = (offset-is v section field (width_size width) (field_at v section field (width_size width)) h.is).placed
 
 -- an operation as an event
@@ -169,7 +167,7 @@ event-of v g section width place m next (Bring field) e seen reads is f =
 event-of v g section width place m next Foreign e seen reads is f = absurd (none-event e next f)
 
 -- the operation there can be read
-reads-at : (v : View) (section : ℕ) (width : Width) (place next : ℕ) (o : MacroOperation) → ReadsFrom v section width place
+pub reads-at : (v : View) (section : ℕ) (width : Width) (place next : ℕ) (o : MacroOperation) → ReadsFrom v section width place
     → operation_at (section_bytes v section) width place ≡ Some (o, next) → OperationReads v section width o
 reads-at v section width place next o reads is = reads-here v section place next width (section_bytes v section) o reads refl (sym is)
 
@@ -191,7 +189,7 @@ read-same o r n m x e f =
 true-false : true ≡ false → ⊥
 true-false e = cc
 
-reads-past : (v : View) (section : ℕ) (width : Width) (place next : ℕ) (o : MacroOperation) → ReadsFrom v section width place
+pub reads-past : (v : View) (section : ℕ) (width : Width) (place next : ℕ) (o : MacroOperation) → ReadsFrom v section width place
     → operation_at (section_bytes v section) width place ≡ Some (o, next) → is_end o ≡ false → ReadsFrom v section width next
 reads-past v section width place next o (over_there p n is) e more =
     let same = read-same o End next n (operation_at (section_bytes v section) width p) e is in
@@ -227,14 +225,6 @@ events-one v g section width place end other es fs (events_more p n q o rest is 
       others.1,
     )
 
--- a header has bytes
-header-inside : (v : View) (section start : ℕ) (h : MacroHeader) → macro_header v.order (section_bytes v section) start ≡ Some h → start + 3 ≤ length (section_bytes v section)
-unfolding macro_header
-header-inside v section start h e =
-    leb-true (start + 3) (length (section_bytes v section))
-    (if-some (nat_le (start + 3) (length (section_bytes v section)))
-    (header_of (section_bytes v section) (spelled v.order (section_bytes v section) start 2) (slice_index (section_bytes v section) (start + 2)) (start + 3)) h e).0
-
 -- the line table of a unit
 line-same : (v : View) (g : Around) (section start end : ℕ) (h : MacroHeader) → Seen v g
     → line_meant v g section h ≡ option_and_then (start_number 0 (g.stands Line).starts) (unit_with v section start h end).line
@@ -265,7 +255,7 @@ record OneMore (v : View) (g : Around) (section : ℕ) (u : MacroUnit) (ms : Lis
 one-more : (v : View) (g : Around) (section start : ℕ) (u : MacroUnit) (ms : List MacroMeaning) → Seen v g → section < length v.sections → IsReadUnit v section start u
     → UnitsFrom v g section start ms → OneMore v g section u ms
 one-more v g section start u ms seen there is (units_over p at_end) =
-    let inside = header-inside v section start is.header is.header_is in
+    let inside = macro_header-inside v.order (section_bytes v section) start is.header is.header_is in
     absurd (omega (arith, inside, at_end))
 one-more v g section start u all seen there is (units_more p end h es ms head events units) =
     let same : h ≡ is.header = some-same h is.header (sym head ∙ is.header_is) in
@@ -312,7 +302,7 @@ units-behind v g section place all ms seen there (more_unit list x start so is) 
 nothing-behind : (v : View) (g : Around) (section place : ℕ) (ms : List MacroMeaning) → place ≡ length (section_bytes v section) → UnitsFrom v g section place ms → ms ≡ []
 nothing-behind v g section place ms e (units_over p at_end) = refl
 nothing-behind v g section place all e (units_more p end h es ms head events units) =
-    let inside = header-inside v section place h head in
+    let inside = macro_header-inside v.order (section_bytes v section) place h head in
     absurd (omega (arith, inside, e))
 
 -- all units of a section

@@ -1,7 +1,7 @@
 -- Laws of a macro unit: its operations, one after another, and what was read of it.
 use Rattle.std.proofs.Common.{Bool, true, false, ◌≡◌, ℕ, List, Option, Some, None, refl, sym, ap, ◌∙◌, subst}
 use Rattle.std.specs.Prelude.{Ok}
-use Rattle.dw_base.specs.FileViews.{View, section_bytes}
+use Rattle.dw_base.specs.FileViews.{View, section_bytes, field_at}
 use Rattle.dw_base.specs.Refusals.{at}
 use Rattle.dw_base.specs.ViewData.{located}
 use Rattle.dw_base.specs.declared.debug_sections.DebugSection.TheVariants.{Line}
@@ -19,6 +19,9 @@ use Rattle.dw_base.specs.declared.macro_units.MacroHeader.{MacroHeader}
 use Rattle.dw_base.specs.declared.macro_units.MacroOperation.{MacroOperation}
 use Rattle.dw_base.specs.declared.macro_units.MacroOperation.TheVariants.{End, Inline, Named, Enter, Leave, Bring, Foreign}
 use Rattle.dw_base.specs.declared.macro_units.MacroUnit.{MacroUnit}
+use Rattle.dw_base.specs.Cells.{is_placed}
+use Rattle.dw_base.specs.Forms.{width_size}
+use Rattle.dw_base.proofs.ViewOffsetLaws.{offset-is}
 
 -- the operation at a place, by what was read there
 read-operation : (v : View) (section start place : ℕ) (width : Width) (bytes : List ℕ) (x : Option (MacroOperation × ℕ)) → bytes ≡ section_bytes v section
@@ -38,9 +41,12 @@ operation-foreign v section start place next width bytes o r b e kind is =
 
 pub operation-unnamed : (v : View) (section start place next line field : ℕ) (width : Width) (bytes : List ℕ) (o : MacroOperation) (defines named : Bool) (r : Refusal)
     → bytes ≡ section_bytes v section → Some (o, next) ≡ operation_at bytes width place → o ≡ Named defines line field
-    → named ≡ names_text v section width field → named ≡ false → r ≡ at StringOffset section field → OperationFails v section start width place r
-operation-unnamed v section start place next line field width bytes o defines named r b e kind same none is =
-    none_taken (read-operation v section start place width bytes (Some (o, next)) b e ∙ rw (kind, sym same ∙ none, is) refl)
+    → FieldReads v section width field → named ≡ names_text v section width field → named ≡ false → r ≡ at StringOffset section field
+    → OperationFails v section start width place r
+operation-unnamed v section start place next line field width bytes o defines named r b e kind reads same none is =
+    let placed : is_placed (field_at v section field (width_size width)) ≡ true =
+    (offset-is v section field (width_size width) (field_at v section field (width_size width)) reads.is).placed in
+    none_taken (read-operation v section start place width bytes (Some (o, next)) b e ∙ rw (kind, sym same ∙ none, placed, is) refl)
 
 there-is : (v : View) (section place next : ℕ) (width : Width) (bytes : List ℕ) (o p : MacroOperation) → bytes ≡ section_bytes v section
     → Some (o, next) ≡ operation_at bytes width place → o ≡ p → operation_at (section_bytes v section) width place ≡ Some (p, next)

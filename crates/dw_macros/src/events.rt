@@ -12,7 +12,7 @@ ghost use Rattle.dw_macros.specs.MacroEvents.{EventsFit, EventsState, IsUnitIn, 
 ghost use Rattle.dw_macros.specs.OperationRooms.{HasRoom};
 
 use crate::reading::operation_at;
-use crate::texts::{macro_field, offset_at, section_of};
+use crate::texts::{macro_field, offset_at};
 use dw_base::{DebugSection, Field, MacroEvent, MacroOperation, MacroUnit, TextPlace, Width};
 use dw_strings::text_at;
 use dw_view::View;
@@ -103,7 +103,7 @@ fn import_at(view: &View, section: u32, width: Width, field: u64) -> MacroEvent
     };
     match read {
         Field::Num(offset) => MacroEvent::Import {
-            section: section_of(view, DebugSection::Macro).0,
+            section: view.located(DebugSection::Macro).number,
             offset,
             field,
         },

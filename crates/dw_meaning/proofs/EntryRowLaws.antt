@@ -13,17 +13,10 @@ use Rattle.dw_base.specs.declared.values.Spec.{Spec}
 use Rattle.dw_base.specs.declared.values.Value.{Value}
 use Rattle.dw_base.proofs.FormLaws.{form_fails-none}
 use Rattle.dw_base.proofs.ReachLaws.{Reaches, here, reach-more, Determined, Stops, stops-one}
+use Rattle.dw_meaning.specs.PieceRuns.{end_behind, values_end}
 
--- where the values of attributes end, from a place on
-abbrev end_behind : (ℕ → Option ℕ) → ℕ → Option Value → Option ℕ
-end_behind f place None = None
-end_behind f place (Some v) = f (place + v.size)
-
-abbrev pub values_end : Params → List ℕ → List Spec → ℕ → Option ℕ
-values_end params bytes [] place = Some place
-values_end params bytes (x ∷ xs) place = end_behind (λ p. values_end params bytes xs p) place (value_at params x bytes place)
-
-values_end-append : (params : Params) (bytes : List ℕ) (xs ys : List Spec) (start place : ℕ) → values_end params bytes xs start ≡ Some place
+-- where more values end
+pub values_end-append : (params : Params) (bytes : List ℕ) (xs ys : List Spec) (start place : ℕ) → values_end params bytes xs start ≡ Some place
     → values_end params bytes (xs ++ ys) start ≡ values_end params bytes ys place
 values_end-append params bytes [] ys start place e = ap (values_end params bytes ys) (some-same start place e)
   where

@@ -5,18 +5,17 @@ use Rattle.std.specs.Prelude.{Result, Ok, Err}
 use Rattle.std.proofs.lemmas.Bool.{leb-true}
 use Rattle.std.proofs.lemmas.List.{length-drop}
 use Rattle.dw_base.specs.Cells.{Cell, bytes_of}
-use Rattle.dw_base.specs.FileViews.{View, section_bytes, view_cells}
+use Rattle.dw_base.specs.FileViews.{View, section_bytes, view_cells, field_at}
 use Rattle.dw_base.specs.Forms.{width_size}
 use Rattle.dw_base.specs.MacroHeaders.{has_flag, header_of, macro_header, width_by}
 use Rattle.dw_base.specs.MacroOffsets.{OffsetRefuses, OperationRefuses, ReadUpTo, UnitsReadUpTo, more_read, more_unit, no_unit, none_read, of_line, of_operation}
 use Rattle.dw_base.specs.MacroOperations.{operation_at}
 use Rattle.dw_base.specs.MacroPieces.{OffsetUse, of_text, of_unit, OperationFront, whole, last, before_offset, MacroMode, at_unit, at_line, at_operation, at_offset, no_macros, MacroState, macros_at, IsUnitFront, FitsMacros, after_operation, front_of, mode_behind, macro_grammar, ReadsMacros, whole_by}
-use Rattle.dw_base.specs.MacroUnits.{is_end, taken, taken_if, names_text, unit_operation}
+use Rattle.dw_base.specs.MacroUnits.{is_end, taken, taken_if, names_text, unit_operation, nameless}
 use Rattle.dw_base.specs.Numbers.{spelled}
 use Rattle.dw_base.specs.Pieces.{Chain, Piece, joined}
 use Rattle.dw_base.specs.RelocationRows.{FieldPlace, FieldsRead, IsField, OffsetReads, field_place, macro_field, macro_fields, offset_field}
 use Rattle.dw_base.specs.Refusals.{at}
-use Rattle.dw_base.specs.declared.fault.Kind.TheVariants.{StringOffset}
 use Rattle.dw_base.specs.declared.fault.Refusal.{Refusal}
 use Rattle.dw_base.specs.declared.macro_numbers.TheConstants.{OFFSET_SIZE_FLAG, DEBUG_LINE_OFFSET_FLAG}
 use Rattle.dw_base.specs.declared.macro_units.MacroHeader.{MacroHeader}
@@ -187,7 +186,7 @@ taken-ok v section width place n End o next e = cc
 taken-ok v section width place n (Inline d l at len) o next e = cc
 taken-ok v section width place n (Named d l f) o next e = by_text (names_text v section width f) e
   where
-    by_text : (b : Bool) → ◌≡◌ {A = Result (MacroOperation × ℕ) Refusal} (if b then Ok (Named d l f, n) else Err (at StringOffset section f)) (Ok (o, next)) → ◌≡◌ {A = MacroOperation × ℕ} (Named d l f, n) (o, next)
+    by_text : (b : Bool) → ◌≡◌ {A = Result (MacroOperation × ℕ) Refusal} (if b then Ok (Named d l f, n) else Err (at (nameless (field_at v section f (width_size width))) section f)) (Ok (o, next)) → ◌≡◌ {A = MacroOperation × ℕ} (Named d l f, n) (o, next)
     by_text true e = cc
     by_text false e = absurd cc
 taken-ok v section width place n (Enter l f) o next e = cc

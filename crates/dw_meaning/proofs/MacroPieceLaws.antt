@@ -11,14 +11,13 @@ use Rattle.dw_base.specs.MacroHeaders.{is_macro_version, has_flag, width_by, hea
 use Rattle.dw_base.specs.MacroOperations.{operation_at}
 use Rattle.dw_base.specs.MacroPieces.{OffsetUse, of_text, of_unit, OperationFront, whole, last, before_offset, MacroMode, at_unit, at_line, at_operation, at_offset, MacroState, macros_at, front_of, after_flags, after_operation, macro_grammar, ReadsMacros}
 use Rattle.dw_base.specs.MacroReadings.{MacroReading, ReadsAllMacros, EachMacro, MacroStart, started_by, starts_in, macro_starts}
-use Rattle.dw_base.specs.MacroUnits.{offset_at, unit_with, names_text, taken, taken_if, unit_operation, OperationsUpTo, no_operations, more_operations, IsMacroUnit, MacroUnitsUpTo, no_units, more_units, AreMacroUnits, is_end}
+use Rattle.dw_base.specs.MacroUnits.{offset_at, unit_with, names_text, taken, taken_if, unit_operation, OperationsUpTo, no_operations, more_operations, IsMacroUnit, MacroUnitsUpTo, no_units, more_units, AreMacroUnits, is_end, nameless}
 use Rattle.dw_base.specs.Numbers.{spelled}
 use Rattle.dw_base.specs.Pieces.{Piece, joined, Leads, EachPiece}
 use Rattle.dw_base.specs.Refusals.{at}
 use Rattle.dw_base.specs.Texts.{ends_in}
 use Rattle.dw_base.specs.ViewData.{located}
 use Rattle.dw_base.specs.declared.debug_sections.DebugSection.TheVariants.{Line, Str}
-use Rattle.dw_base.specs.declared.fault.Kind.TheVariants.{StringOffset}
 use Rattle.dw_base.specs.declared.fault.Refusal.{Refusal}
 use Rattle.dw_base.specs.declared.macro_numbers.TheConstants.{OFFSET_SIZE_FLAG, DEBUG_LINE_OFFSET_FLAG, OPCODE_OPERANDS_TABLE_FLAG}
 use Rattle.dw_base.specs.declared.macro_units.MacroHeader.{MacroHeader}
@@ -146,7 +145,7 @@ taken-ok v section width place (Inline d l a n) o m next e = (ok-same (Inline d 
 taken-ok v section width place (Named d l field) o m next e = by_text (names_text v section width field) refl e
   where
     by_text : (b : Bool) → names_text v section width field ≡ b
-        → (if b then ok_read (Named d l field) m else Err (at StringOffset section field)) ≡ ok_read o next
+        → (if b then ok_read (Named d l field) m else Err (at (nameless (field_at v section field (width_size width))) section field)) ≡ ok_read o next
         → (◌≡◌ {A = MacroOperation × ℕ} (Named d l field, m) (o, next)) × (Named d l field ≢ Foreign)
         × ((defines : Bool) (line f : ℕ) → Named d l field ≡ Named defines line f → names_text v section width f ≡ true)
     by_text true is g = (ok-same (Named d l field, m) (o, next) g, λ k. cc, λ x y f k. ap (names_text v section width) (sym (field-same x y f k)) ∙ is)

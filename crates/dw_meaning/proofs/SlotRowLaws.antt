@@ -15,7 +15,6 @@ use Rattle.std.proofs.Common.{true, false, ◌≡◌, ℕ, List, [], ◌∷◌, 
 use Rattle.dw_base.specs.Cells.{Cell, CellSection, Located, bytes_of, located_cells}
 use Rattle.dw_base.specs.DebugData.{DebugData, DataReadings, Around, around_of, indexing_of, macro_places, path_slots}
 use Rattle.dw_base.specs.MacroReadings.{MacroPlaces}
-use Rattle.dw_base.specs.Forms.{in_str}
 use Rattle.dw_base.specs.IndexFails.{IndexFails, no_slot, SlotFails, no_text, SlotFitsBy, SlotFits, SharedFails, shared}
 use Rattle.dw_base.specs.OffsetPieces.{OffsetMode, at_contribution, at_slot, no_offsets, OffsetState, ReadsOffsets}
 use Rattle.dw_base.specs.LineReadings.{table_starts}
@@ -32,6 +31,7 @@ use Rattle.dw_base.specs.declared.fault.Refusal.{Refusal}
 use Rattle.dw_base.specs.declared.shared.Order.{Order}
 use Rattle.dw_base.proofs.ContributionBackLaws.{contributions-back}
 use Rattle.dw_base.proofs.ContributionRowLaws.{contributions-exclude}
+use Rattle.dw_base.specs.declared.texts.TextSection.TheVariants.{InStr}
 use Rattle.dw_meaning.specs.DataFails.{IndexesRead, SlotTextFails, index as index_row, slot as slot_row}
 use Rattle.dw_meaning.specs.DataOutput.{DataReads, DataFits}
 use Rattle.dw_meaning.proofs.DataOneLaws.{readings-one, offsets-one, readings_with}
@@ -59,11 +59,11 @@ indexes-exclude g r all (no_slot before behind u split none) =
 -- each slot names a text
 pub slots-exclude : (section : ℕ) (around : Around) (xs : List (Piece OffsetState)) (r : Refusal) → NameTexts (slot_role (path_slots around)) around xs
     → SlotFails section around xs r → ⊥
-slots-exclude section around xs r all (no_text x here none) =
+slots-exclude section around xs r all (no_text x here placed none) =
     let own : NamesTextBy (slot_role (path_slots around) x.state) around x.cells =
     piece-among (λ (y : Piece OffsetState). NamesTextBy (slot_role (path_slots around) y.state) around y.cells) here.before here.behind x
     (subst (λ (ys : List (Piece OffsetState)). NameTexts (slot_role (path_slots around)) around ys) here.pieces all) in
-    let ends : ends_in (around.stands Str).bytes (offset_in around in_str x.cells) ≡ true =
+    let ends : ends_in (around.stands Str).bytes (offset_in around InStr x.cells) ≡ true =
     subst (λ (m : OffsetMode). NamesTextBy (offset_role (path_slots around) m x.state.slot) around x.cells) here.mode own in
     clash (sym ends ∙ none)
   where

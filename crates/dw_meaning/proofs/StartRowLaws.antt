@@ -67,11 +67,11 @@ stray-excludes : (d : DebugData) (q readings : DataReadings) (r : Refusal) → D
     → StrayFails (around_of d readings) readings.units r → ⊥
 stray-excludes d q readings r a units tables macros (other_form x here none) =
     clash (has_start_form x) (unit-piece HasStartForm readings.units x (subst (EachReading HasStartForm) (sym units) a.forms) here) none
-stray-excludes d q readings r a units tables macros (no_table x here role none) =
+stray-excludes d q readings r a units tables macros (no_table x here role placed none) =
     let own : NamesTextBy (role_of x) (around_of d q) x.cells = unit-piece (NamesText (around_of d q)) readings.units x (subst (EachReading (NamesText (around_of d q))) (sym units) a.texts) here in
     let there : IsTrue (is_there (line_table (around_of d q) x.cells)) = subst (λ (k : Role). NamesTextBy k (around_of d q) x.cells) role own in
     clash (is_there (line_table (around_of d readings) x.cells)) (ap is_there (table-same d readings q x.cells tables) ∙ there) none
-stray-excludes d q readings r a units tables macros (no_unit x here value none) =
+stray-excludes d q readings r a units tables macros (no_unit x here value placed none) =
     let own : NamesMacro (around_of d q).lasting x =
     unit-piece (NamesMacro (around_of d q).lasting) readings.units x (subst (EachReading (NamesMacro (around_of d q).lasting)) (sym units) a.macro_values) here in
     let there : NamesUnitIf true (around_of d q).lasting x.cells = subst (λ (b : Bool). NamesUnitIf b (around_of d q).lasting x.cells) value own in
@@ -80,13 +80,13 @@ stray-excludes d q readings r a units tables macros (no_unit x here value none) 
 -- and so do the offsets of macro units
 macro-stray-excludes : (d : DebugData) (q readings : DataReadings) (r : Refusal) → DataReads d q → readings.lines ≡ q.lines → readings.macros ≡ q.macros
     → MacroStrayFails (around_of d readings) readings.macros r → ⊥
-macro-stray-excludes d q readings r a tables macros (no_line section x width here mode none) =
+macro-stray-excludes d q readings r a tables macros (no_line section x width here mode placed none) =
     let own : NamesTextBy (macro_role x.state) (around_of d q) x.cells =
     macro-piece (λ (y : Piece MacroState). NamesTextBy (macro_role y.state) (around_of d q) y.cells) readings.macros section x
     (subst (EachMacro (λ (y : Piece MacroState). NamesTextBy (macro_role y.state) (around_of d q) y.cells)) (sym macros) a.macro_texts) here in
     let there : IsTrue (is_there (line_table (around_of d q) x.cells)) = subst (λ (m : MacroMode). NamesTextBy (macro_role_by m) (around_of d q) x.cells) mode own in
     clash (is_there (line_table (around_of d readings) x.cells)) (ap is_there (table-same d readings q x.cells tables) ∙ there) none
-macro-stray-excludes d q readings r a tables macros (no_import section x width here mode none) =
+macro-stray-excludes d q readings r a tables macros (no_import section x width here mode placed none) =
     let own : NamesImport (around_of d q).lasting x =
     macro-piece (NamesImport (around_of d q).lasting) readings.macros section x (subst (EachMacro (NamesImport (around_of d q).lasting)) (sym macros) a.imports) here in
     let there : NamesUnitIf true (around_of d q).lasting x.cells = subst (λ (m : MacroMode). NamesUnitIf (is_import m) (around_of d q).lasting x.cells) mode own in

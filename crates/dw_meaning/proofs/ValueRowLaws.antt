@@ -10,7 +10,7 @@ use Rattle.dw_base.specs.DebugData.{DebugData, DataReadings, ReadsAll, around_of
 use Rattle.dw_base.specs.Readings.{EachReading}
 use Rattle.dw_base.specs.EntryScans.{Scans, split as split_row, is_split_root, depth_behind}
 use Rattle.dw_base.specs.EntryValues.{HasUnit, HasTable, HasValue, bytes_up_to}
-use Rattle.dw_base.specs.Forms.{TextSection, in_str, in_line_str, ValueKind, inline_text, text_offset}
+use Rattle.dw_base.specs.Forms.{ValueKind, inline_text, text_offset}
 use Rattle.dw_base.specs.InlinePaths.{inline_fits}
 use Rattle.dw_base.specs.Paths.{PathMap}
 use Rattle.dw_base.specs.Pieces.{Grammar, Piece, joined, Chain, Leads, EachPiece}
@@ -35,6 +35,8 @@ use Rattle.dw_base.proofs.TextLaws.{text-append}
 use Rattle.dw_meaning.proofs.ValueCutLaws.{IsCut, value_of-own}
 use Rattle.dw_base.proofs.AbbreviationLaws.{table-found, table-one}
 use Rattle.dw_base.specs.declared.debug_sections.DebugSection.TheVariants.{Str, LineStr}
+use Rattle.dw_base.specs.declared.texts.TextSection.{TextSection}
+use Rattle.dw_base.specs.declared.texts.TextSection.TheVariants.{InStr, InLineStr}
 use Rattle.dw_meaning.proofs.DataRowLaws.{WholeUnit, SectionRead, section-among, unit-whole}
 use Rattle.dw_meaning.proofs.EntryRowLaws.{entries-exclude}
 use Rattle.dw_meaning.proofs.PieceLaws.{Rest, chain-rest, chain-unique, leads-more, joined-append}
@@ -201,7 +203,7 @@ offset-names d rs z h number a x place v table w class =
 
 -- debug data that can be read has no offset that names no text
 pub texts-exclude : (d : DebugData) (rs : DataReadings) (r : Refusal) → DataReads d rs → TextFails d r → ⊥
-texts-exclude d rs r reads (no_text z h list number a x place v table t y class ends) = by_class v.class refl class
+texts-exclude d rs r reads (no_text z h list number a x place v table t y class placed ends) = by_class v.class refl class
   where
     w : MetValue d.base z h number a x place v (NamesText (around_of d rs))
     w = value-met d rs z h list number a x place v (NamesText (around_of d rs)) reads reads.texts t y
@@ -218,8 +220,8 @@ texts-exclude d rs r reads (no_text z h list number a x place v table t y class 
     once u s e = cc
 
     by_class : (c : ValueClass) → v.class ≡ c → text_table d c ≡ Some table → ⊥
-    by_class StrOffset is found = clash in_str is (once (d.found Str) table found)
-    by_class LineStrOffset is found = clash in_line_str is (once (d.found LineStr) table found)
+    by_class StrOffset is found = clash InStr is (once (d.found Str) table found)
+    by_class LineStrOffset is found = clash InLineStr is (once (d.found LineStr) table found)
     by_class Address is found = cc
     by_class Number is found = cc
     by_class Signed is found = cc

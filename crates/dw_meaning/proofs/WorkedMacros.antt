@@ -192,7 +192,7 @@ stray-value =
       front = take 5 (unit_list 23 17);
       rest = [];
       pieces = refl;
-    }) refl refl
+    }) refl refl refl
 
 -- a reference isn't the start of a unit
 pub stray-form : StrayFails (around_of (macros_data 19 18 (macro_bytes 67 14 0)) (macros_readings 19 18 (macro_bytes 67 14 0)))
@@ -222,7 +222,7 @@ unfolding macros_from front_of front_by operation_of plain_operation enter_opera
     line_header header_in header_of_version header_at flags_place length_place header_of_length is_header header_with has_standard_operands
 stray-line =
     no_line (record { number = 5; pieces = among 66 0 }) (record { state = macros_at 3 (at_line W32); cells = plain_cells (word 66) }) W32
-    (record { before = []; behind = []; sections = refl; front = take 1 (among 66 0); rest = drop 2 (among 66 0); pieces = refl }) refl refl
+    (record { before = []; behind = []; sections = refl; front = take 1 (among 66 0); rest = drop 2 (among 66 0); pieces = refl }) refl refl refl
 
 -- and no unit at 1
 pub stray-import : MacroStrayFails (around_of (macros_data 23 18 (macro_bytes 67 14 1)) (macros_readings 23 18 (macro_bytes 67 14 1)))
@@ -231,4 +231,4 @@ unfolding macros_from front_of front_by operation_of plain_operation enter_opera
     spelled number_at initial_length_at ends_in text_in offset_of field_of
 stray-import =
     no_import (record { number = 5; pieces = among 67 1 }) (record { state = macros_at 28 (at_offset W32 of_unit); cells = plain_cells (word 1) }) W32
-    (record { before = []; behind = []; sections = refl; front = take 10 (among 67 1); rest = drop 11 (among 67 1); pieces = refl }) refl refl
+    (record { before = []; behind = []; sections = refl; front = take 10 (among 67 1); rest = drop 11 (among 67 1); pieces = refl }) refl refl refl

@@ -17,7 +17,7 @@ use Rattle.dw_base.specs.ElfFails.TableFails.{past as table_past}
 use Rattle.dw_base.specs.EntryScans.{no_values, more_values, starts, no_code, values as values_fail, value as value_fails}
 use Rattle.dw_base.specs.FileViews.{view_of, view_section, section_after, section_bytes, section_named, view_relocations}
 use Rattle.dw_base.specs.FormFails.{own, passes_end}
-use Rattle.dw_base.specs.Forms.{text_offset, in_str, form_in_front, supplementary as of_other_file, unlisted, kind_in, form_rows}
+use Rattle.dw_base.specs.Forms.{text_offset, form_in_front, supplementary as of_other_file, unlisted, kind_in, form_rows}
 use Rattle.dw_base.specs.Layout.{is_loaded_kind, part_of, is_fixed, fixed_end, padding}
 use Rattle.dw_base.specs.LayoutFails.{section as section_row, changed as changed_row, across, in_header}
 use Rattle.dw_base.specs.Lebs.{uleb_at, initial_length_at}
@@ -56,6 +56,7 @@ use Rattle.dw_meaning.proofs.WorkedSections.{data_in, readings_in, with_a_segmen
 use Rattle.dw_meaning.proofs.WorkedParts.{changed, half, numbers, word, worked_map}
 use Rattle.dw_base.specs.RelocationSectionFails.{relocates_read}
 use Rattle.dw_base.specs.SectionRelocations.{relocates, relocation_section, relocations_of}
+use Rattle.dw_base.specs.declared.texts.TextSection.TheVariants.{InStr}
 
 -- no bytes; and all but the last, where the section headers pass the end
 pub cut_short-refused :
@@ -224,7 +225,7 @@ entries-fail = (
       (own (passes_end other_kind.0 other_kind.1 other_kind.2 refl)))),
 )
   where
-    other_kind : (text_offset in_str 4 ≢ unlisted) × (text_offset in_str 4 ≢ of_other_file) × (text_offset in_str 4 ≢ form_in_front)
+    other_kind : (text_offset InStr 4 ≢ unlisted) × (text_offset InStr 4 ≢ of_other_file) × (text_offset InStr 4 ≢ form_in_front)
     other_kind = (λ e. cc, λ e. cc, λ e. cc)
 
 -- the texts: an offset behind the last NUL
@@ -263,7 +264,7 @@ text-fails =
       values = more_values [] (text_spec 3) 12 (offset_value 0 12) no_values refl;
       is = refl;
     })
-    refl refl
+    refl refl refl
 
 -- the files with these debug data
 abbrev other_version : List ℕ

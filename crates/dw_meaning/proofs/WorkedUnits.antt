@@ -72,7 +72,7 @@ unfolding unit_header initial_length_at number_at spelled field_of
 types-header = refl
 
 -- the first of these in a relocatable file, with a relocation at the offset of abbreviations: into .debug_abbrev; into another section, where
--- it counts as a table that isn't there; and by a symbol that isn't defined
+-- it counts as a table that isn't there; and by a symbol that isn't defined, which is no offset
 abbrev placed : Option (ℕ × ℕ) → List Cell
 placed target =
     plain_cells (166 ∷ 2 ∷ 0 ∷ 0 ∷ 5 ∷ 0 ∷ 1 ∷ 8 ∷ [])
@@ -85,7 +85,7 @@ placed_header abbrevs elsewhere = record (plain_header Little W32 5 8 1 abbrevs 
 pub placed-headers :
     (unit_header (worked_base Little []) in_info 7 0 (placed (Some (3, 0))) ≡ Some (placed_header 300 false))
     × (unit_header (worked_base Little []) in_info 7 0 (placed (Some (4, 0))) ≡ Some (placed_header 300 true))
-    × (unit_header (worked_base Little []) in_info 7 0 (placed None) ≡ Some (placed_header 0 true))
+    × (unit_header (worked_base Little []) in_info 7 0 (placed None) ≡ Some (placed_header 0 false))
 unfolding unit_header initial_length_at number_at spelled field_of
 placed-headers = (refl, refl, refl)
 

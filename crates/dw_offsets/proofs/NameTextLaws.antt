@@ -172,7 +172,9 @@ pub text-fails : (v : View) (section place size : ℕ) (t : NameTable) (i : ℕ)
     → TextRefuses v section t r
 text-fails v section place size t i f b r before lt p s e is none same =
     subst (λ (x : Refusal). TextRefuses v section t x) (ap (at StringOffset section) (sym p) ∙ sym same)
-    (names_none (no_text i lt before (text-by v section place size t i f b p s e is ∙ none)))
+    (names_none (no_text i lt before
+    (offset-is v section (string_place t i) (width_size t.width) (field_at v section (string_place t i) (width_size t.width)) (offset-is_read v section place size t i f p s e)).placed
+    (text-by v section place size t i f b p s e is ∙ none)))
 
 pub offset-refused : (v : View) (section place size : ℕ) (t : NameTable) (i : ℕ) (r : Refusal) → NamesTexts v section t i → OffsetsRead v section t i → i < t.names
     → place ≡ string_place t i → size ≡ width_size t.width → Err r ≡ offset_read v section place size → TextRefuses v section t r

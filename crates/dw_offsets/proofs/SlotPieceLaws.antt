@@ -4,9 +4,9 @@ use Rattle.std.specs.Prelude.{⊤}
 use Rattle.std.proofs.Common.{Bool, true, false, not, ◌≡◌, ◌⊎◌, inl, inr, ℕ, zero, suc, ◌+◌, ◌-◌, ◌*◌, ◌/◌, ◌<◌, ◌≤◌, ◌==◌, ◌&&◌, ◌||◌, if◌then◌else◌, List, [], ◌∷◌, ◌++◌, length, get_or, drop, Option, Some, None, refl, sym, ap, ◌∙◌, subst, arith, append_assoc}
 use Rattle.std.proofs.lemmas.Bool.{cases_eq, eq-eqb, ne_eqb, eqb-true}
 use Rattle.std.proofs.lemmas.List.{append-nil, length-append, get_or_at}
-use Rattle.dw_base.specs.Cells.{Cell, Located, bytes_of, cells_at, offset_of}
+use Rattle.dw_base.specs.Cells.{Cell, Located, bytes_of, cells_at, offset_of, field_of, is_placed}
 use Rattle.dw_base.specs.DebugData.{Around, path_slots, other_slots}
-use Rattle.dw_base.specs.Forms.{in_str, width_size}
+use Rattle.dw_base.specs.Forms.{width_size}
 use Rattle.dw_base.specs.IndexFails.{HasSlot, SlotFails, no_text, SlotFitsBy, SlotFits, SharedFails, shared}
 use Rattle.dw_base.specs.Lebs.{initial_length_at}
 use Rattle.dw_base.specs.Lists.{tabulate}
@@ -32,11 +32,12 @@ use Rattle.dw_base.proofs.ContributionBackLaws.{behind-piece}
 use Rattle.dw_base.proofs.OffsetChangeLaws.{slot-before, slot-header}
 use Rattle.dw_base.proofs.ViewCellLaws.{piece-cells}
 use Rattle.dw_base.specs.declared.debug_sections.DebugSection.TheVariants.{Str, StrOffsets}
+use Rattle.dw_base.specs.declared.texts.TextField.{TextField}
+use Rattle.dw_base.specs.declared.texts.TextSection.TheVariants.{InStr}
 use Rattle.dw_offsets.proofs.SlotNumberLaws.{StandsAt as SlotStands, slot-stands, slot-absent}
 use Rattle.dw_offsets.specs.NamedPlaces.{place_by, use_place, is_place, names_place}
 use Rattle.dw_offsets.specs.PathSlots.{SlotTable, as_field, slot_offset, named_text, SlotTaken, EachSlot, fields_of, SlotsTaken, IsAmong, SlotRefuses, no_offset, no_text as slot_no_text, shared as slot_shared, SlotsRefuse, slot, slot_field, slot_fields}
 use Rattle.dw_offsets.specs.SlotMarks.{marked, AreMarks}
-use Rattle.dw_offsets.specs.declared.slot_fields.PathSlot.{PathSlot}
 
 -- the slots among pieces
 abbrev pub slot_of_size : ℕ → ℕ → Slot
@@ -383,7 +384,8 @@ pub record SlotsAround (around : Around) (t : SlotTable) (cells : List Cell) (xs
 record SlotKnown (around : Around) (t : SlotTable) (marks : List ℕ) (x : Piece OffsetState) : Type 0 where
   paths : marked true marks x.state.place ≡ holds_number (path_slots around) x.state.slot
   others : marked false marks x.state.place ≡ holds_number (other_slots around) x.state.slot
-  offset : offset_in around in_str x.cells ≡ slot_offset t (slot_piece x)
+  offset : offset_in around InStr x.cells ≡ slot_offset t (slot_piece x)
+  field : field_of around.lasting.base.order x.cells ≡ field_of t.order (cells_at t.cells x.state.place (length x.cells))
 
 abbrev KnownBy : OffsetMode → Around → SlotTable → List ℕ → Piece OffsetState → Type 0
 KnownBy (at_slot w end) around t marks x = SlotKnown around t marks x
@@ -401,6 +403,8 @@ slot-known around t cells xs marks x a f =
       others = a.are_marks.each false x.state.place ∙ names-is false (around.lasting.kept StrOffsets) (around.lasting.kept StrOffsets).uses x.state.slot (slot_piece x) is;
       offset = ap (λ (o : Order). offset_of o (around.stands Str) x.cells) a.order ∙ ap (λ (z : Located). offset_of t.order z x.cells) a.str
           ∙ ap (offset_of t.order t.str) (sym f.stands ∙ ap (λ (cs : List Cell). cells_at cs x.state.place (length x.cells)) a.same);
+      field = ap (λ (o : Order). field_of o x.cells) a.order
+          ∙ ap (field_of t.order) (sym f.stands ∙ ap (λ (cs : List Cell). cells_at cs x.state.place (length x.cells)) a.same);
     }
 
 known-by : (m : OffsetMode) (around : Around) (t : SlotTable) (cells : List Cell) (xs : List (Piece OffsetState)) (marks : List ℕ) (x : Piece OffsetState)
@@ -473,15 +477,15 @@ pieces-fields : (t : SlotTable) (marks : List ℕ) (around : Around) (xs : List 
 pieces-fields t marks around [] known = refl
 pieces-fields t marks around (x ∷ xs) known =
     piece-field t marks around x (piece_slots xs) x.state.mode known.0
-    ∙ ap (λ (l : List PathSlot). slot_field (path_slots around) x.state.mode x.state.slot x.state.place (length x.cells) ++ l) (pieces-fields t marks around xs known.1)
+    ∙ ap (λ (l : List TextField). slot_field (path_slots around) x.state.mode x.state.slot x.state.place (length x.cells) ++ l) (pieces-fields t marks around xs known.1)
 
 -- what the pass over the slots found is what the pieces say
-pub record SlotsSay (m : PathMap) (around : Around) (xs : List (Piece OffsetState)) (fields : List PathSlot) : Type 0 where
+pub record SlotsSay (m : PathMap) (around : Around) (xs : List (Piece OffsetState)) (fields : List TextField) : Type 0 where
   pub texts : NameTexts (slot_role (path_slots around)) around xs
   pub fits : EachPiece (SlotFits m around) xs
   pub fields_are : fields ≡ slot_fields (path_slots around) xs
 
-pub slots-say : (m : PathMap) (around : Around) (t : SlotTable) (cells : List Cell) (xs : List (Piece OffsetState)) (marks : List ℕ) (fields : List PathSlot)
+pub slots-say : (m : PathMap) (around : Around) (t : SlotTable) (cells : List Cell) (xs : List (Piece OffsetState)) (marks : List ℕ) (fields : List TextField)
     → SlotsAround around t cells xs marks → SlotsTaken m t marks (slots_of (around.lasting.kept StrOffsets).contributions) [] fields → SlotsSay m around xs fields
 slots-say m around t cells xs marks fields a h =
     let all : piece_slots xs ≡ slots_of (around.lasting.kept StrOffsets).contributions = slots-are t.order cells xs a.reads ∙ ap slots_of a.list in
@@ -589,10 +593,12 @@ slot-fails : (m : PathMap) (around : Around) (t : SlotTable) (marks : List ℕ) 
 slot-fails m around t marks xs s r str field a (no_offset f) = offset_fails (as_field s) field f
 slot-fails m around t marks xs s r str field a (slot_no_text reads ends) =
     let place : a.piece.state.place ≡ s.place = ap (λ (z : Slot). z.place) a.same in
-    let none : ends_in (around.stands Str).bytes (offset_in around in_str a.piece.cells) ≡ false =
+    let none : ends_in (around.stands Str).bytes (offset_in around InStr a.piece.cells) ≡ false =
     ap (ends_in (around.stands Str).bytes) a.known.offset ∙ ap (λ (bs : List ℕ). ends_in bs (slot_offset t (slot_piece a.piece))) str
     ∙ ap (λ (z : Slot). ends_in t.str.bytes (slot_offset t z)) a.same ∙ ends in
-    subst (λ (n : ℕ). SlotsFail m t around xs (at StringOffset t.number n)) place (slot_fails (no_text a.piece a.has none))
+    let placed : is_placed (field_of around.lasting.base.order a.piece.cells) ≡ true =
+    ap is_placed (a.known.field ∙ ap (λ (z : Slot). field_of t.order (cells_at t.cells z.place z.size)) a.same) ∙ reads.placed in
+    subst (λ (n : ℕ). SlotsFail m t around xs (at StringOffset t.number n)) place (slot_fails (no_text a.piece a.has placed none))
 slot-fails m around t marks xs s r str field a (slot_shared reads ends path other changes) =
     let place : a.piece.state.place ≡ s.place = ap (λ (z : Slot). z.place) a.same in
     let text : field_text around.lasting.base.order (around.stands Str) a.piece.cells ≡ named_text t s =

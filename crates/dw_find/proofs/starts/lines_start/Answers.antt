@@ -18,7 +18,7 @@ returns-in_err-line_starts-clause-refused c =
 pub returns-then-not-branch-clause-refused : goal.returns-then-not-branch-clause-refused
 returns-then-not-branch-clause-refused c =
     fields-refused c.args.view.now.order c.args.section (view_cells c.args.view.now c.args.section) (says_start c.args.view.now.order (located c.args.view.now Line) c.args.starts.now) c.args.fields.now c.loop-field.field-index _ c.in_ok-line_starts.field-0
-    c.stray.result (omega arith) (get_or_default c.args.fields.now c.loop-field.field-index _ _ (omega arith)) c.in_ok-line_starts.ensures.says c.if-not-branch.true c.stray.ensures
+    c.stray.result (omega arith) (get_or_default c.args.fields.now c.loop-field.field-index _ _ (omega arith)) c.in_ok-line_starts.ensures.placed c.in_ok-line_starts.ensures.says c.if-not-branch.true c.stray.ensures
 
 pub loop-field-init : goal.loop-field-init
 loop-field-init c = fields-none (says_start c.args.view.now.order (located c.args.view.now Line) c.args.starts.now) (view_cells c.args.view.now c.args.section) c.args.fields.now

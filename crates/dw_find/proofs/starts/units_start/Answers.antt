@@ -16,7 +16,7 @@ returns-in_err-unit_starts-clause-refused c =
 pub returns-then-not-branch-clause-refused : goal.returns-then-not-branch-clause-refused
 returns-then-not-branch-clause-refused c =
     fields-refused c.args.view.now.order c.args.section (view_cells c.args.view.now c.args.section) (says_unit c.args.view.now.order c.args.places.now) c.args.fields.now c.loop-field.field-index _ c.in_ok-unit_starts.field-0
-    c.stray.result (omega arith) (get_or_default c.args.fields.now c.loop-field.field-index _ _ (omega arith)) c.in_ok-unit_starts.ensures.says c.if-not-branch.true c.stray.ensures
+    c.stray.result (omega arith) (get_or_default c.args.fields.now c.loop-field.field-index _ _ (omega arith)) c.in_ok-unit_starts.ensures.placed c.in_ok-unit_starts.ensures.says c.if-not-branch.true c.stray.ensures
 
 pub loop-field-init : goal.loop-field-init
 loop-field-init c = fields-none (says_unit c.args.view.now.order c.args.places.now) (view_cells c.args.view.now c.args.section) c.args.fields.now
