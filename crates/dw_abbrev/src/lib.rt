@@ -2,9 +2,9 @@
 //!
 //! This layer promises: a table is read only where the bytes spell one, and then it has their
 //! abbreviations in order; it is refused only where a number passes the section's end, a flag for
-//! children is neither 0 nor 1, a pair has one zero, or a code stands twice. The abbreviation of a code
-//! is found at once where codes count from 1, else by its hash.
-//! It does not promise: anything of tags, names and forms; any number is taken.
+//! children is neither 0 nor 1, a pair has one zero, or a code stands twice. What is found
+//! for a code is its abbreviation: at its number where codes count from 1, else by its hash.
+//! It does not promise: anything of tags, names and forms, any number is taken; how long a search is.
 //! Read first: `dw_base/specs/AbbreviationTables.antt`, then `dw_base/specs/AbbreviationFails.antt`.
 //!
 //! ```

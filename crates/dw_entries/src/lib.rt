@@ -6,7 +6,7 @@
 //! entries that a pass gives are those of the unit, in the order of their places, each with its depth, and by
 //! `CodedScan` with the number of its abbreviation and the place where its values begin; units and entries are
 //! refused only where one can't be read, at its place, or where the offset of a unit's abbreviations can't, for
-//! its relocation. A pass takes no memory and doesn't recurse, and it ends without an error only where all
+//! its relocation. A pass takes no memory, and it ends without an error only where all
 //! lists of children are closed at the unit's end.
 //! It does not promise: anything of tags, and of attributes no more than that their values can be read.
 //! Read first: `dw_base/specs/UnitHeaders.antt`, `dw_base/specs/EntryScans.antt`, then

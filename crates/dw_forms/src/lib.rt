@@ -3,7 +3,7 @@
 //! This layer promises: a value's class, number, place, length and size are those of the table of forms,
 //! in every width, version, address size and byte order; a value is refused only where its form isn't
 //! listed, leads to another form in front or to a number that the abbreviation has, refers to another
-//! file, or passes the end, at the value's start. No call takes memory, and none recurses.
+//! file, or passes the end, at the value's start. No call takes memory.
 //! It does not promise: what the attribute means.
 //! Read first: `dw_base/specs/Forms.antt`, then `dw_base/specs/Values.antt` and
 //! `dw_base/specs/FormFails.antt`.

@@ -7,9 +7,8 @@
 //! with new bodies reads where its names end; a file of parts where its front reads, its alignments
 //! are such, and its names end. The tests of what may stay (`lies_across`,
 //! `begins_in_header`) are the defined ones, for further layouts; `lay_lent` and `join_table` are the steps of
-//! writing for a file in pieces (`Pieces`), of which another file lends most bytes. A file with new bodies comes in pieces:
-//! what stays of its sections is lent, and so are the old bytes of a body that has new numbers in some of its fields (`NewBody`), but near these.
-//! It does not promise: anything of what the bodies mean.
+//! writing for a file in pieces (`Pieces`), of which another file lends bytes. A file with new bodies comes in pieces.
+//! It does not promise: anything of what the bodies mean, and which bytes of a file in pieces are lent.
 //! Read first: `dw_base/specs/Layout.antt`, then `LayoutFails.antt`, `LayoutReads.antt`, `Parts.antt`.
 //!
 //! ```rust
