@@ -1,7 +1,7 @@
 -- Laws of sections that are laid with the items that are given for them, one after another.
 use Rattle.std.proofs.Common.{◌≡◌, ℕ, zero, suc, ◌+◌, ◌<◌, ◌≤◌, List, [], ◌∷◌, ◌++◌, length, take, refl, sym, ap, ◌∙◌, subst, arith}
 use Rattle.std.specs.Prelude.{Option, None}
-use Rattle.std.proofs.lemmas.List.{append_assoc, length-take-le, take_all, take_more}
+use Rattle.std.proofs.lemmas.List.{append-nil, length-take-le, nil_from_length, take_all, take_more}
 use Rattle.dw_base.specs.Elf.{ehdr_size, section_count}
 use Rattle.dw_base.specs.Layout.{Part, extended, laid, laid_out, new_head, new_heads, part_of, with_table}
 use Rattle.dw_base.specs.LayoutFails.{LayoutFails, SectionStays, TooLong}
@@ -13,8 +13,30 @@ use Rattle.dw_base.specs.declared.records.Section.{Section}
 use Rattle.dw_base.specs.declared.shared.Class.{Class}
 use Rattle.dw_base.specs.declared.shared.Order.{Order}
 use Rattle.elf_layout.specs.Given.{AreContents, NewBody, body_given, item_of, part_with, parts_with}
-use Rattle.elf_layout.proofs.PartRows.{long_parts}
+use Rattle.elf_layout.proofs.PartRows.{heads-next, long_parts}
 use Rattle.elf_layout.proofs.Rows.{long_with_table}
+
+-- none so far, behind a front
+pub laid-start : (b front out : List ℕ) (xs contents : List (Option NewBody)) → out ≡ [] → xs ≡ contents
+    → laid (front ++ out) (parts_with b 0 xs) ≡ laid front (parts_with b 0 contents)
+laid-start b front out xs contents none is =
+    ap (λ (l : List ℕ). laid (front ++ l) (parts_with b 0 xs)) none ∙ ap (λ (l : List ℕ). laid l (parts_with b 0 xs)) (append-nil front)
+    ∙ ap (λ (ys : List (Option NewBody)). laid front (parts_with b 0 ys)) is
+
+pub heads-start : (b front out : List ℕ) (xs contents : List (Option NewBody)) (heads : List Section) → out ≡ [] → xs ≡ contents → heads ≡ []
+    → heads ++ new_heads (front ++ out) (parts_with b 0 xs) ≡ new_heads front (parts_with b 0 contents)
+heads-start b front out xs contents heads none is no_heads =
+    ap (λ (hs : List Section). hs ++ new_heads (front ++ out) (parts_with b 0 xs)) no_heads ∙ ap (λ (l : List ℕ). new_heads (front ++ l) (parts_with b 0 xs)) none
+    ∙ ap (λ (l : List ℕ). new_heads l (parts_with b 0 xs)) (append-nil front) ∙ ap (λ (ys : List (Option NewBody)). new_heads front (parts_with b 0 ys)) is
+
+-- when none is left, all are laid
+pub laid-end : (b : List ℕ) (i : ℕ) (xs : List (Option NewBody)) (so_far whole : List ℕ) → length xs ≡ 0 → laid so_far (parts_with b i xs) ≡ whole → so_far ≡ whole
+laid-end b i xs so_far whole none same = sym (ap (λ (ys : List (Option NewBody)). laid so_far (parts_with b i ys)) (nil_from_length xs none)) ∙ same
+
+pub heads-end : (b : List ℕ) (i : ℕ) (xs : List (Option NewBody)) (so_far : List ℕ) (heads whole : List Section) → length xs ≡ 0
+    → heads ++ new_heads so_far (parts_with b i xs) ≡ whole → heads ≡ whole
+heads-end b i xs so_far heads whole none same =
+    sym (append-nil heads) ∙ sym (ap (λ (ys : List (Option NewBody)). heads ++ new_heads so_far (parts_with b i ys)) (nil_from_length xs none)) ∙ same
 
 -- one more, and those behind it
 pub laid-more : (b : List ℕ) (i : ℕ) (x : Option NewBody) (rest : List (Option NewBody)) (so_far now whole : List ℕ) → now ≡ extended so_far (part_with b i x)
@@ -25,10 +47,7 @@ pub heads-more : (b : List ℕ) (i : ℕ) (x : Option NewBody) (rest : List (Opt
     → now ≡ extended so_far (part_with b i x) → h ≡ new_head (length so_far) (part_with b i x) → more ≡ heads ++ h ∷ []
     → heads ++ new_heads so_far (parts_with b i (x ∷ rest)) ≡ whole → more ++ new_heads now (parts_with b (i + 1) rest) ≡ whole
 heads-more b i x rest so_far now h heads more whole is head pushed same =
-    ap (λ (hs : List Section). hs ++ new_heads now (parts_with b (i + 1) rest)) pushed
-    ∙ append_assoc heads (h ∷ []) (new_heads now (parts_with b (i + 1) rest))
-    ∙ ap (λ (s : Section). heads ++ s ∷ new_heads now (parts_with b (i + 1) rest)) head
-    ∙ ap (λ (out : List ℕ). heads ++ new_head (length so_far) (part_with b i x) ∷ new_heads out (parts_with b (i + 1) rest)) is ∙ same
+    heads-next so_far now (part_with b i x) (parts_with b (i + 1) rest) h heads more whole is head pushed same
 
 -- what passes the limit with some of them passes it with all
 pub long-more : (b : List ℕ) (i : ℕ) (x : Option NewBody) (rest : List (Option NewBody)) (so_far whole : List ℕ) (f : Fault)

@@ -1,9 +1,9 @@
 -- Laws of bytes in pieces.
 use Rattle.std.proofs.Common.{◌≡◌, ℕ, ◌+◌, ◌*◌, ◌<◌, ◌≤◌, Bool, true, false, List, [], ◌∷◌, ◌++◌, length, replicate, take, drop, get_or, slice_set, ap, sym, subst, ◌∙◌, refl, arith}
-use Rattle.std.proofs.lemmas.List.{append_assoc, append-nil, drop_more, drop-append-le, length-append, length-drop, length-replicate, length-take-le, take_all, take_at, take-append-le}
+use Rattle.std.proofs.lemmas.List.{append_assoc, append-nil, at_drop_all, drop_more, drop-append-le, length-append, length-drop, length-replicate, length-take-le, take_all, take_at, take-append-le}
 use Rattle.std.specs.List.{concat}
 use Rattle.dw_base.specs.Elf.{ehdr_size, shdr_size, shoff_place, word_size}
-use Rattle.dw_base.specs.Layout.{output_limit, padding, before_table, extended, new_head, placed, shdrs_bytes, with_table}
+use Rattle.dw_base.specs.Layout.{output_limit, padding, before_table, extended, new_head, placed, shdr_bytes, shdrs_bytes, with_table}
 use Rattle.dw_base.specs.LayoutFails.{TooLong}
 use Rattle.dw_base.specs.LayoutFails.TooLong.{long}
 use Rattle.dw_base.specs.Numbers.{number_bytes, with_number}
@@ -16,7 +16,7 @@ use Rattle.dw_base.specs.declared.shared.Class.TheVariants.{C32, C64}
 use Rattle.dw_base.specs.declared.shared.Order.{Order}
 use Rattle.elf_layout.specs.Given.{part}
 use Rattle.elf_layout.specs.Patched.{put_at}
-use Rattle.dw_base.proofs.LayoutLaws.{length-shdrs_bytes, length-with_table}
+use Rattle.dw_base.proofs.LayoutLaws.{length-before_table, length-shdrs_bytes, length-with_table}
 use Rattle.dw_base.proofs.NumberLaws.{length-with_number}
 
 -- with a piece more
@@ -31,6 +31,19 @@ concat-next xss i x whole so_far now lt here more same =
     let step : drop i xss ≡ x ∷ drop (i + 1) xss = drop_more xss i x lt ∙ ap (λ (q : List ℕ). q ∷ drop (i + 1) xss) (sym here) in
     ap (λ (l : List ℕ). l ++ concat (drop (i + 1) xss)) more ∙ append_assoc so_far x (concat (drop (i + 1) xss))
     ∙ ap (λ (yss : List (List ℕ)). so_far ++ concat yss) (sym step) ∙ same
+
+-- when none is left, the whole is taken
+pub concat-all : (xss : List (List ℕ)) (i : ℕ) (so_far whole : List ℕ) → length xss ≤ i → so_far ++ concat (drop i xss) ≡ whole → so_far ≡ whole
+concat-all xss i so_far whole end same =
+    sym (append-nil so_far) ∙ sym (at_drop_all (λ (yss : List (List ℕ)). so_far ++ concat yss) xss i end) ∙ same
+
+-- of section headers so too
+pub shdrs-next : (c : Class) (o : Order) (ss : List Section) (i : ℕ) (s : Section) (so_far now whole : List ℕ) → i < length ss → s ≡ get_or ss i s
+    → now ≡ so_far ++ shdr_bytes c o s → so_far ++ shdrs_bytes c o (drop i ss) ≡ whole → now ++ shdrs_bytes c o (drop (i + 1) ss) ≡ whole
+shdrs-next c o ss i s so_far now whole lt here more same =
+    let step : drop i ss ≡ s ∷ drop (i + 1) ss = drop_more ss i s lt ∙ ap (λ (q : Section). q ∷ drop (i + 1) ss) (sym here) in
+    ap (λ (l : List ℕ). l ++ shdrs_bytes c o (drop (i + 1) ss)) more ∙ append_assoc so_far (shdr_bytes c o s) (shdrs_bytes c o (drop (i + 1) ss))
+    ∙ ap (λ (qs : List Section). so_far ++ shdrs_bytes c o qs) (sym step) ∙ same
 
 -- and is as long as both
 pub length-push : (xss : List (List ℕ)) (made lent : List ℕ) (n a b : ℕ) → n ≡ length (concat xss) → a ≡ length made → b ≡ length lent
@@ -124,6 +137,18 @@ shoff-put c o front lent file n place header n_is lent_is put =
     let same : length file ≡ length front = ap length is ∙ length-with_number o front (shoff_place c) (word_size c) place (shoff-inside c (length front) header) in
     ap (λ (k : ℕ). take k (file ++ drop (length file) front)) (n_is ∙ sym same)
     ∙ take-append-le (length file) file (drop (length file) front) (omega arith) ∙ take_all (length file) file (omega arith) ∙ is
+
+-- so is a file of bytes, zeros and the table
+pub appended-table : (c : Class) (o : Order) (out padded pushed lent file : List ℕ) (n place : ℕ) (heads : List Section) → ehdr_size c ≤ length out → n ≡ length pushed
+    → padded ≡ before_table c out → place ≡ length padded → pushed ≡ padded ++ shdrs_bytes c o heads → lent ≡ pushed
+    → file ≡ with_number o lent (shoff_place c) (word_size c) place → take n (file ++ drop (length file) pushed) ≡ with_table c o out heads
+unfolding with_table
+appended-table c o out padded pushed lent file n place heads header n_is padded_is place_is pushed_is lent_is put =
+    let body : pushed ≡ before_table c out ++ shdrs_bytes c o heads = pushed_is ∙ ap (λ (l : List ℕ). l ++ shdrs_bytes c o heads) padded_is in
+    let longer : ehdr_size c ≤ length pushed =
+    omega (arith, header, ap length body, length-append (before_table c out) (shdrs_bytes c o heads), length-before_table c out) in
+    shoff-put c o pushed lent file n place longer n_is lent_is put ∙ ap (λ (l : List ℕ). with_number o l (shoff_place c) (word_size c) place) body
+    ∙ ap (with_number o (before_table c out ++ shdrs_bytes c o heads) (shoff_place c) (word_size c)) (place_is ∙ ap length padded_is)
 
 -- a front with the place of the table, what is laid behind it, and the table are the file
 pub joined-table : (c : Class) (o : Order) (front behind table put pieces file : List ℕ) (len place : ℕ) (heads : List Section) → ehdr_size c ≤ length front

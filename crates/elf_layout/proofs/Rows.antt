@@ -1,8 +1,8 @@
 -- The rows of the refusals, for the check's search.
-use Rattle.std.proofs.Common.{◌≡◌, ℕ, suc, ◌∷◌, ◌+◌, ◌<◌, ◌≤◌, ◌*◌, List, [], ◌++◌, length, replicate, true, Option, add-one, arith}
+use Rattle.std.proofs.Common.{◌≡◌, ℕ, suc, ◌∷◌, ◌+◌, ◌<◌, ◌≤◌, ◌*◌, ◌==◌, List, [], ◌++◌, length, replicate, take, true, false, Option, add-one, refl, sym, subst, ◌∙◌, arith}
 use Rattle.std.proofs.lemmas.List.{length-append, length-replicate}
-use Rattle.dw_base.specs.Elf.{contents_of, is_empty_kind, nth_section, section_count, ehdr_size, shdr_size, word_size}
-use Rattle.dw_base.specs.Layout.{Part, output_limit, padding, extended, laid, new_head, new_heads, shdrs_bytes, before_table, with_table, with_bodies}
+use Rattle.dw_base.specs.Elf.{class_of, contents_of, is_empty_kind, nth_section, order_of, section_count, ehdr_size, shdr_size, word_size}
+use Rattle.dw_base.specs.Layout.{Part, output_limit, padding, extended, fixed_end, laid, laid_out, new_head, new_heads, part_of, shdrs_bytes, before_table, with_table, with_bodies}
 use Rattle.dw_base.specs.LayoutFails.{BeginsInHeader, Changes, LayoutFails, LiesAcross, SectionStays, TooLong}
 use Rattle.dw_base.specs.LayoutFails.LayoutFails.{section, large}
 use Rattle.dw_base.specs.LayoutFails.SectionStays.{changed, across, in_header}
@@ -117,6 +117,27 @@ pub layout_excludes : (b : List ℕ) (bodies : ℕ → List ℕ) (r : Refusal) �
     → ((i : ℕ) (q : Refusal) → i < section_count b → SectionStays b bodies i q → ⊥) → LayoutFails b bodies r → ⊥
 layout_excludes b bodies r small fit (section i lt h) = fit i r lt h
 layout_excludes b bodies r small fit (large (long passes)) = omega arith
+
+-- a file without sections stays as it is,
+pub kept-is : (b file : List ℕ) (bodies : ℕ → List ℕ) (n : ℕ) → n ≡ section_count b → true ≡ (n == 0) → file ≡ b → file ≡ with_bodies b bodies
+unfolding with_bodies
+kept-is b file bodies n count none is = is ∙ rw (sym count, sym none) refl
+
+-- any other is laid out anew
+pub laid-is : (class : Class) (order : Order) (b file : List ℕ) (bodies : ℕ → List ℕ) (n end : ℕ) → class ≡ class_of b → order ≡ order_of b → end ≡ fixed_end b
+    → n ≡ section_count b → false ≡ (n == 0) → file ≡ laid_out class order (take end b) (tabulate (part_of b bodies) (section_count b)) → file ≡ with_bodies b bodies
+unfolding with_bodies
+laid-is class order b file bodies n end class_is order_is end_is count some is = is ∙ rw (class_is, order_is, end_is, sym count, sym some) refl
+
+-- what passes the limit so refuses the layout
+pub blamed-layout : (b : List ℕ) (bodies : ℕ → List ℕ) (file : List ℕ) (x : Fault) → file ≡ with_bodies b bodies → Blames (TooLong (length file)) x → Blames (LayoutFails b bodies) x
+blamed-layout b bodies file NoMemory is blamed = tt
+blamed-layout b bodies file (Refused r) is blamed = large (subst (λ (out : List ℕ). TooLong (length out) r) is blamed)
+
+-- and what doesn't pass it refuses nothing, where no section is refused
+pub layout_stands : (b file : List ℕ) (bodies : ℕ → List ℕ) → file ≡ with_bodies b bodies → length file ≤ output_limit
+    → ((i : ℕ) (q : Refusal) → i < section_count b → SectionStays b bodies i q → ⊥) → (r : Refusal) → LayoutFails b bodies r → ⊥
+layout_stands b file bodies is small fit r = layout_excludes b bodies r (subst (λ (out : List ℕ). length out ≤ output_limit) is small) fit
 
 pub ruleset emit_rows = (section, large, layout_excludes, fixed_end-header, fixed_end-within)
 
