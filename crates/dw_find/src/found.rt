@@ -203,7 +203,7 @@ impl<'a> Model for TextTable<'a> {
 impl<'a> TextTable<'a> {
     /// The table of a section.
     pub(crate) fn new(section: SectionBytes<'a>) -> TextTable<'a>
-        ensures { result ≡ section }
+        ensures { result ≡ section.entry }
     {
         let end = nul_end(section.bytes) as u64;
         TextTable { section, end }
