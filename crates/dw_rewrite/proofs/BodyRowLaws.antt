@@ -31,10 +31,10 @@ use Rattle.dw_rewrite.specs.Changes.{start_known}
 use Rattle.dw_rewrite.specs.LineOffsets.{OffsetMisses, line_offsets}
 use Rattle.dw_rewrite.specs.NewStarts.{StartChange, known_starts}
 use Rattle.dw_rewrite.specs.OffsetAddends.{AllMiss}
-use Rattle.dw_rewrite.specs.NewTables.{LongTable, TableMade, all_texts_at, long_table}
+use Rattle.dw_rewrite.specs.NewTables.{LongTable, TableMade, TablesRefuse, all_texts_at, long_table, one_is_long}
 use Rattle.dw_find.specs.SectionFields.{SectionFields}
 use Rattle.dw_find.specs.ViewLines.{starts_of}
-use Rattle.dw_rewrite.specs.NewLines.{LinesRefuse, LinesWritten, lines_known, table_fails}
+use Rattle.dw_rewrite.specs.NewLines.{LinesFail, LinesRefuse, LinesWritten, all_too_long, lines_known, one_fails, table_fails}
 use Rattle.dw_rewrite.proofs.LineKnownLaws.{TableRefused, table-refused}
 use Rattle.dw_rewrite.proofs.LineHeldLaws.{lines-fail}
 use Rattle.dw_rewrite.proofs.RecordEndLaws.{addends-fail}
@@ -59,10 +59,10 @@ long-row m v InLineStr us ts r f (long_table there over) =
     long_table_of InLineStr f.readings f.reads (paths-fit m v us ts f) there
     (subst (λ (xs : List (List ℕ)). output_limit < length (((debug_data v).found LineStr).bytes ++ laid_texts xs)) (sym texts_are) over)
 
-pub long-fault : (m : PathMap) (v : View) (table : TextSection) (us : List SectionFields) (ts : List LineTable) (f : Fault) → PathsFound m v us ts → Blames (LongTable m v table us) f
+pub tables-fault : (m : PathMap) (v : View) (us : List SectionFields) (ts : List LineTable) (f : Fault) → PathsFound m v us ts → Blames (TablesRefuse m v us) f
     → Blames (BodiesRefuse m (debug_data v)) f
-long-fault m v table us ts NoMemory found b = tt
-long-fault m v table us ts (Refused r) found b = long-row m v table us ts r found b
+tables-fault m v us ts NoMemory found b = tt
+tables-fault m v us ts (Refused r) found (one_is_long table over) = long-row m v table us ts r found over
 
 -- so is a line table that can't be written,
 lines-row : (m : PathMap) (v : View) (us : List SectionFields) (ts : List LineTable) (ps pl : TextTable) (ks kl : ℕ → Option ℕ) (r : Refusal) (f : PathsFound m v us ts)
@@ -72,11 +72,6 @@ lines-row m v us ts ps pl ks kl r f s l (table_fails before behind t split fails
     table-refused (line_source (debug_data v)) m (change_of_table m v f.readings InStr) (change_of_table m v f.readings InLineStr) ks kl f.readings.lines before behind t r
     (lines-agree m v us ts ps pl ks kl f s l) (sym f.tables ∙ split) fails in
     line_table_of f.readings x.before x.behind x.table f.reads x.split x.fails
-
-pub lines-fault : (m : PathMap) (v : View) (us : List SectionFields) (ts : List LineTable) (ps pl : TextTable) (ks kl : ℕ → Option ℕ) (f : Fault) → PathsFound m v us ts
-    → TableMade m v InStr us ps ks → TableMade m v InLineStr us pl kl → Blames (LinesRefuse m (line_source (debug_data v)) ks kl ts) f → Blames (BodiesRefuse m (debug_data v)) f
-lines-fault m v us ts ps pl ks kl NoMemory found s l b = tt
-lines-fault m v us ts ps pl ks kl (Refused r) found s l b = lines-row m v us ts ps pl ks kl r found s l b
 
 -- and line tables that would be too long
 some-number : (m : PathMap) (v : View) (ks kl : ℕ → Option ℕ) (us : List SectionFields) (ts : List LineTable) (bs : List ℕ) → PathsFound m v us ts → bs ≡ all_lines (lines_known m (line_source (debug_data v)) ks kl ts)
@@ -94,13 +89,18 @@ some-number m v ks kl us ts bs f is some zero_ = by (section_named v (name_of Li
         let number : i ≡ (line_source (debug_data v)).number = ap (λ (g : LineSource). g.number) (sym (source-is v i e)) in
         omega (arith, above, number, zero_)
 
-pub long-lines : (m : PathMap) (v : View) (us : List SectionFields) (ts : List LineTable) (ps pl : TextTable) (ks kl : ℕ → Option ℕ) (bs ns : List ℕ) (r : Refusal) → PathsFound m v us ts
-    → TableMade m v InStr us ps ks → TableMade m v InLineStr us pl kl → LinesWritten m (line_source (debug_data v)) ks kl ts bs ns → output_limit < length bs
-    → r ≡ at TooLarge ((debug_data v).found Line).number 0 → BodiesRefuse m (debug_data v) r
-long-lines m v us ts ps pl ks kl bs ns r f s l w over is =
-    subst (BodiesRefuse m (debug_data v)) (sym is)
-    (long_lines_of f.readings f.reads (paths-fit m v us ts f) (some-number m v ks kl us ts bs f w.bytes (omega (arith, over)))
-    (subst (λ (x : List ℕ). output_limit < length x) (w.bytes ∙ ap all_lines (known-lines m v us ts ps pl ks kl f s l)) over))
+long-lines : (m : PathMap) (v : View) (us : List SectionFields) (ts : List LineTable) (ps pl : TextTable) (ks kl : ℕ → Option ℕ) → PathsFound m v us ts
+    → TableMade m v InStr us ps ks → TableMade m v InLineStr us pl kl → output_limit < length (all_lines (lines_known m (line_source (debug_data v)) ks kl ts))
+    → BodiesRefuse m (debug_data v) (at TooLarge ((debug_data v).found Line).number 0)
+long-lines m v us ts ps pl ks kl f s l over =
+    long_lines_of f.readings f.reads (paths-fit m v us ts f) (some-number m v ks kl us ts (all_lines (lines_known m (line_source (debug_data v)) ks kl ts)) f refl (omega (arith, over)))
+    (subst (λ (x : List ℕ). output_limit < length x) (ap all_lines (known-lines m v us ts ps pl ks kl f s l)) over)
+
+pub lines-fault : (m : PathMap) (v : View) (us : List SectionFields) (ts : List LineTable) (ps pl : TextTable) (ks kl : ℕ → Option ℕ) (f : Fault) → PathsFound m v us ts
+    → TableMade m v InStr us ps ks → TableMade m v InLineStr us pl kl → Blames (LinesFail m (line_source (debug_data v)) ks kl ts) f → Blames (BodiesRefuse m (debug_data v)) f
+lines-fault m v us ts ps pl ks kl NoMemory found s l b = tt
+lines-fault m v us ts ps pl ks kl (Refused r) found s l (one_fails fails) = lines-row m v us ts ps pl ks kl r found s l fails
+lines-fault m v us ts ps pl ks kl (Refused r) found s l (all_too_long over) = long-lines m v us ts ps pl ks kl found s l over
 
 -- and addends that can't make the offsets of their fields: of sections that say something of paths,
 at-starts : (v : View) (us part : List SectionFields) (ts : List LineTable) (ks kl : ℕ → Option ℕ) (ns old : List ℕ) (starts : StartChange) (r : Refusal) → old ≡ starts_of ts

@@ -26,7 +26,7 @@ use Rattle.dw_base.specs.declared.texts.TextSection.TheVariants.{InStr, InLineSt
 use Rattle.dw_find.specs.Fields.{AreOffsetFields, IsOffsetField}
 use Rattle.dw_rewrite.specs.Changes.{FieldSource, Remembers, texts_at}
 use Rattle.dw_find.specs.ViewFields.{AllHaveOffsets, AllHavePlaces, HasOffsets, HasPlaces, fields_of, offsets_in, table_number}
-use Rattle.dw_rewrite.specs.NewTables.{plan_in, section_texts_at, source_in, source_into, table_into, texts_of, all_texts_at, IsSectionNoted, AllNoted, Growing, GrownBy, TableMade, table_with, fault_at, LongTable, long_table}
+use Rattle.dw_rewrite.specs.NewTables.{plan_in, section_texts_at, source_in, source_into, table_into, texts_of, all_texts_at, IsSectionNoted, AllNoted, Growing, GrownBy, TableMade, table_with, fault_at, LongTable, TablesRefuse, long_table, one_is_long}
 use Rattle.dw_find.specs.SectionFields.{SectionFields}
 use Rattle.dw_rewrite.proofs.ChangedLaws.{length-texts_at}
 use Rattle.dw_find.proofs.PlaceValueLaws.{EachOf, each-get}
@@ -151,6 +151,15 @@ table-row m v t us (Refused r) g n placed (long over) number is =
     subst (Blames (LongTable m v t us)) (sym (is ∙ ap (fault_at (Refused r)) number)) (long_table (long-there m v t us placed over) over)
 
 pub ruleset table_rules = (table-row)
+
+-- one of the two tables is made with the new places that are known in it, or would be too long
+pub known-made : {m : PathMap} {v : View} {table : TextSection} {us : List SectionFields} {pool : TextTable} {known new : ℕ → Option ℕ} → new ≡ known
+    → TableMade m v table us pool known → TableMade m v table us pool new
+known-made {m} {v} {table} {us} {pool} e made = subst (TableMade m v table us pool) (sym e) made
+
+pub tables-row : (m : PathMap) (v : View) (t : TextSection) (us : List SectionFields) (f : Fault) → Blames (LongTable m v t us) f → Blames (TablesRefuse m v us) f
+tables-row m v t us NoMemory b = tt
+tables-row m v t us (Refused r) b = one_is_long t b
 
 -- where a pass over sections stands
 pub record TablePass (m : PathMap) (v : View) (table : TextSection) (us : List SectionFields) (pool : TextTable) (known : ℕ → Option ℕ) (i : ℕ) : Type 0 where

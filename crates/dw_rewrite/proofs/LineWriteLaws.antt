@@ -5,23 +5,26 @@ use Rattle.std.proofs.lemmas.List.{drop_all, length-append, take-append-drop}
 use Rattle.dw_base.specs.DebugData.{line_source}
 use Rattle.dw_base.specs.DebugSections.{name_of}
 use Rattle.dw_base.specs.FileViews.{View, section_named}
+use Rattle.dw_base.specs.Layout.{output_limit}
 use Rattle.dw_base.specs.LineReadings.{all_lines, starts_from}
 use Rattle.dw_base.specs.LineSources.{LineSource}
 use Rattle.dw_base.specs.LineTables.{IsLineTable, LineTable}
 use Rattle.dw_base.specs.LineWriteFails.{CanWrite, WriteFails}
 use Rattle.dw_base.specs.Paths.{PathMap}
-use Rattle.dw_base.specs.Refusals.{Blames}
+use Rattle.dw_base.specs.Refusals.{Blames, at}
 use Rattle.dw_base.specs.ViewData.{debug_data}
 use Rattle.dw_base.specs.WrittenLines.{new_place, written_table}
 use Rattle.dw_base.specs.declared.debug_sections.DebugSection.TheVariants.{Line}
 use Rattle.dw_base.specs.declared.fault.Fault.{Fault}
 use Rattle.dw_base.specs.declared.fault.Fault.TheVariants.{NoMemory, Refused}
+use Rattle.dw_base.specs.declared.fault.Kind.TheVariants.{TooLarge}
+use Rattle.dw_base.specs.declared.fault.Refusal.{Refusal}
 use Rattle.dw_lines.specs.ViewSources.{view_source}
 use Rattle.dw_lines.specs.ViewTables.{TablesFound, tables_read}
 use Rattle.dw_lines.proofs.ViewTableLaws.{source-none}
 use Rattle.dw_lines.proofs.ReadingLaws.{source-is}
 use Rattle.dw_meaning.proofs.LineSectionLaws.{no-tables}
-use Rattle.dw_rewrite.specs.NewLines.{AllCanWrite, AllStandIn, LinesRefuse, LinesWritten, StandsIn, lines_known, table_fails}
+use Rattle.dw_rewrite.specs.NewLines.{AllCanWrite, AllStandIn, LinesFail, LinesRefuse, LinesWritten, StandsIn, all_too_long, lines_known, one_fails, table_fails}
 use Rattle.dw_rewrite.proofs.LineReadLaws.{all-stand}
 
 -- a table that stands in a section of a number, by its own number
@@ -130,3 +133,12 @@ pub view-fault : (m : PathMap) (v : View) (i : ℕ) (ks kl : ℕ → Option ℕ)
 view-fault m v i ks kl ts f e b = subst (λ (g : LineSource). Blames (LinesRefuse m g ks kl ts) f) (sym (source-is v i e)) b
 
 pub ruleset view_rules = (view-stand, view-written, none-written, view-fault)
+
+-- there are none where one can't be written, or all would be too long
+pub one-fault : (m : PathMap) (g : LineSource) (ks kl : ℕ → Option ℕ) (ts : List LineTable) (f : Fault) → Blames (LinesRefuse m g ks kl ts) f → Blames (LinesFail m g ks kl ts) f
+one-fault m g ks kl ts NoMemory b = tt
+one-fault m g ks kl ts (Refused r) b = one_fails b
+
+pub long-fault : (m : PathMap) (g : LineSource) (ks kl : ℕ → Option ℕ) (ts : List LineTable) (bs ns : List ℕ) (r : Refusal) → LinesWritten m g ks kl ts bs ns → output_limit < length bs
+    → r ≡ at TooLarge g.number 0 → LinesFail m g ks kl ts r
+long-fault m g ks kl ts bs ns r w over is = subst (LinesFail m g ks kl ts) (sym is) (all_too_long (subst (λ (x : List ℕ). output_limit < length x) w.bytes over))

@@ -315,11 +315,6 @@ starts-fit m v us ts ks kl bs ns old f w is small =
           subst (λ (x : List ℕ). get_or x i 0 < 2 ^ 32) (sym w.starts) (omega (arith, within, size, small));
     }
 
--- a table was made with the new places that are known in it
-pub known-made : {m : PathMap} {v : View} {table : TextSection} {us : List SectionFields} {pool : TextTable} {known new : ℕ → Option ℕ} → new ≡ known
-    → TableMade m v table us pool known → TableMade m v table us pool new
-known-made {m} {v} {table} {us} {pool} e made = subst (TableMade m v table us pool) (sym e) made
-
 pub slices-fit : (m : PathMap) (v : View) (us : List SectionFields) (ts : List LineTable) (ks kl : ℕ → Option ℕ) (bs ns old first second : List ℕ) → PathsFound m v us ts
     → LinesWritten m (line_source (debug_data v)) ks kl ts bs ns → old ≡ starts_of ts → first ≡ old → second ≡ ns → length bs ≤ output_limit
     → StartsFit (record { old = first; new = second })

@@ -1,11 +1,14 @@
 -- Line tables with mapped paths, from new places by old ones; and why one can't be written (DWARF 5, 6.2.4).
-use Rattle.std.specs.Prelude.{◌≡◌, ℕ, List, [], ◌∷◌, ◌++◌, Option, ⊤}
+use Rattle.std.specs.Prelude.{◌≡◌, ℕ, ◌<◌, List, [], ◌∷◌, ◌++◌, length, Option, ⊤}
+use Rattle.dw_base.specs.Layout.{output_limit}
 use Rattle.dw_base.specs.LineReadings.{all_lines, starts_from}
 use Rattle.dw_base.specs.LineSources.{LineSource}
 use Rattle.dw_base.specs.LineTables.{LineTable, IsLineTable}
 use Rattle.dw_base.specs.LineWriteFails.{CanWrite, WriteFails}
 use Rattle.dw_base.specs.Paths.{PathMap}
+use Rattle.dw_base.specs.Refusals.{at}
 use Rattle.dw_base.specs.WrittenLines.{new_place, written_table}
+use Rattle.dw_base.specs.declared.fault.Kind.TheVariants.{TooLarge}
 use Rattle.dw_base.specs.declared.fault.Refusal.{Refusal}
 
 -- each table stands in the section of line tables, where it starts
@@ -37,3 +40,8 @@ pub record LinesWritten (m : PathMap) (g : LineSource) (ks kl : ℕ → Option �
 pub data LinesRefuse (m : PathMap) (g : LineSource) (ks kl : ℕ → Option ℕ) (ts : List LineTable) : Refusal → Type 0 where
   table_fails : (before behind : List LineTable) (t : LineTable) {r : Refusal} → ts ≡ before ++ t ∷ behind → WriteFails g m (new_place g ks kl) t r
       → LinesRefuse m g ks kl ts r
+
+-- or all together would be longer than a file that is written
+pub data LinesFail (m : PathMap) (g : LineSource) (ks kl : ℕ → Option ℕ) (ts : List LineTable) : Refusal → Type 0 where
+  one_fails : {r : Refusal} → LinesRefuse m g ks kl ts r → LinesFail m g ks kl ts r
+  all_too_long : output_limit < length (all_lines (lines_known m g ks kl ts)) → LinesFail m g ks kl ts (at TooLarge g.number 0)

@@ -113,6 +113,10 @@ pub data LongTable (m : PathMap) (v : View) (table : TextSection) (us : List Sec
   long_table : table_number (debug_data v) table ≢ 0 → output_limit < length (table_bytes (table_with v table (all_texts_at m v table [] us)))
       → LongTable m v table us (at TooLarge (table_number (debug_data v) table) 0)
 
+-- one of the two would be
+pub data TablesRefuse (m : PathMap) (v : View) (us : List SectionFields) : Refusal → Type 0 where
+  one_is_long : (table : TextSection) {r : Refusal} → LongTable m v table us r → TablesRefuse m v us r
+
 -- the same from the new places that are known
 unfoldable pub section_known : PathMap → View → (ℕ → Option ℕ) → (ℕ → Option ℕ) → (ℕ → Option ℕ) → SectionFields → List ℕ
 section_known m v ks kl kt u =

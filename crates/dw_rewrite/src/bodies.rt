@@ -8,6 +8,7 @@ ghost use Rattle.dw_base.specs.DebugData.{line_source};
 ghost use Rattle.dw_base.specs.DebugSections.{name_of};
 ghost use Rattle.dw_base.specs.Elf.{contents_of};
 ghost use Rattle.dw_base.specs.FileViews.{section_named, view_of};
+ghost use Rattle.dw_base.specs.Layout.{output_limit};
 ghost use Rattle.dw_base.specs.Refusals.{Blames, at};
 ghost use Rattle.dw_base.specs.RelocationRows.{moving_sections};
 ghost use Rattle.dw_base.specs.RelocationSectionFails.{RelocationSectionsRead};
@@ -15,6 +16,7 @@ ghost use Rattle.dw_base.specs.ViewData.{debug_data};
 ghost use Rattle.dw_base.specs.declared.debug_sections.DebugSection.TheVariants.{Str, LineStr, Line};
 ghost use Rattle.dw_base.specs.declared.fault.Fault.TheVariants.{NoMemory};
 ghost use Rattle.dw_base.specs.declared.texts.TextSection.TheVariants.{InLineStr, InStr};
+ghost use Rattle.dw_lines.specs.NewTexts.{texts_known};
 ghost use Rattle.dw_lines.specs.ViewTables.{TablesFound};
 ghost use Rattle.dw_meaning.specs.RelocationFails.{LeftRelocationsRead};
 ghost use Rattle.dw_find.specs.ViewFields.{AllHaveOffsets, AllHavePlaces, AllRoomsFit};
@@ -24,6 +26,7 @@ ghost use Rattle.dw_find.specs.FoundPaths.{PathsFound, without_lines};
 ghost use Rattle.dw_find.specs.SlotPaths.{lines_count};
 ghost use Rattle.dw_find.specs.MacroSections.{UnitsFoundIn};
 ghost use Rattle.dw_rewrite.specs.PushedBodies.{macros_count, names_body, one_body, pushed_bodies, slots_count, some_sections};
+ghost use Rattle.dw_rewrite.specs.NewLines.{LinesFail, LinesWritten};
 ghost use Rattle.dw_rewrite.specs.LineOffsets.{OffsetMisses, OffsetsMake, StartsKnown, line_offsets, line_record};
 ghost use Rattle.dw_rewrite.specs.NewOffsets.{AllPlacesFit, records_known};
 ghost use Rattle.dw_rewrite.specs.OffsetAddends.{AllMake, AllMiss};
@@ -35,7 +38,7 @@ use crate::new_places::NewPlaces;
 use crate::new_sections::{Body, new_sections};
 use crate::records::push_records;
 use crate::starts::NewStarts;
-use crate::tables::{NewTable, new_table};
+use crate::tables::{NewTables, new_tables};
 use dw_base::{DebugSection, Fault, Kind, OUTPUT_LIMIT, Refusal, TextSection};
 use dw_find::{MacroSection, SectionFields, starts_of, table_number};
 use dw_lines::{LineTable, NewTexts};
@@ -72,17 +75,12 @@ pub(crate) fn new_bodies<'a>(
     ensures refused { IfErr result (Blames (BodiesRefuse maps.now (debug_data view.now))) }
 {
     let old = starts_of(alloc, tables)?;
-    let NewTable { pool, new_offsets } = new_table(alloc, view, maps, TextSection::InStr, paths)?;
-    let NewTable {
-        pool: line_pool,
-        new_offsets: line_offsets,
-    } = new_table(alloc, view, maps, TextSection::InLineStr, paths)?;
-    let texts = NewTexts::new(new_offsets, line_offsets);
-    let lines = new_lines(alloc, view, maps, &texts, tables)?;
-    if lines.bytes.len() as u64 > OUTPUT_LIMIT {
-        return Err(Fault::Refused(long_lines(view)));
-    }
-    let NewLines { bytes, starts: new } = lines;
+    let NewTables {
+        pool,
+        line_pool,
+        texts,
+    } = new_tables(alloc, view, maps, paths)?;
+    let NewLines { bytes, starts: new } = limited_lines(alloc, view, maps, &texts, tables)?;
     let starts = NewStarts::new(old.as_slice(), new.as_slice());
     let places = NewPlaces { texts, starts };
     let mut bodies = table_bodies(alloc, view, pool, line_pool)?;
@@ -111,6 +109,27 @@ pub(crate) fn new_bodies<'a>(
         &mut bodies,
     )?;
     Ok(bodies)
+}
+
+/// The line tables of the view with mapped paths, from the new places of texts that are known by their old ones. Refused
+/// where one can't be written, and as `TooLarge`, at the section, where they would be longer than a file that is written.
+fn limited_lines(
+    alloc: Global,
+    view: &View,
+    maps: &Maps,
+    new_texts: &NewTexts,
+    tables: &[LineTable],
+) -> Result<NewLines, Fault>
+    requires tables { TablesFound view.now tables.now }
+    ensures written { IfOk result (λ n. LinesWritten maps.now (line_source (debug_data view.now)) (texts_known new_texts.now Str) (texts_known new_texts.now LineStr) tables.now n.bytes.items n.starts.items) }
+    ensures small { IfOk result (λ n. length n.bytes.items ≤ output_limit) }
+    ensures refused { IfErr result (Blames (LinesFail maps.now (line_source (debug_data view.now)) (texts_known new_texts.now Str) (texts_known new_texts.now LineStr) tables.now)) }
+{
+    let lines = new_lines(alloc, view, maps, new_texts, tables)?;
+    if lines.bytes.len() as u64 > OUTPUT_LIMIT {
+        return Err(Fault::Refused(long_lines(view)));
+    }
+    Ok(lines)
 }
 
 /// The tables of texts with their new bytes.

@@ -7,13 +7,17 @@ ghost use Rattle.std.specs.HashMap.{get};
 ghost use Rattle.dw_base.specs.LayoutFails.{TooLong};
 ghost use Rattle.dw_base.specs.Refusals.{Blames};
 ghost use Rattle.dw_base.specs.StringTables.{table_bytes};
+ghost use Rattle.dw_base.specs.declared.debug_sections.DebugSection.TheVariants.{LineStr, Str};
+ghost use Rattle.dw_base.specs.declared.texts.TextSection.TheVariants.{InLineStr, InStr};
 ghost use Rattle.dw_find.specs.ViewFields.{AllHaveOffsets, HasOffsets, fields_of, table_number};
-ghost use Rattle.dw_rewrite.specs.NewTables.{GrownBy, Growing, LongTable, TableMade, all_texts_at, fault_at, section_texts_at, source_in, table_with};
+ghost use Rattle.dw_lines.specs.NewTexts.{texts_known};
+ghost use Rattle.dw_rewrite.specs.NewTables.{GrownBy, Growing, LongTable, TableMade, TablesRefuse, all_texts_at, fault_at, section_texts_at, source_in, table_with};
 
 use crate::change::note_fields;
 use crate::sources::FieldSource;
 use dw_base::{DebugSection, Fault, Refusal, TextField, TextSection};
 use dw_find::{SectionFields, table_number, table_texts};
+use dw_lines::NewTexts;
 use dw_paths::Maps;
 use dw_strings::Pool;
 use dw_view::View;
@@ -48,19 +52,56 @@ pub(crate) fn text_source<'v, 'f>(
     )
 }
 
+/// Both tables of texts as they have grown, and the new places of the paths in them by their old ones.
+#[derive(Drop)]
+pub(crate) struct NewTables {
+    /// `.debug_str`.
+    pub pool: Pool,
+    /// `.debug_line_str`.
+    pub line_pool: Pool,
+    /// The new places.
+    pub texts: NewTexts,
+}
+
+/// Both tables with the mapped paths of all these sections. Refused as `TooLarge`, at its section, where one would be
+/// longer than a file that is written.
+pub(crate) fn new_tables(
+    alloc: Global,
+    view: &View,
+    maps: &Maps,
+    paths: &[SectionFields],
+) -> Result<NewTables, Fault>
+    requires paths { AllHaveOffsets view.now paths.now }
+    ensures str { IfOk result (λ t. TableMade maps.now view.now InStr paths.now t.pool (texts_known t.texts Str)) }
+    ensures line_str { IfOk result (λ t. TableMade maps.now view.now InLineStr paths.now t.line_pool (texts_known t.texts LineStr)) }
+    ensures refused { IfErr result (Blames (TablesRefuse maps.now view.now paths.now)) }
+{
+    let NewTable { pool, new_offsets } = new_table(alloc, view, maps, TextSection::InStr, paths)?;
+    let NewTable {
+        pool: line_pool,
+        new_offsets: line_offsets,
+    } = new_table(alloc, view, maps, TextSection::InLineStr, paths)?;
+    let texts = NewTexts::new(new_offsets, line_offsets);
+    Ok(NewTables {
+        pool,
+        line_pool,
+        texts,
+    })
+}
+
 /// A table of texts that has grown, and the new places of the paths in it by their old offsets.
 #[derive(Drop)]
-pub(crate) struct NewTable {
+struct NewTable {
     /// The table.
-    pub pool: Pool,
+    pool: Pool,
     /// The new places.
-    pub new_offsets: HashMap<u64, u64>,
+    new_offsets: HashMap<u64, u64>,
 }
 
 /// A table with the mapped paths of all these sections. Refused as `TooLarge`, at its section, where it would
 /// be longer than a file that is written.
 #[tactic(auto, using(crate::proofs::GrowthLaws::table_rules))]
-pub(crate) fn new_table(
+fn new_table(
     alloc: Global,
     view: &View,
     maps: &Maps,

@@ -1,42 +1,27 @@
 -- The new bodies are those of the readings; line tables that can't be written, or are too long, are rows.
-use Rattle.std.proofs.Common.{ℕ, List, ap, ◌∙◌, ◌<◌, ◌≤◌, length, arith}
+use Rattle.std.proofs.Common.{ℕ, List, ap, ◌∙◌}
 use Rattle.std.proofs.lemmas.Result.{err_from_is_err_and}
-use Rattle.dw_base.specs.Layout.{output_limit}
-use Rattle.dw_base.specs.declared.texts.TextSection.TheVariants.{InStr, InLineStr}
-use Rattle.dw_rewrite.proofs.BodyRowLaws.{lines-fault, long-fault, long-lines, relocations-fault}
+use Rattle.dw_rewrite.proofs.BodyRowLaws.{lines-fault, relocations-fault, tables-fault}
 use Rattle.dw_rewrite.proofs.FileMadeLaws.{known-here, made, pushed-behind}
-use Rattle.dw_rewrite.proofs.MadeBodyLaws.{have-offsets, known-made, lines-among, slices-fit, some-among}
+use Rattle.dw_rewrite.proofs.MadeBodyLaws.{have-offsets, lines-among, slices-fit, some-among}
 use Rattle.dw_rewrite.proofs.bodies.new_bodies.Goals as goal
 
 pub returns-in_err-pool-clause-refused : goal.returns-in_err-pool-clause-refused
 returns-in_err-pool-clause-refused c =
     let p = err_from_is_err_and c.from_residual-in_err-pool.result c.from_residual-in_err-pool.ensures.1 in
-    rw (p.1, p.2) (long-fault c.args.maps.now c.args.view.now InStr c.args.paths.now c.args.tables.now c.in_err-pool.field-0.0 c.requires.found c.in_err-pool.ensures.refused)
+    rw (p.1, p.2) (tables-fault c.args.maps.now c.args.view.now c.args.paths.now c.args.tables.now c.in_err-pool.field-0.0 c.requires.found c.in_err-pool.ensures.refused)
 
-pub returns-in_err-line_pool-clause-refused : goal.returns-in_err-line_pool-clause-refused
-returns-in_err-line_pool-clause-refused c =
-    let p = err_from_is_err_and c.from_residual-in_err-line_pool.result c.from_residual-in_err-line_pool.ensures.1 in
-    rw (p.1, p.2) (long-fault c.args.maps.now c.args.view.now InLineStr c.args.paths.now c.args.tables.now c.in_err-line_pool.field-0.0 c.requires.found c.in_err-line_pool.ensures.refused)
-
-pub returns-in_err-lines-clause-refused : goal.returns-in_err-lines-clause-refused
-returns-in_err-lines-clause-refused c =
-    let p = err_from_is_err_and c.from_residual-in_err-lines.result c.from_residual-in_err-lines.ensures.1 in
-    rw (p.1, p.2) (lines-fault c.args.maps.now c.args.view.now c.args.paths.now c.args.tables.now _ _ _ _ c.in_err-lines.field-0.0 c.requires.found (known-made c.new-texts.ensures.str c.in_ok-pool.ensures.made)
-    (known-made c.new-texts.ensures.line_str c.in_ok-line_pool.ensures.made) c.in_err-lines.ensures.refused)
-
-pub returns-then-len-gt-OUTPUT_LIMIT-clause-refused :
-    goal.returns-then-len-gt-OUTPUT_LIMIT-clause-refused
-returns-then-len-gt-OUTPUT_LIMIT-clause-refused c =
-    let over : output_limit < length c.in_ok-lines.lines.bytes.items = omega (arith, c.len.ensures, c.in_ok-lines.lines.bytes.ok.0) in
-    long-lines c.args.maps.now c.args.view.now c.args.paths.now c.args.tables.now _ _ _ _ c.in_ok-lines.lines.bytes.items c.in_ok-lines.lines.starts.items c.long_lines.result
-    c.requires.found (known-made c.new-texts.ensures.str c.in_ok-pool.ensures.made) (known-made c.new-texts.ensures.line_str c.in_ok-line_pool.ensures.made) c.in_ok-lines.ensures.written over c.long_lines.ensures
+pub returns-in_err-bytes-clause-refused : goal.returns-in_err-bytes-clause-refused
+returns-in_err-bytes-clause-refused c =
+    let p = err_from_is_err_and c.from_residual-in_err-bytes.result c.from_residual-in_err-bytes.ensures.1 in
+    rw (p.1, p.2) (lines-fault c.args.maps.now c.args.view.now c.args.paths.now c.args.tables.now _ _ _ _ c.in_err-bytes.field-0.0 c.requires.found c.in_ok-pool.ensures.str
+    c.in_ok-pool.ensures.line_str c.in_err-bytes.ensures.refused)
 
 pub new-starts-requires : goal.new-starts-requires
 new-starts-requires c =
-    let small : length c.in_ok-lines.lines.bytes.items ≤ output_limit = omega (arith, c.len.ensures, c.in_ok-lines.lines.bytes.ok.0) in
     record {
-      fit = slices-fit c.args.maps.now c.args.view.now c.args.paths.now c.args.tables.now _ _ c.in_ok-lines.lines.bytes.items c.in_ok-lines.lines.starts.items c.in_ok-old.old.items
-          c.as_slice.result.now c.as_slice-2.result.now c.requires.found c.in_ok-lines.ensures.written c.in_ok-old.ensures c.as_slice.ensures.value c.as_slice-2.ensures.value small;
+      fit = slices-fit c.args.maps.now c.args.view.now c.args.paths.now c.args.tables.now _ _ c.in_ok-bytes.field-0.bytes.items c.in_ok-bytes.field-0.starts.items c.in_ok-old.old.items
+          c.as_slice.result.now c.as_slice-2.result.now c.requires.found c.in_ok-bytes.ensures.written c.in_ok-old.ensures c.as_slice.ensures.value c.as_slice-2.ensures.value c.in_ok-bytes.ensures.small;
     }
 
 pub without_lines-sections-requires : goal.without_lines-sections-requires
@@ -59,24 +44,23 @@ push_relocations-requires-clause-left c = c.requires.found.relocations.left
 
 pub push_relocations-requires-clause-starts : goal.push_relocations-requires-clause-starts
 push_relocations-requires-clause-starts c =
-    let small : length c.in_ok-lines.lines.bytes.items ≤ output_limit = omega (arith, c.len.ensures, c.in_ok-lines.lines.bytes.ok.0) in
-    known-here c.args.maps.now _ _ _ c.args.tables.now c.in_ok-lines.lines.bytes.items c.in_ok-lines.lines.starts.items c.as_slice-3.result.now c.in_ok-lines.ensures.written
-    small c.as_slice-3.ensures.value
+    known-here c.args.maps.now _ _ _ c.args.tables.now c.in_ok-bytes.field-0.bytes.items c.in_ok-bytes.field-0.starts.items c.as_slice-3.result.now c.in_ok-bytes.ensures.written
+    c.in_ok-bytes.ensures.small c.as_slice-3.ensures.value
 
 pub returns-in_err-push_relocations-clause-refused : goal.returns-in_err-push_relocations-clause-refused
 returns-in_err-push_relocations-clause-refused c =
     let p = err_from_is_err_and c.from_residual-in_err-push_relocations.result c.from_residual-in_err-push_relocations.ensures.1 in
     rw (p.1, p.2) (relocations-fault c.args.maps.now c.args.sources.now c.args.view.now c.args.paths.now c.without_lines-sections.result.now c.args.tables.now _ _ _ _
-    c.in_ok-lines.lines.bytes.items c.in_ok-lines.lines.starts.items c.as_slice.result.now c.new-starts.result c.in_err-push_relocations.field-0.0 c.requires.view c.requires.found
-    (known-made c.new-texts.ensures.str c.in_ok-pool.ensures.made) (known-made c.new-texts.ensures.line_str c.in_ok-line_pool.ensures.made) c.in_ok-lines.ensures.written (c.as_slice.ensures.value ∙ c.in_ok-old.ensures)
+    c.in_ok-bytes.field-0.bytes.items c.in_ok-bytes.field-0.starts.items c.as_slice.result.now c.new-starts.result c.in_err-push_relocations.field-0.0 c.requires.view c.requires.found
+    c.in_ok-pool.ensures.str c.in_ok-pool.ensures.line_str c.in_ok-bytes.ensures.written (c.as_slice.ensures.value ∙ c.in_ok-old.ensures)
     (c.new-starts.ensures ∙ ap (λ (xs : List ℕ). record { old = c.as_slice.result.now; new = xs }) c.as_slice-2.ensures.value) c.without_lines-sections.ensures
     c.in_err-push_relocations.ensures.refused)
 
 pub returns-clause-made : goal.returns-clause-made
 returns-clause-made c =
-    made c.args.maps.now c.args.sources.now c.args.view.now c.args.paths.now c.without_lines-sections.result.now c.args.tables.now _ _ _ _ c.in_ok-lines.lines.bytes.items
-    c.in_ok-lines.lines.starts.items c.as_slice.result.now c.new-starts.result _ _ c.requires.view c.requires.relocations c.requires.found (known-made c.new-texts.ensures.str c.in_ok-pool.ensures.made)
-    (known-made c.new-texts.ensures.line_str c.in_ok-line_pool.ensures.made) c.in_ok-lines.ensures.written (c.as_slice.ensures.value ∙ c.in_ok-old.ensures)
+    made c.args.maps.now c.args.sources.now c.args.view.now c.args.paths.now c.without_lines-sections.result.now c.args.tables.now _ _ _ _ c.in_ok-bytes.field-0.bytes.items
+    c.in_ok-bytes.field-0.starts.items c.as_slice.result.now c.new-starts.result _ _ c.requires.view c.requires.relocations c.requires.found c.in_ok-pool.ensures.str
+    c.in_ok-pool.ensures.line_str c.in_ok-bytes.ensures.written (c.as_slice.ensures.value ∙ c.in_ok-old.ensures)
     (c.new-starts.ensures ∙ ap (λ (xs : List ℕ). record { old = c.as_slice.result.now; new = xs }) c.as_slice-2.ensures.value) c.lines_body-lines.ensures
     c.without_lines-sections.ensures c.in_ok-push_relocations.ensures.makes c.in_ok-push_relocations.ensures.line_makes
     (pushed-behind _ _ _ _ _ _ _ c.in_ok-bodies.ensures.bodies c.in_ok-push_bodies.ensures.bodies c.in_ok-push_relocations.ensures.bodies)
