@@ -11,7 +11,7 @@ use Rattle.dw_base.specs.declared.units.UnitHeader.{UnitHeader}
 use Rattle.dw_base.specs.declared.values.Spec.{Spec}
 use Rattle.dw_base.proofs.LebLaws.{uleb-inside}
 use Rattle.dw_entries.specs.ScanStates.{ScanState, HasGiven, GivesEntry, GivesRefusal, GivesNothing, Gives, scan_start}
-use Rattle.dw_meaning.proofs.EntryRowLaws.{entries-exclude}
+use Rattle.dw_meaning.proofs.EntryRowLaws.{entries-exclude, spells-end}
 use Rattle.dbg_show.specs.ShownUnits.{entry_ended, entry_met, code_met, entries_left, unit_entries}
 use Rattle.dw_base.proofs.LebLaws.{uleb-some}
 
