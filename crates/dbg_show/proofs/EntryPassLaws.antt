@@ -1,5 +1,5 @@
 -- A pass over a unit that can be read: its entries are few, and it gives no refusal (DWARF 5, 7.5.3).
-use Rattle.std.proofs.Common.{◌≡◌, ℕ, ◌+◌, ◌<◌, ◌≤◌, ◌^◌, List, ◌∷◌, length, take, refl, subst, arith}
+use Rattle.std.proofs.Common.{◌≡◌, ℕ, ◌≤◌, ◌^◌, List, length, take, refl, subst, arith}
 use Rattle.std.proofs.lemmas.List.{length-take}
 use Rattle.dw_base.specs.AbbreviationTables.{Abbreviation}
 use Rattle.dw_base.specs.Cells.{bytes_of}
