@@ -1,0 +1,12 @@
+pub mod ShapeLaws
+pub mod ShapeThereLaws
+pub mod ChainLaws
+pub mod WalkLaws
+pub mod ScanLaws
+pub mod NextLaws
+pub mod StepLaws
+pub mod KnownLaws
+pub mod NumberLaws
+pub mod MarkRowLaws
+pub mod ForestLaws
+pub mod OrderLaws
