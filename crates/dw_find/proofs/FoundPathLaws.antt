@@ -51,12 +51,12 @@ use Rattle.dw_offsets.specs.SlotMarks.{AreMarks}
 use Rattle.dw_offsets.proofs.NamePieceLaws.{NamesRead, names-read}
 use Rattle.dw_offsets.proofs.OffsetPieceLaws.{contributions-read}
 use Rattle.dw_offsets.proofs.SlotPieceLaws.{SlotsAround, SlotsSay, SlotsFail, slot_fails, shared_fails, offset_fails, slots-fail, slots-say}
-use Rattle.dw_find.specs.FoundPaths.{PathsFound, PathsRefuse, SlotsFound, UnitPathsRefuse, UnitsFound, without_lines}
+use Rattle.dw_find.specs.FoundPaths.{PathsFound, PathsRefuse, SlotsFound, UnitPathsRefuse, UnitsFound, UnitsNamed, without_lines}
 use Rattle.dw_find.specs.FoundPaths.PathsRefuse.{units, starts, inline, string_tables, name_tables, name_offsets, relocations, slots, shared}
 use Rattle.dw_find.specs.FoundPaths.UnitPathsRefuse.{texts as refused_texts, inline as refused_inline}
 use Rattle.dw_find.specs.Fields.{IsOffsetField}
 use Rattle.dw_find.specs.IndexedTexts.{SlotsMarked, TablesStart, TextsIndexed, UnitsStart, indexing_with}
-use Rattle.dw_find.specs.MacroNames.{MacrosName, MacrosStray}
+use Rattle.dw_find.specs.MacroNames.{MacrosStray}
 use Rattle.dw_find.specs.MacroSections.{SectionUnits, UnitsFoundIn, macros_of, macros_read}
 use Rattle.dw_find.specs.IndexedTexts.TextsRefuse.{units as texts_units, starts as texts_starts, index as texts_index}
 use Rattle.dw_find.specs.NamedSlots.{LieWithin}
@@ -343,9 +343,6 @@ tables-start v ts first found is = record {
   is = is ∙ ap starts_of found.is ∙ read-starts (line_source (debug_data v)) found.readings;
 }
 
-pub slice-start : (v : View) (ts : List LineTable) (first slice : List ℕ) → TablesFound v ts → first ≡ starts_of ts → slice ≡ first → TablesStart (debug_data v) slice
-slice-start v ts first slice found is same = tables-start v ts slice found (same ∙ is)
-
 -- all of it but its relocations
 record PathsRead (m : PathMap) (v : View) (us : List SectionFields) (ts : List LineTable) : Type 0 where
   readings : DataReadings
@@ -358,23 +355,22 @@ record PathsRead (m : PathMap) (v : View) (us : List SectionFields) (ts : List L
   is : us ≡ ((paths_of readings.units ++ slots_read v readings) ++ macros_read readings.macros) ++ lines_of_view v ts
   tables : ts ≡ tables_read (line_source (debug_data v)) readings.lines
 
-paths-read : (m : PathMap) (v : View) (list : List Contribution) (marks first slice again : List ℕ) (places : UnitPlaces) (tables : List NameTable) (ts : List LineTable) (ss : List SectionUnits)
-    (us with_slots with_macros all : List SectionFields) → AreContributions v.order (string_offsets v) list → AreRead v tables → TablesFound v ts → first ≡ starts_of ts → slice ≡ first
-    → again ≡ first → UnitsFoundIn v ss → UnitsStart (debug_data v) places → UnitsFound m (debug_data v) slice places us → TextsIndexed (debug_data v) list marks
-    → MacrosName v again places ss → SlotsFound m v list marks us with_slots → with_macros ≡ with_slots ++ macros_of ss → all ≡ with_macros ++ lines_of_view v ts → PathsRead m v all ts
-unfolding slice-start tables-start
-paths-read m v list marks first slice again places tables ts ss us with_slots with_macros all are named lines starts_are same once units_are units_start_at found indexed names
-    slots_found macros_is all_is =
-    let p : Parts m v list marks slice us tables = parts-of m v list marks slice places us tables are named found indexed in
-    let here : MacrosName v slice places ss = subst (λ (l : List ℕ). MacrosName v l places ss) (once ∙ sym same) names in
-    let macros : SectionsRead v (PieceNames (debug_data v) slice places) ((debug_data v).found Macro) ss =
-    sections-read v (PieceNames (debug_data v) slice places) ((debug_data v).found Macro) ss (holds-else (debug_data v) slice places) (asked-of v slice places ss (first-number v places units_start_at) units_are here) in
+paths-read : (m : PathMap) (v : View) (list : List Contribution) (marks starts_ : List ℕ) (tables : List NameTable) (ts : List LineTable) (ss : List SectionUnits)
+    (us with_slots with_macros all : List SectionFields) → AreContributions v.order (string_offsets v) list → AreRead v tables → TablesFound v ts → starts_ ≡ starts_of ts
+    → UnitsFoundIn v ss → UnitsNamed m v list starts_ ss marks us → SlotsFound m v list marks us with_slots → with_macros ≡ with_slots ++ macros_of ss
+    → all ≡ with_macros ++ lines_of_view v ts → PathsRead m v all ts
+unfolding tables-start
+paths-read m v list marks starts_ tables ts ss us with_slots with_macros all are named lines starts_are units_are n slots_found macros_is all_is =
+    let p : Parts m v list marks starts_ us tables = parts-of m v list marks starts_ n.places us tables are named n.found n.indexed in
+    let macros : SectionsRead v (PieceNames (debug_data v) starts_ n.places) ((debug_data v).found Macro) ss =
+    sections-read v (PieceNames (debug_data v) starts_ n.places) ((debug_data v).found Macro) ss (holds-else (debug_data v) starts_ n.places)
+    (asked-of v starts_ n.places ss (first-number v n.places n.start) units_are n.named) in
     let i = indexes-read v list p.found.readings p.offsets lines.readings macros.readings p.names.pieces p.found.reads in
     let around = slots-around v list marks p.found.readings p.offsets lines.readings macros.readings p.names.pieces p.marked in
     let same_list = contributions-around v list p.found.readings p.offsets lines.readings macros.readings p.names.pieces in
-    let start_is : slice ≡ table_starts lines.readings = (slice-start v ts first slice lines starts_are same).is in
-    let units_start : PlacesStart places (macro_places (debug_data v) (readings_with p.found.readings p.offsets.pieces lines.readings macros.readings p.names.pieces)) =
-    places-start v places (readings_with p.found.readings p.offsets.pieces lines.readings macros.readings p.names.pieces) units_start_at (macros-order v macros.readings macros.reads) in
+    let start_is : starts_ ≡ table_starts lines.readings = (tables-start v ts starts_ lines starts_are).is in
+    let units_start : PlacesStart n.places (macro_places (debug_data v) (readings_with p.found.readings p.offsets.pieces lines.readings macros.readings p.names.pieces)) =
+    places-start v n.places (readings_with p.found.readings p.offsets.pieces lines.readings macros.readings p.names.pieces) n.start (macros-order v macros.readings macros.reads) in
     let say : SlotsSay m (around_of (debug_data v) (readings_with p.found.readings p.offsets.pieces lines.readings macros.readings p.names.pieces)) p.offsets.pieces slots_found.fields =
     slots-say m (around_of (debug_data v) (readings_with p.found.readings p.offsets.pieces lines.readings macros.readings p.names.pieces)) (slots_in v) (string_cells v) p.offsets.pieces marks
     slots_found.fields around (subst (λ (cs_ : List Contribution). SlotsTaken m (slots_in v) marks (slots_of cs_) [] slots_found.fields) (sym same_list) slots_found.taken) in
@@ -389,11 +385,11 @@ paths-read m v list marks first slice again places tables ts ss us with_slots wi
     let have : AllHavePlaces v with_macros =
     subst (AllHavePlaces v) (sym is)
     (have-macros v (us ++ slots_read v (readings_with p.found.readings p.offsets.pieces lines.readings macros.readings p.names.pieces)) macros.readings
-    (places-append v us (slots_read v (readings_with p.found.readings p.offsets.pieces lines.readings macros.readings p.names.pieces)) (places-each v us (all-facts v [] ((debug_data v).found Info) us refl found.placed)) (slots-places v (readings_with p.found.readings p.offsets.pieces lines.readings macros.readings p.names.pieces) i.offsets)) macros.reads) in
+    (places-append v us (slots_read v (readings_with p.found.readings p.offsets.pieces lines.readings macros.readings p.names.pieces)) (places-each v us (all-facts v [] ((debug_data v).found Info) us refl n.found.placed)) (slots-places v (readings_with p.found.readings p.offsets.pieces lines.readings macros.readings p.names.pieces) i.offsets)) macros.reads) in
     let rooms : AllRoomsFit m v with_macros =
     subst (AllRoomsFit m v) (sym is)
     (rooms-macros m v (us ++ slots_read v (readings_with p.found.readings p.offsets.pieces lines.readings macros.readings p.names.pieces)) macros.readings
-    (rooms-each m v [] ((debug_data v).found Info) us (slots_read v (readings_with p.found.readings p.offsets.pieces lines.readings macros.readings p.names.pieces)) refl found.placed found.fits (slots-rooms m v (section_named v (name_of StrOffsets)) (read_fields (debug_data v) (readings_with p.found.readings p.offsets.pieces lines.readings macros.readings p.names.pieces))))) in
+    (rooms-each m v [] ((debug_data v).found Info) us (slots_read v (readings_with p.found.readings p.offsets.pieces lines.readings macros.readings p.names.pieces)) refl n.found.placed n.found.fits (slots-rooms m v (section_named v (name_of StrOffsets)) (read_fields (debug_data v) (readings_with p.found.readings p.offsets.pieces lines.readings macros.readings p.names.pieces))))) in
     record {
       readings = readings_with p.found.readings p.offsets.pieces lines.readings macros.readings p.names.pieces;
       reads = record {
@@ -402,25 +398,25 @@ paths-read m v list marks first slice again places tables ts ss us with_slots wi
         lines = lines.reads;
         macros = macros-order v macros.readings macros.reads;
         names = names-cells v p.names.pieces p.names.reads;
-        texts = p.found.names (readings_with p.found.readings p.offsets.pieces lines.readings macros.readings p.names.pieces) slice places start_is found.named;
+        texts = p.found.names (readings_with p.found.readings p.offsets.pieces lines.readings macros.readings p.names.pieces) starts_ n.places start_is n.found.named;
         slot_texts = say.texts;
-        macro_texts = macro-texts v (readings_with p.found.readings p.offsets.pieces lines.readings macros.readings p.names.pieces) slice places macros.readings start_is macros.each;
+        macro_texts = macro-texts v (readings_with p.found.readings p.offsets.pieces lines.readings macros.readings p.names.pieces) starts_ n.places macros.readings start_is macros.each;
         name_texts = all-names v (readings_with p.found.readings p.offsets.pieces lines.readings macros.readings p.names.pieces) p.names.pieces p.names.texts;
         indexes = subst (λ (g : Indexing). EachUse (NamesSlot g) g.uses)
             (indexing-is v list p.found.readings p.offsets.pieces lines.readings macros.readings p.names.pieces p.offsets.list_is) p.marked.named;
-        forms = p.found.forms slice places found.named;
-        macro_values = p.found.units (around_of (debug_data v) (readings_with p.found.readings p.offsets.pieces lines.readings macros.readings p.names.pieces)).lasting slice places refl units_start found.named;
-        imports = macro-imports v (readings_with p.found.readings p.offsets.pieces lines.readings macros.readings p.names.pieces) slice places macros.readings units_start macros.each;
+        forms = p.found.forms starts_ n.places n.found.named;
+        macro_values = p.found.units (around_of (debug_data v) (readings_with p.found.readings p.offsets.pieces lines.readings macros.readings p.names.pieces)).lasting starts_ n.places refl units_start n.found.named;
+        imports = macro-imports v (readings_with p.found.readings p.offsets.pieces lines.readings macros.readings p.names.pieces) starts_ n.places macros.readings units_start macros.each;
       };
       inline = found-fits (debug_data v).base m 0 ((debug_data v).found Info) p.found.readings p.found.reads
-          (subst (AllFitRooms m ((debug_data v).found Info)) (sym p.found.says) found.fits);
+          (subst (AllFitRooms m ((debug_data v).found Info)) (sym p.found.says) n.found.fits);
       slots = say.fits;
       offsets = subst (AllHaveOffsets v) (sym all_is)
           (offsets-append v with_macros (lines_of_view v ts)
           (subst (AllHaveOffsets v) (sym is)
           (offsets-append v (us ++ slots_read v (readings_with p.found.readings p.offsets.pieces lines.readings macros.readings p.names.pieces)) (macros_read macros.readings)
           (offsets-append v us (slots_read v (readings_with p.found.readings p.offsets.pieces lines.readings macros.readings p.names.pieces))
-          (offsets-each v us (all-facts v [] ((debug_data v).found Info) us refl found.placed))
+          (offsets-each v us (all-facts v [] ((debug_data v).found Info) us refl n.found.placed))
           (slots-offsets-of v (readings_with p.found.readings p.offsets.pieces lines.readings macros.readings p.names.pieces) i.offsets say.texts))
           (offsets-macros v macros.readings (macros-have v macros.readings (all-cells v) macros.reads))))
           (lines-offsets v lines.readings ts lines.reads lines.is));
@@ -431,13 +427,13 @@ paths-read m v list marks first slice again places tables ts ss us with_slots wi
       tables = lines.is;
     }
 
-pub paths-found : (m : PathMap) (v : View) (list : List Contribution) (marks first slice again : List ℕ) (places : UnitPlaces) (tables : List NameTable) (ts : List LineTable) (ss : List SectionUnits)
+pub paths-found : (m : PathMap) (v : View) (list : List Contribution) (marks first slice : List ℕ) (tables : List NameTable) (ts : List LineTable) (ss : List SectionUnits)
     (us with_slots with_macros all : List SectionFields) → AreContributions v.order (string_offsets v) list → AreRead v tables → TablesFound v ts → first ≡ starts_of ts → slice ≡ first
-    → again ≡ first → UnitsFoundIn v ss → UnitsStart (debug_data v) places → UnitsFound m (debug_data v) slice places us → TextsIndexed (debug_data v) list marks
-    → MacrosName v again places ss → SlotsFound m v list marks us with_slots → with_macros ≡ with_slots ++ macros_of ss → all ≡ with_macros ++ lines_of_view v ts → LeftRelocationsRead (debug_data v) (moving_sections v) → PathsFound m v all ts
-paths-found m v list marks first slice again places tables ts ss us with_slots with_macros all are named lines starts_are same once units_are units_start_at found indexed names slots_found macros_is all_is rest =
+    → UnitsFoundIn v ss → UnitsNamed m v list slice ss marks us → SlotsFound m v list marks us with_slots → with_macros ≡ with_slots ++ macros_of ss
+    → all ≡ with_macros ++ lines_of_view v ts → LeftRelocationsRead (debug_data v) (moving_sections v) → PathsFound m v all ts
+paths-found m v list marks first slice tables ts ss us with_slots with_macros all are named lines starts_are same units_are n slots_found macros_is all_is rest =
     let r : PathsRead m v all ts =
-    paths-read m v list marks first slice again places tables ts ss us with_slots with_macros all are named lines starts_are same once units_are units_start_at found indexed names slots_found macros_is all_is in
+    paths-read m v list marks slice tables ts ss us with_slots with_macros all are named lines (same ∙ starts_are) units_are n slots_found macros_is all_is in
     record {
       readings = r.readings;
       reads = r.reads;
@@ -448,7 +444,7 @@ paths-found m v list marks first slice again places tables ts ss us with_slots w
       rooms = r.rooms;
       is = r.is;
       tables = r.tables;
-      relocations = record { headers = found.headers.all; values = values-left (debug_data v) r.readings (moving_sections v) r.reads rest; left = rest };
+      relocations = record { headers = n.found.headers.all; values = values-left (debug_data v) r.readings (moving_sections v) r.reads rest; left = rest };
     }
 
 -- why nothing was found
@@ -498,12 +494,12 @@ slots-row m v rs r i (slot_fails h) = slots (slot_row rs i h)
 slots-row m v rs r i (shared_fails h) = shared rs i h
 slots-row m v rs r i (offset_fails f is h) = relocations (left_slots rs.offsets i.offsets (offset_row f is (slots-use rs.offsets is.before is.behind f is.is) h))
 
-pub slots-fault : (m : PathMap) (v : View) (list : List Contribution) (marks first : List ℕ) (places : UnitPlaces) (tables : List NameTable) (us : List SectionFields) (f : Fault)
-    → AreContributions v.order (string_offsets v) list → AreRead v tables → UnitsFound m (debug_data v) first places us → TextsIndexed (debug_data v) list marks
+pub slots-fault : (m : PathMap) (v : View) (list : List Contribution) (starts_ : List ℕ) (ss : List SectionUnits) (marks : List ℕ) (tables : List NameTable) (us : List SectionFields) (f : Fault)
+    → AreContributions v.order (string_offsets v) list → AreRead v tables → UnitsNamed m v list starts_ ss marks us
     → Blames (SlotsRefuse m (slots_in v) marks (slots_of list)) f → Blames (PathsRefuse m v) f
-slots-fault m v list marks first places tables us NoMemory are named found indexed h = tt
-slots-fault m v list marks first places tables us (Refused r) are named found indexed h =
-    let p : Parts m v list marks first us tables = parts-of m v list marks first places us tables are named found indexed in
+slots-fault m v list starts_ ss marks tables us NoMemory are named n h = tt
+slots-fault m v list starts_ ss marks tables us (Refused r) are named n h =
+    let p : Parts m v list marks starts_ us tables = parts-of m v list marks starts_ n.places us tables are named n.found n.indexed in
     let same = contributions-around v list p.found.readings p.offsets [] [] p.names.pieces in
     slots-row m v (readings_with p.found.readings p.offsets.pieces [] [] p.names.pieces) r
     (indexes-read v list p.found.readings p.offsets [] [] p.names.pieces p.found.reads)
@@ -511,12 +507,12 @@ slots-fault m v list marks first places tables us (Refused r) are named found in
     (slots-around v list marks p.found.readings p.offsets [] [] p.names.pieces p.marked)
     (subst (λ (cs_ : List Contribution). SlotsRefuse m (slots_in v) marks (slots_of cs_) r) (sym same) h))
 
-pub macros-row : (m : PathMap) (v : View) (first slice again : List ℕ) (places : UnitPlaces) (ts : List LineTable) (ss : List SectionUnits) (us : List SectionFields) (r : Refusal)
-    → TablesFound v ts → first ≡ starts_of ts → again ≡ first → UnitsFoundIn v ss → UnitsStart (debug_data v) places → UnitsFound m (debug_data v) slice places us
-    → MacrosStray v again places ss r → PathsRefuse m v r
-macros-row m v first slice again places ts ss us r lines starts_are once units_are start found stray =
+pub macros-row : (m : PathMap) (v : View) (first : List ℕ) (places : UnitPlaces) (ss : List SectionUnits) (us : List SectionFields) (r : Refusal)
+    → TablesStart (debug_data v) first → UnitsFoundIn v ss → UnitsStart (debug_data v) places → UnitsFound m (debug_data v) first places us
+    → MacrosStray v first places ss r → PathsRefuse m v r
+macros-row m v first places ss us r tables_start units_are start found stray =
     let f : FoundReadings (debug_data v) 0 ((debug_data v).found Info) us = found-readings (debug_data v) 0 ((debug_data v).found Info) us found.placed in
-    starts (macros-fail v f.readings again places ss r f.reads (slice-start v ts first again lines starts_are once) start units_are stray)
+    starts (macros-fail v f.readings first places ss r f.reads tables_start start units_are stray)
 
 -- a slice of name tables
 pub tables-named : (v : View) (tables slice : List NameTable) → slice ≡ tables → AreNameTables v tables → AreNameTables v slice

@@ -166,4 +166,4 @@ unfolding debug_data
 tables-same v s l a b s_is l_is a_is b_is =
     ap (λ (x : Located). record { str = x; line_str = l }) (s_is ∙ a_is) ∙ ap (λ (x : Located). record { str = located v Str; line_str = x }) (l_is ∙ b_is)
 
-pub ruleset unit_rules = (units-found, placed-found, texts-fault, inline, tables-same)
+pub ruleset unit_rules = (units-found, placed-found, texts-fault, inline)

@@ -21,14 +21,15 @@ use Rattle.dw_base.specs.declared.fault.Refusal.{Refusal}
 use Rattle.dw_base.specs.declared.string_offsets.Contribution.{Contribution}
 use Rattle.dw_base.specs.NameOffsets.{NamesRefuse}
 use Rattle.dw_offsets.specs.PathSlots.{SlotsTaken, slots_in}
-use Rattle.dw_find.specs.IndexedTexts.{TextsRefuse}
+use Rattle.dw_find.specs.IndexedTexts.{TextsIndexed, TextsRefuse, UnitsStart}
 use Rattle.dw_find.specs.ViewFields.{AllHaveOffsets, AllHavePlaces, AllRoomsFit}
 use Rattle.dw_find.specs.SlotPaths.{lines_count, slots_of_view, slots_read}
 use Rattle.dw_find.specs.TextPlaces.{AllPlaced, AllFitRooms}
 use Rattle.dw_find.specs.NamedStarts.{AllStarts}
 use Rattle.dw_find.specs.SectionFields.{SectionFields, paths_of}
 use Rattle.dw_find.specs.UnitPlaces.{UnitPlaces}
-use Rattle.dw_find.specs.MacroSections.{macros_read}
+use Rattle.dw_find.specs.MacroNames.{MacrosName}
+use Rattle.dw_find.specs.MacroSections.{SectionUnits, macros_read}
 use Rattle.dw_find.specs.UnitTexts.{UnitsRefuse}
 use Rattle.dw_find.specs.ViewLines.{lines_of_view}
 use Rattle.dw_base.specs.UnitHeaders.{UnitSection}
@@ -51,6 +52,15 @@ pub record UnitsFound (m : PathMap) (d : DebugData) (starts : List ℕ) (places 
 pub data UnitPathsRefuse (m : PathMap) (d : DebugData) (list : List Contribution) : Refusal → Type 0 where
   texts : {r : Refusal} → TextsRefuse d list r → UnitPathsRefuse m d list r
   inline : {r : Refusal} → InlineFails m d r → UnitPathsRefuse m d list r
+
+-- they were taken with the slots that their values name, and each value of a macro unit that is to say where a line table or a macro unit
+-- starts names one too
+pub record UnitsNamed (m : PathMap) (v : View) (list : List Contribution) (starts : List ℕ) (ss : List SectionUnits) (marks : List ℕ) (us : List SectionFields) : Type 0 where
+  pub places : UnitPlaces
+  pub start : UnitsStart (debug_data v) places
+  pub found : UnitsFound m (debug_data v) starts places us
+  pub indexed : TextsIndexed (debug_data v) list marks
+  pub named : MacrosName v starts places ss
 
 -- what the slots say of paths was put behind what the units say
 pub record SlotsFound (m : PathMap) (v : View) (list : List Contribution) (marks : List ℕ) (old new : List SectionFields) : Type 0 where

@@ -1,6 +1,6 @@
 -- What a pass over the entries of units meets of texts: where they stand, each place with its role, and the values that name them by
 -- index (DWARF 5, 7.5.5, class string), or say where line tables and macro units start (DWARF 5, 3.1.1); and what these places say of source paths.
-use Rattle.std.specs.Prelude.{Bool, true, false, ◌≡◌, ℕ, ◌+◌, ◌-◌, ◌==◌, ◌||◌, if◌then◌else◌, List, [], ◌∷◌, ◌++◌, IsTrue, ⊤, Option, Some, None, length}
+use Rattle.std.specs.Prelude.{Bool, true, false, ◌≡◌, ℕ, ◌+◌, ◌-◌, ◌==◌, ◌||◌, List, [], ◌∷◌, ◌++◌, IsTrue, ⊤, Option, Some, None, length}
 use Rattle.dw_base.specs.AbbreviationTables.{Abbreviation}
 use Rattle.dw_base.specs.Cells.{Cell, Located, bytes_of, cells_at, located_cells, offset_of}
 use Rattle.dw_base.specs.DebugData.{DebugData}

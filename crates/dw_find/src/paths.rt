@@ -9,7 +9,7 @@ ghost use Rattle.dw_base.specs.StringOffsets.{AreContributions};
 ghost use Rattle.dw_base.specs.ViewData.{debug_data, string_offsets};
 ghost use Rattle.dw_offsets.specs.PathSlots.{SlotsRefuse, slots_in};
 ghost use Rattle.dw_lines.specs.ViewTables.{TablesFound};
-ghost use Rattle.dw_find.specs.FoundPaths.{PathsFound, PathsRefuse, SlotsFound, UnitPathsRefuse, UnitsFound};
+ghost use Rattle.dw_find.specs.FoundPaths.{PathsFound, PathsRefuse, SlotsFound, UnitPathsRefuse, UnitsFound, UnitsNamed};
 ghost use Rattle.dw_find.specs.IndexedTexts.{TablesStart, TextsIndexed, UnitsStart};
 ghost use Rattle.dw_find.specs.MacroSections.{UnitsFoundIn};
 ghost use Rattle.dw_find.specs.NamedSlots.{no_slots};
@@ -50,17 +50,38 @@ pub fn found_paths(
 {
     let list = contributions(alloc, view)?;
     let names = name_tables(alloc, view)?;
-    let marks = no_marks(alloc, view)?;
-    let mut slots = NamedSlots::new(&list, marks);
     let starts = starts_of(alloc, tables)?;
-    let places = UnitPlaces::new(alloc, view, macros)?;
-    let mut paths = unit_paths(alloc, view, maps, starts.as_slice(), &places, &mut slots)?;
-    macros_name(view, starts.as_slice(), &places, macros)?;
-    push_slots(alloc, view, maps, &list, &slots.marks, &mut paths)?;
+    let (marks, mut paths) = named_paths(alloc, view, maps, &list, starts.as_slice(), macros)?;
+    push_slots(alloc, view, maps, &list, &marks, &mut paths)?;
     push_macros(alloc, macros, &mut paths)?;
     push_lines(alloc, view, tables, &mut paths)?;
     check_fields(alloc, view, list.as_slice(), names.as_slice(), tables)?;
     Ok(paths)
+}
+
+/// What the unit sections say of paths, with the slots that their values name marked. What is to say where a line table
+/// starts, in units and in macro units, names one of these starts.
+#[tactic(auto, using(crate::proofs::FoundPathLaws::found_rules))]
+fn named_paths(
+    alloc: Global,
+    view: &View,
+    maps: &Maps,
+    list: &ContributionList,
+    starts: &[u64],
+    macros: &[MacroSection],
+) -> Result<(SlotMarks, Vec<SectionFields>), Fault>
+    requires contributions { AreContributions view.now.order (string_offsets view.now) list.now }
+    requires starts { TablesStart (debug_data view.now) starts.now }
+    requires macros { UnitsFoundIn view.now macros.now }
+    ensures named { IfOk result (λ found. UnitsNamed maps.now view.now list.now starts.now macros.now found.0 found.1.items) }
+    ensures refused { IfErr result (Blames (PathsRefuse maps.now view.now)) }
+{
+    let marks = no_marks(alloc, view)?;
+    let mut slots = NamedSlots::new(list, marks);
+    let places = UnitPlaces::new(alloc, view, macros)?;
+    let paths = unit_paths(alloc, view, maps, starts, &places, &mut slots)?;
+    macros_name(view, starts, &places, macros)?;
+    Ok((slots.marks, paths))
 }
 
 /// No slot of the section of string offsets is marked.
@@ -103,7 +124,6 @@ fn unit_paths(
 }
 
 /// The tables of texts of the view.
-#[tactic(auto, using(crate::proofs::FoundUnitLaws::unit_rules))]
 fn text_tables<'a>(view: &'a View) -> TextTables<'a>
     ensures { result ≡ texts_of (debug_data view.now) }
 {
