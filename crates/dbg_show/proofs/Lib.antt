@@ -5,6 +5,7 @@ pub mod RowTextLaws
 pub mod ListLaws
 pub mod FieldPlaceLaws
 pub mod PrintingLaws
+pub mod CallLaws
 pub mod LoopLaws
 pub mod MeaningLaws
 pub mod ForestTextLaws
