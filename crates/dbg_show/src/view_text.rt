@@ -273,7 +273,7 @@ fn show_tables<O: Sink>(
 /// and its rows; and its macro units, each with its events. Before the first byte is written all debug data are read: units and their
 /// entries, string offsets, name tables, line tables and macro units. Refused where they can't be, at the place: also where an offset or an
 /// index names no text, or a value no line table or no macro unit, or a relocation stands where none can be handled. Nothing was written then. The text goes out in pieces of a few thousand
-/// bytes and is never held whole; where the sink fails or memory is wanting, a first part of it went out.
+/// bytes; where the sink fails or memory is wanting, a first part of it went out.
 #[tactic(auto, using(crate::proofs::ReadLaws::show_laws))]
 pub fn show<O: Sink>(alloc: Global, view: &View, out: &mut O) -> Result<(), ShowErr>
     ensures shown { OnOk result (IsShown view.now (O.heard out.old) (O.heard out.new)) }
