@@ -1,5 +1,5 @@
 -- A journal by the maker of a plan carries out that plan.
-use Rattle.std.proofs.Common.{◌≡◌, ℕ, ◌+◌, Bool, true, List, length, ap, subst, ◌∙◌, Result}
+use Rattle.std.proofs.Common.{◌≡◌, ℕ, ◌+◌, Bool, true, List, length, ap, sym, subst, ◌∙◌, Result}
 use Rattle.std.specs.Prelude.{OnOk, IfErr, IsTrue, ⊤}
 use Rattle.dw_base.specs.declared.fault.Refusal.{Refusal}
 use Rattle.file_tree.specs.declared.node.Node.{Node}
@@ -21,8 +21,13 @@ use Rattle.work_journal.specs.Wanted.{Wanted}
 use Rattle.root_plan.specs.Makers.{plan_view, plan_makes}
 use Rattle.root_plan.specs.Verdicts.{JudgeView}
 use Rattle.root_run.specs.RunEnds.{JobRefuses}
-use Rattle.root_run.specs.Starts.{PlanRan, AreRunTexts, core_from}
+use Rattle.root_run.specs.declared.run_err.RunErr.{RunErr}
+use Rattle.root_run.specs.Starts.{PlanRan, PlanWent, AreRunTexts, core_from}
 use Rattle.root_run.specs.Wholes.{lists_of, finished_text, steps_of}
+
+-- the texts of a plan are those of the same plan
+pub texts-made : (q p : PlanData) (plan finished report : List ℕ) → q ≡ p → AreRunTexts p plan finished report → AreRunTexts q plan finished report
+texts-made q p plan finished report same texts = subst (λ (y : PlanData). AreRunTexts y plan finished report) (sym same) texts
 
 module _ {J : Type 0} (view : J → JudgeView) (edit_fails : J → List ℕ → Refusal → Type 0) (split_fails : J → List ℕ → List ℕ → Refusal → Type 0)
     (work : List ℕ) (in_flight : ℕ) (old new : Seen) (r : Result (Unit {0}) JournalErr) where
@@ -41,20 +46,31 @@ module _ {J : Type 0} (view : J → JudgeView) (edit_fails : J → List ℕ → 
       → PlanRan root work (view judge) (edit_fails judge) (split_fails judge) p in_flight c old new r
   plan-carried judge root p c x = record { ran = x.ran; cleared = x.cleared; blame = x.blame; stays = x.stays; mild = x.mild }
 
-  -- the maker's own parts are those that it was made of
-  pub carried : (a b : J) (mine root : List ℕ) (q p : PlanData) (d : CoreState) (fresh : Bool) (paths : List (List ℕ)) (plan finished lent report : List ℕ) (lists : List (List ℕ))
-      → a ≡ b → mine ≡ root → q ≡ p → d ≡ core_from fresh work paths (steps_of q) → AreRunTexts p plan finished report → lent ≡ finished → lists ≡ lists_of q
-      → Carried a mine q d (text_file plan) (end_nodes lists lent)
-      → PlanRan root work (view b) (edit_fails b) (split_fails b) p in_flight (core_from fresh work paths (steps_of p)) old new r
-  carried a b mine root q p d fresh paths plan finished lent report lists same_judge same_root same_plan core_is texts lent_is are x =
+  -- the texts and lists are those of the maker's plan
+  pub carried : (judge : J) (root : List ℕ) (p : PlanData) (c : CoreState) (plan finished lent report : List ℕ) (lists : List (List ℕ))
+      → AreRunTexts p plan finished report → lent ≡ finished → lists ≡ lists_of p → Carried judge root p c (text_file plan) (end_nodes lists lent)
+      → PlanRan root work (view judge) (edit_fails judge) (split_fails judge) p in_flight c old new r
+  carried judge root p c plan finished lent report lists texts lent_is are x =
       let put : text_file plan ≡ plan_node p = ap text_file texts.plan_is in
-      let same_core : d ≡ core_from fresh work paths (steps_of p) = core_is ∙ ap (λ (y : PlanData). core_from fresh work paths (steps_of y)) same_plan in
       let ends : end_nodes lists lent ≡ end_nodes (lists_of p) (finished_text p) =
-      ap (λ (ls : List (List ℕ)). end_nodes ls lent) (are ∙ ap lists_of same_plan) ∙ ap (end_nodes (lists_of p)) (lent_is ∙ texts.finished_is) in
-      plan-carried b root p (core_from fresh work paths (steps_of p))
-      (subst (λ (j : J). Carried j root p (core_from fresh work paths (steps_of p)) (plan_node p) (end_nodes (lists_of p) (finished_text p))) same_judge
-      (subst (λ (m : List ℕ). Carried a m p (core_from fresh work paths (steps_of p)) (plan_node p) (end_nodes (lists_of p) (finished_text p))) same_root
-      (subst (λ (y : PlanData). Carried a mine y (core_from fresh work paths (steps_of p)) (plan_node p) (end_nodes (lists_of p) (finished_text p))) same_plan
-      (subst (λ (k : CoreState). Carried a mine q k (plan_node p) (end_nodes (lists_of p) (finished_text p))) same_core
-      (subst (λ (n : Node). Carried a mine q d n (end_nodes (lists_of p) (finished_text p))) put
-      (subst (λ (ns : List Node). Carried a mine q d (text_file plan) ns) ends x))))))
+      ap (λ (ls : List (List ℕ)). end_nodes ls lent) are ∙ ap (end_nodes (lists_of p)) (lent_is ∙ texts.finished_is) in
+      plan-carried judge root p c
+      (subst (λ (n : Node). Carried judge root p c n (end_nodes (lists_of p) (finished_text p))) put
+      (subst (λ (ns : List Node). Carried judge root p c (text_file plan) ns) ends x))
+
+module _ {J : Type 0} (view : J → JudgeView) (edit_fails : J → List ℕ → Refusal → Type 0) (split_fails : J → List ℕ → List ℕ → Refusal → Type 0)
+    (work : List ℕ) (in_flight : ℕ) (old new : Seen) (result : Result (List ℕ) RunErr) where
+  abbrev Went : J → List ℕ → PlanData → CoreState → Type 0
+  Went judge root p c = PlanWent root work (view judge) (edit_fails judge) (split_fails judge) p in_flight c old new result
+
+  -- the maker's own parts are those that it was made of
+  pub went-made : (a b : J) (mine root : List ℕ) (q p : PlanData) (d : CoreState) (fresh : Bool) (paths : List (List ℕ))
+      → a ≡ b → mine ≡ root → q ≡ p → d ≡ core_from fresh work paths (steps_of q)
+      → PlanWent mine work (view a) (edit_fails a) (split_fails a) q in_flight d old new result
+      → PlanWent root work (view b) (edit_fails b) (split_fails b) p in_flight (core_from fresh work paths (steps_of p)) old new result
+  went-made a b mine root q p d fresh paths same_judge same_root same_plan core_is w =
+      let same_core : d ≡ core_from fresh work paths (steps_of p) = core_is ∙ ap (λ (y : PlanData). core_from fresh work paths (steps_of y)) same_plan in
+      subst (λ (j : J). Went j root p (core_from fresh work paths (steps_of p))) same_judge
+      (subst (λ (m : List ℕ). Went a m p (core_from fresh work paths (steps_of p))) same_root
+      (subst (λ (y : PlanData). Went a mine y (core_from fresh work paths (steps_of p))) same_plan
+      (subst (λ (k : CoreState). Went a mine q k) same_core w)))

@@ -27,10 +27,12 @@ use Rattle.root_plan.specs.Plans.{key_of}
 use Rattle.root_plan.specs.Roots.{work_folder}
 use Rattle.root_plan.specs.Walks.{AreWalked, WalkEnds}
 use Rattle.root_plan.proofs.LookLaws.{looked_none, looked_then}
+use Rattle.root_run.specs.declared.run_err.RunErr.{RunErr}
 use Rattle.root_run.specs.declared.run_err.RunErr.TheVariants as run
 use Rattle.root_run.specs.Begun.{Begun as begun}
 use Rattle.root_run.specs.RunEnds.{tree_run}
-use Rattle.root_run.specs.Starts.{SettledFirst, IsEarly, EndsEarly, HasOpened}
+use Rattle.root_run.specs.Starts.{SettledFirst, IsEarly, EndsEarly, HasOpened, FolderLooked, FolderEnds}
+use Rattle.root_run.specs.Starts.{FolderEnds as folder}
 use Rattle.root_run.specs.Starts.{EarlyEnds as early}
 
 -- the answer of an exit
@@ -136,40 +138,54 @@ walk-early root s old mid new e f l ends = record {
 pub memory-early : (root : List ℕ) (s : Settings) (old new : Seen) → SettledFirst old new → EndsEarly root s old new (run.Journal journal.NoMemory)
 memory-early root s old new f = record { early = first-early old new f; ends = early.no_memory }
 
-module _ (root work : List ℕ) (s : Settings) (key : RunKey) (given paths : List (List ℕ)) (old first_ mid new : Seen) (result : Result Opened JournalErr) (f : SettledFirst old first_)
-    (walk : Looked first_ mid) (walked : AreWalked (now_of first_) root paths) (work_is : work ≡ work_folder root) (key_is : key ≡ key_of s) (paths_are : given ≡ paths) (opens : Opens work given key mid result)
-    (looked : JournalLooked mid new result) where
+-- ### The work folder
+
+-- it was looked at by its name and the key of these words
+pub folder-looked : (root work : List ℕ) (s : Settings) (key : RunKey) (paths : List (List ℕ)) (old new : Seen) (result : Result Opened JournalErr) → work ≡ work_folder root → key ≡ key_of s
+    → Opens work paths key old result → JournalLooked old new result → FolderLooked root s paths old new result
+folder-looked root work s key paths old new result work_is key_is opens looked = record {
+  opens = subst (λ (k : RunKey). Opens (work_folder root) paths k old result) key_is (subst (λ (w : List ℕ). Opens w paths key old result) work_is opens);
+  looked = looked;
+}
+
+pub folder-is : (root : List ℕ) (s : Settings) (paths : List (List ℕ)) (old new : Seen) (r q : Result Opened JournalErr) → r ≡ q
+    → FolderLooked root s paths old new r → FolderLooked root s paths old new q
+folder-is root s paths old new r q is l = subst (λ (x : Result Opened JournalErr). FolderLooked root s paths old new x) is l
+
+-- of the same paths
+pub looked-of : (root : List ℕ) (s : Settings) (given paths : List (List ℕ)) (old new : Seen) (r : Result Opened JournalErr) → given ≡ paths
+    → FolderLooked root s given old new r → FolderLooked root s paths old new r
+looked-of root s given paths old new r same l = subst (λ (ps : List (List ℕ)). FolderLooked root s ps old new r) same l
+
+pub ends-of : (root : List ℕ) (s : Settings) (given paths : List (List ℕ)) (old new : Seen) (e : RunErr) → given ≡ paths
+    → FolderEnds root s given old new e → FolderEnds root s paths old new e
+ends-of root s given paths old new e same l = subst (λ (ps : List (List ℕ)). FolderEnds root s ps old new e) same l
+
+module _ (root : List ℕ) (s : Settings) (paths : List (List ℕ)) (old first_ mid new : Seen) (f : SettledFirst old first_)
+    (walk : Looked first_ mid) (walked : AreWalked (now_of first_) root paths) where
   at-mid : SettledFirst old mid
   at-mid = looked-first old first_ mid f walk
-
-  opens-here : Opens (work_folder root) paths (key_of s) mid result
-  opens-here =
-      subst (λ (k : RunKey). Opens (work_folder root) paths k mid result) key_is
-      (subst (λ (w : List ℕ). Opens w paths key mid result) work_is (subst (λ (ps : List (List ℕ)). Opens work ps key mid result) paths_are opens))
 
   walked-here : AreWalked (now_of old) root paths
   walked-here = subst (λ (m : Option TreeMap). AreWalked m root paths) (first-now old first_ f) walked
 
-  first-new : SettledFirst old new
-  first-new = looked-first old mid new at-mid (journal-looked mid new result looked)
+  first-new : (r : Result Opened JournalErr) → JournalLooked mid new r → SettledFirst old new
+  first-new r looked = looked-first old mid new at-mid (journal-looked mid new r looked)
 
-  rose : (e : JournalErr) → result ≡ Err e → e ≡ journal.Tree → IsErrOf result journal.Tree
-  rose e is same = is ∙ ap (λ (x : JournalErr). Err x) same
-
-  pub open-early : (e : JournalErr) → result ≡ Err e → EndsEarly root s old new (run.Journal e)
-  open-early e is = record {
-    early = first-early old new first-new;
-    ends = early.opening mid paths (first-tells old mid at-mid) (first-now old mid at-mid) walked-here
-        (subst (λ (x : Result Opened JournalErr). Opens (work_folder root) paths (key_of s) mid x) is opens-here)
-        (λ same. let more = looked.failed (rose e is same) in omega (arith, more, first-later old mid at-mid));
+  pub folder-early : (e : RunErr) → FolderEnds root s paths mid new e → EndsEarly root s old new e
+  folder-early e (folder.no_memory same) = memory-early root s old new (subst (λ (x : Seen). SettledFirst old x) (sym same) at-mid)
+  folder-early e (folder.opening {e = j} l) = record {
+    early = first-early old new (first-new (Err j) l.looked);
+    ends = early.opening mid paths (first-tells old mid at-mid) (first-now old mid at-mid) walked-here l.opens
+        (λ same. let more = l.looked.failed (ap (λ (x : JournalErr). Err x) same) in omega (arith, more, first-later old mid at-mid));
   }
 
-  pub open-found : (o : Opened) → result ≡ Ok o → HasOpened root s paths o old new
-  open-found o is = record {
-    first = first-new;
+  pub folder-found : (o : Opened) → FolderLooked root s paths mid new (Ok o) → HasOpened root s paths o old new
+  folder-found o l = record {
+    first = first-new (Ok o) l.looked;
     walked = walked-here;
     at = mid;
     at_tells = first-tells old mid at-mid;
     at_now = first-now old mid at-mid;
-    opens = subst (λ (x : Result Opened JournalErr). Opens (work_folder root) paths (key_of s) mid x) is opens-here;
+    opens = l.opens;
   }

@@ -21,6 +21,7 @@ use Rattle.work_journal.specs.Ending.{end_nodes}
 use Rattle.work_journal.specs.Finishing.{FinishRan, IsRun, plan_node}
 use Rattle.work_journal.specs.Keeps.{Keeps}
 use Rattle.work_journal.specs.Opening.{Opens}
+use Rattle.work_journal.specs.Opening.{Looked as JournalLooked}
 use Rattle.work_journal.specs.Planned.{AreSourcesApart}
 use Rattle.work_journal.specs.Rounds.{rounds_of}
 use Rattle.work_journal.specs.Runs.{IsGiven}
@@ -81,6 +82,16 @@ pub record HasOpened (root : List ℕ) (s : Settings) (paths : List (List ℕ)) 
   pub at_tells : at.tells ≡ old.tells
   pub at_now : now_of at ≡ now_of old
   pub opens : Opens (work_folder root) paths (key_of s) at (Ok o)
+
+-- the work folder of a root with these paths was looked at, and this came of it
+pub record FolderLooked (root : List ℕ) (s : Settings) (paths : List (List ℕ)) (old new : Seen) (result : Result Opened JournalErr) : Type 0 where
+  pub opens : Opens (work_folder root) paths (key_of s) old result
+  pub looked : JournalLooked old new result
+
+-- why it isn't known what it holds
+pub data FolderEnds (root : List ℕ) (s : Settings) (paths : List (List ℕ)) (old new : Seen) : RunErr → Type 0 where
+  no_memory : new ≡ old → FolderEnds root s paths old new (run.Journal journal.NoMemory)
+  opening : {e : JournalErr} → FolderLooked root s paths old new (Err e) → FolderEnds root s paths old new (run.Journal e)
 
 -- ### Journals
 

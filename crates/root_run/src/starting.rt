@@ -2,10 +2,10 @@
 //!
 //! This layer promises: the tree is settled and then only looked at.
 //! Read first: `specs/Starts.antt`.
-ghost use Rattle.std.specs.Prelude.{◌≡◌, map, IfOk, IfErr};
+ghost use Rattle.std.specs.Prelude.{◌≡◌, map, Ok, IfOk, IfErr};
 ghost use Rattle.std.specs.String.{string_bytes};
 ghost use Rattle.root_plan.specs.Roots.{work_folder};
-ghost use Rattle.root_run.specs.Starts.{HasOpened, EndsEarly};
+ghost use Rattle.root_run.specs.Starts.{HasOpened, EndsEarly, FolderLooked, FolderEnds};
 
 use crate::run_err::RunErr;
 use file_tree::Tree;
@@ -25,6 +25,24 @@ pub(crate) struct Start {
     pub(crate) opened: Opened,
 }
 
+/// The work folder of a root below which these paths stand, and what it holds of a run.
+fn open_folder<T: Tree>(
+    alloc: Global,
+    tree: &mut T,
+    root: &str,
+    present: &[String],
+    options: &Options,
+) -> Result<(String, Opened), RunErr>
+    ensures work { IfOk result (λ r. string_bytes r.0 ≡ work_folder root.now) }
+    ensures opened { IfOk result (λ r. FolderLooked root.now options.now (map string_bytes present.now) (T.seen tree.old) (T.seen tree.new) (Ok r.1)) }
+    ensures ends { IfErr result (FolderEnds root.now options.now (map string_bytes present.now) (T.seen tree.old) (T.seen tree.new)) }
+{
+    let work = work_folder(alloc, root)?;
+    let key = run_key(alloc, options)?;
+    let opened = open_work(alloc, tree, work.as_str(), present, &key)?;
+    Ok((work, opened))
+}
+
 /// Stores what an earlier start left, and looks what the root holds.
 pub(crate) fn open_root<T: Tree>(
     alloc: Global,
@@ -38,9 +56,7 @@ pub(crate) fn open_root<T: Tree>(
 {
     tree.settle()?;
     let present = walk(tree, root)?;
-    let work = work_folder(alloc, root)?;
-    let key = run_key(alloc, options)?;
-    let opened = open_work(alloc, tree, work.as_str(), &present, &key)?;
+    let (work, opened) = open_folder(alloc, tree, root, &present, options)?;
     Ok(Start {
         present,
         work,

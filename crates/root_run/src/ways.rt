@@ -7,7 +7,9 @@ ghost use Rattle.std.specs.String.{string_bytes};
 ghost use Rattle.journal_core.specs.Cores.{core_of};
 ghost use Rattle.work_journal.specs.Finishing.{IsStart};
 ghost use Rattle.work_journal.specs.declared.opening.Opened.TheVariants as opened;
-ghost use Rattle.root_run.specs.Wholes.{steps_of};
+ghost use Rattle.work_texts.specs.Lists.{bytes_of};
+ghost use Rattle.root_plan.specs.Makers.{plan_view};
+ghost use Rattle.root_run.specs.Wholes.{steps_of, lists_of};
 ghost use Rattle.root_run.specs.Starts.{AreRunTexts, ClearEnded, ClearRan, OpenedWent, PlanWent, core_from, report_of};
 
 use crate::run_err::RunErr;
@@ -79,6 +81,41 @@ fn first_core<M: Maker>(
     shown(alloc, work, present, maker)
 }
 
+/// Carries out the plan of a maker by a journal, from this core on.
+fn carry_out<T: Tree, J: Judge + Drop>(
+    alloc: Global,
+    tree: &mut T,
+    core: Core,
+    work: &str,
+    present: &[String],
+    maker: RootMaker<J>,
+    jobs: u8,
+    texts: Texts,
+    lists: [Vec<u8>; 3],
+) -> Result<Blob, RunErr>
+    requires some { 0 < jobs }
+    requires most { jobs ≤ 64 }
+    requires start { IsStart (plan_view (string_bytes maker.root) maker.plan.jobs) (core_of core) }
+    requires texts { AreRunTexts maker.plan texts.plan.items texts.finished.items texts.report }
+    requires lists { map bytes_of lists ≡ lists_of maker.plan }
+    ensures went { PlanWent (string_bytes maker.root) work.now (J.view maker.judge) (J.edit_fails maker.judge) (J.split_fails maker.judge) maker.plan jobs (core_of core) (T.seen tree.old) (T.seen tree.new) result }
+{
+    let mut maker = maker;
+    let ended = finish(
+        alloc,
+        tree,
+        core,
+        work,
+        present,
+        &mut maker,
+        jobs,
+        texts.plan,
+        lists,
+        &texts.finished,
+    );
+    report_end(ended, texts.report)
+}
+
 /// Carries out a plan, one that was just made or one that was there, by a journal.
 pub(crate) fn run_plan<T: Tree, J: Judge + Drop>(
     alloc: Global,
@@ -97,22 +134,10 @@ pub(crate) fn run_plan<T: Tree, J: Judge + Drop>(
     ensures went { PlanWent root.now work.now (J.view judge) (J.edit_fails judge) (J.split_fails judge) plan jobs (core_from fresh work.now (map string_bytes present.now) (steps_of plan)) (T.seen tree.old) (T.seen tree.new) result }
 {
     let texts = texts_of(alloc, &plan)?;
-    let mut maker = RootMaker::new(alloc, root, plan, judge)?;
+    let maker = RootMaker::new(alloc, root, plan, judge)?;
     let lists = maker.lists(alloc)?;
     let core = first_core(alloc, fresh, work, present, &maker)?;
-    let ended = finish(
-        alloc,
-        tree,
-        core,
-        work,
-        present,
-        &mut maker,
-        jobs,
-        texts.plan,
-        lists,
-        &texts.finished,
-    );
-    report_end(ended, texts.report)
+    carry_out(alloc, tree, core, work, present, maker, jobs, texts, lists)
 }
 
 /// Plans a root that has no plan yet, and carries that out.

@@ -1,7 +1,7 @@
 -- What a start finds, step by step.
-use Rattle.std.proofs.Common.{◌∙◌, ap, map}
+use Rattle.std.proofs.Common.{ap, map}
 use Rattle.std.specs.String.{string_bytes}
-use Rattle.root_run.proofs.FirstLaws.{err-row, settle-early, settled-first, looked-first, walk-early, memory-early, open-early, open-found}
+use Rattle.root_run.proofs.FirstLaws.{err-row, settle-early, settled-first, walk-early, folder-early, folder-found, ends-of, looked-of}
 use Rattle.root_run.proofs.starting.open_root.Goals as goal
 
 pub returns-in_err-settle-clause-early : goal.returns-in_err-settle-clause-early
@@ -15,26 +15,12 @@ returns-in_err-present-clause-early g c = err-row _ _ _ c.from_residual-in_err-p
 
 pub returns-in_err-work-clause-early : goal.returns-in_err-work-clause-early
 returns-in_err-work-clause-early g c = err-row _ _ _ c.from_residual-in_err-work.ensures.1
-    (memory-early _ _ _ _ (looked-first _ _ _ (settled-first _ _ _ _ (c.in_ok-settle.was) c.settle.ensures.done c.settle.ensures.now c.settle.ensures.tells c.settle.ensures.cause)
-    c.walk.ensures.looked))
-
-pub returns-in_err-key-clause-early : goal.returns-in_err-key-clause-early
-returns-in_err-key-clause-early g c = err-row _ _ _ c.from_residual-in_err-key.ensures.1
-    (memory-early _ _ _ _ (looked-first _ _ _ (settled-first _ _ _ _ (c.in_ok-settle.was) c.settle.ensures.done c.settle.ensures.now c.settle.ensures.tells c.settle.ensures.cause)
-    c.walk.ensures.looked))
-
-pub returns-in_err-opened-clause-early : goal.returns-in_err-opened-clause-early
-returns-in_err-opened-clause-early g c = err-row _ _ _ c.from_residual-in_err-opened.ensures.1
-    (open-early _ _ _ _ _ _ _ _ _ _ _
-    (settled-first _ _ _ _ (c.in_ok-settle.was) c.settle.ensures.done c.settle.ensures.now c.settle.ensures.tells c.settle.ensures.cause)
-    c.walk.ensures.looked c.in_ok-present.ensures.walked (c.as_str.ensures.value ∙ c.in_ok-work.ensures.value) c.in_ok-key.ensures.value (ap (map string_bytes) c.deref.ensures.value)
-    c.open_work.ensures.opens c.open_work.ensures.looked
-    _ (c.in_err-opened.was))
+    (folder-early _ _ _ _ _ _ _ (settled-first _ _ _ _ (c.in_ok-settle.was) c.settle.ensures.done c.settle.ensures.now c.settle.ensures.tells c.settle.ensures.cause)
+    c.walk.ensures.looked c.in_ok-present.ensures.walked _
+    (ends-of _ _ _ _ _ _ _ (ap (map string_bytes) c.deref.ensures.value) c.in_err-work.ensures.ends))
 
 pub returns-clause-opened : goal.returns-clause-opened
 returns-clause-opened g c =
-    open-found _ _ _ _ _ _ _ _ _ _ _
-    (settled-first _ _ _ _ (c.in_ok-settle.was) c.settle.ensures.done c.settle.ensures.now c.settle.ensures.tells c.settle.ensures.cause)
-    c.walk.ensures.looked c.in_ok-present.ensures.walked (c.as_str.ensures.value ∙ c.in_ok-work.ensures.value) c.in_ok-key.ensures.value (ap (map string_bytes) c.deref.ensures.value)
-    c.open_work.ensures.opens c.open_work.ensures.looked
-    _ (c.in_ok-opened.was)
+    folder-found _ _ _ _ _ _ _ (settled-first _ _ _ _ (c.in_ok-settle.was) c.settle.ensures.done c.settle.ensures.now c.settle.ensures.tells c.settle.ensures.cause)
+    c.walk.ensures.looked c.in_ok-present.ensures.walked _
+    (looked-of _ _ _ _ _ _ _ (ap (map string_bytes) c.deref.ensures.value) c.in_ok-work.ensures.opened)
