@@ -1,5 +1,5 @@
 -- Laws on the texts of lines.
-use Rattle.std.proofs.Common.{◌≡◌, ◌≢◌, ℕ, refl, zero, suc, List, []}
+use Rattle.std.proofs.Common.{◌≡◌, ◌≢◌, ℕ, refl, zero, suc, []}
 use Rattle.std.specs.Prelude.{codes}
 use Rattle.dbg_ends.specs.Ends.{field_text}
 

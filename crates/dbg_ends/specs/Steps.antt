@@ -4,6 +4,7 @@ use Rattle.std.specs.FinMap as fin
 use Rattle.dw_base.specs.declared.fault.Fault.{Fault}
 use Rattle.dw_base.specs.declared.fault.Fault.TheVariants.{Refused}
 use Rattle.dw_base.specs.declared.fault.Refusal.{Refusal}
+use Rattle.file_tree.specs.declared.node.Found.{Found}
 use Rattle.file_tree.specs.declared.node.Found.TheVariants as found
 use Rattle.file_tree.specs.declared.node.Node.TheVariants as node
 use Rattle.file_tree.specs.declared.call.Call.TheVariants as call
@@ -26,6 +27,14 @@ pub data InputEnds (path : List ℕ) (limit : ℕ) (old new : Seen) : End → Ty
   failed : Rose old.faults new.faults → InputEnds path limit old new end.TreeFault
   memory : InputEnds path limit old new end.NoMemory
 
+-- how it ends by what was found at the path
+pub data FoundEnds (path : List ℕ) : Found → End → Type 0 where
+  absent : FoundEnds path found.Absent (end.Absent path)
+  folder : FoundEnds path found.Folder (end.Folder path)
+  link : {target : List ℕ} → FoundEnds path (found.Link target) (end.Link path)
+  large : {size : ℕ} → FoundEnds path (found.TooLarge size) (end.Limit path size)
+  memory : {what : Found} → FoundEnds path what end.NoMemory
+
 -- the end of a fault of the file at a path: its refusal, or want of memory
 pub data FaultEnds (path : List ℕ) : Fault → End → Type 0 where
   refused : {r : Refusal} → FaultEnds path (Refused r) (end.Refused path r)
@@ -43,6 +52,12 @@ pub data OutputTaken (path : List ℕ) (old new : Seen) : End → Type 0 where
   link : {target : List ℕ} → Stood (now_of old) path 0 (found.Link target) → OutputTaken path old new (end.Taken path)
   failed : Rose old.faults new.faults → OutputTaken path old new end.TreeFault
   memory : OutputTaken path old new end.NoMemory
+
+-- how it ends by what was found there
+pub data WayEnds (path : List ℕ) : Found → End → Type 0 where
+  folder : WayEnds path found.Folder (end.Taken path)
+  link : {target : List ℕ} → WayEnds path (found.Link target) (end.Taken path)
+  memory : {what : Found} → WayEnds path what end.NoMemory
 
 -- where the tree tells, a file may be put at the path
 pub record OutputFree (old : Option TreeMap) (path : List ℕ) : Type 0 where

@@ -7,17 +7,47 @@ ghost use Rattle.file_tree.specs.Trees.{stands_at, with_node};
 ghost use Rattle.file_tree.specs.Causes.{Rose, Calm, OnlyAt};
 ghost use Rattle.file_tree.specs.Moments.{LooksOnly, adds_all};
 ghost use Rattle.dbg_ends.specs.Ends.{status_of};
-ghost use Rattle.dbg_ends.specs.Due.{OutputDue, IsCut};
-ghost use Rattle.dbg_ends.specs.Steps.{OutputTaken, OutputFree, OutputEnds, OutputsEnd, OnlyAtBoth, file_put, all_stored};
+ghost use Rattle.dbg_ends.specs.Due.{OutputDue, IsCut, IsFree};
+ghost use Rattle.dbg_ends.specs.Steps.{WayEnds, OutputTaken, OutputFree, OutputEnds, OutputsEnd, OnlyAtBoth, file_put, all_stored};
 
 use crate::end::End;
 use crate::looking::look;
 use file_tree::{Blob, Found, Node, Text, Tree};
 use std::alloc::Global;
 
+/// Whether a file may be put where this was found: a folder or a symbolic link is in its way.
+#[tactic(auto, using(crate::proofs::Rows::way_rows))]
+fn check_free(alloc: Global, path: &str, what: Found) -> Result<(), End>
+    ensures free { OnOk result (IsFree what) }
+    ensures ends { IfErr result (WayEnds path.now what) }
+{
+    match what {
+        Found::Absent => Ok(()),
+        Found::File { .. } => Ok(()),
+        Found::TooLarge { .. } => Ok(()),
+        Found::Folder => Err(End::Taken {
+            path: Text::copy_of(alloc, path)?,
+        }),
+        Found::Link { .. } => Err(End::Taken {
+            path: Text::copy_of(alloc, path)?,
+        }),
+    }
+}
+
+/// Looks whether a file may be put at the path, or says why not.
+fn look_free<T: Tree>(alloc: Global, path: &str, tree: &mut T) -> Result<(), End>
+    ensures done { OnOk result (OutputFree (now_of (T.seen tree.old)) path.now) }
+    ensures ends { IfErr result (OutputTaken path.now (T.seen tree.old) (T.seen tree.new)) }
+    ensures kept { Calm (T.seen tree.old) (T.seen tree.new) }
+    ensures looks { (T.seen tree.old).tells ≡ true → LooksOnly (T.seen tree.old).past (T.seen tree.new).past }
+    ensures tells { (T.seen tree.new).tells ≡ (T.seen tree.old).tells }
+{
+    let found = look(path, 0, tree)?;
+    check_free(alloc, path, found)
+}
+
 /// Looks whether a file may be put at the path: nothing is there, or a file. A folder or a symbolic link
 /// there ends as `Taken`. The tree stays as it was, and no bytes of a file that is there are read.
-#[tactic(auto, using(crate::proofs::Rows::taken_rows))]
 pub fn free_output<T: Tree>(alloc: Global, path: &str, tree: &mut T) -> Result<(), End>
     ensures done { OnOk result (OutputFree (now_of (T.seen tree.old)) path.now) }
     ensures ends { IfErr result (OutputTaken path.now (T.seen tree.old) (T.seen tree.new)) }
@@ -30,18 +60,7 @@ pub fn free_output<T: Tree>(alloc: Global, path: &str, tree: &mut T) -> Result<(
     ensures looks { (T.seen tree.old).tells ≡ true → LooksOnly (T.seen tree.old).past (T.seen tree.new).past }
     ensures tells { (T.seen tree.new).tells ≡ (T.seen tree.old).tells }
 {
-    let found = look(path, 0, tree)?;
-    match found {
-        Found::Absent => Ok(()),
-        Found::File { .. } => Ok(()),
-        Found::TooLarge { .. } => Ok(()),
-        Found::Folder => Err(End::Taken {
-            path: Text::copy_of(alloc, path)?,
-        }),
-        Found::Link { .. } => Err(End::Taken {
-            path: Text::copy_of(alloc, path)?,
-        }),
-    }
+    look_free(alloc, path, tree)
 }
 
 /// Sets the path to a file of these bytes and this mode, and then settles the tree.
