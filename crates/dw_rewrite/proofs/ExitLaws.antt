@@ -420,5 +420,3 @@ made_stand m b bodies d =
     subst (AllStand b) (sym d.is)
     (stand-append b (new_bodies m (file_data b) d.readings) (held_bodies b (new_cells m (file_data b) d.readings) (moved_numbers (view_of b) d.readings))
     (bodies-stand m b d.readings d.reads) (held-stand b (new_cells m (file_data b) d.readings) (moved_numbers (view_of b) d.readings)))
-
-pub ruleset checked_rules = (made_stand, made_accepted, made_output, one_output, made_meaning, made_loaded, refused_written)

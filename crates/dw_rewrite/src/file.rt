@@ -88,7 +88,6 @@ fn rewrite_elf<'a>(alloc: Global, elf: &ElfFile<'a>, maps: &Maps) -> Result<Rewr
 }
 
 /// The file rewritten, where its sections were checked.
-#[tactic(auto, using(crate::proofs::ExitLaws::checked_rules))]
 fn rewrite_checked<'a>(
     alloc: Global,
     elf: &ElfFile<'a>,
