@@ -1,37 +1,39 @@
 -- Laws of the inline map: the path that is made has the room's length, and no NUL that the path hasn't.
-use Rattle.std.proofs.Common.{◌≡◌, ℕ, zero, suc, ◌-◌, ◌≤◌, Bool, true, false, if◌then◌else◌, IsTrue, List, ◌++◌, length, drop, refl, arith}
+use Rattle.std.proofs.Common.{◌≡◌, ℕ, zero, suc, ◌-◌, ◌≤◌, false, IsTrue, List, ◌++◌, length, drop, refl, arith, Option, Some, None}
 use Rattle.std.proofs.lemmas.Bool.{leb-true}
 use Rattle.std.proofs.lemmas.List.{length-append, length-replicate}
-use Rattle.dw_base.specs.Paths.{slash, PathMap, IsPathMap, lies_under, mapped_path}
+use Rattle.dw_base.specs.Paths.{slash, MapPair, PathMap, IsPathMap, matching, mapped_by, mapped_path}
 use Rattle.dw_base.specs.Texts.{has_nul}
-use Rattle.dw_base.proofs.PathLaws.{is_prefix-parts}
+use Rattle.dw_base.proofs.PathLaws.{is_prefix-parts, OfPair, Counts, counting}
 use Rattle.dw_base.proofs.TextLaws.{has_nul-append_false, has_nul-drop}
-use Rattle.dw_base.specs.InlinePaths.{slashes, inline_fits, mapped_inline}
+use Rattle.dw_base.specs.InlinePaths.{slashes, inline_fits, fitted_by, mapped_inline}
 
 has_nul-slashes : (n : ℕ) → has_nul (slashes n) ≡ false
 has_nul-slashes zero = refl
 has_nul-slashes (suc n) = has_nul-slashes n
 
-inline-no_nul : (test : Bool) (front rest t : List ℕ) (n : ℕ) → has_nul front ≡ false → has_nul rest ≡ false → has_nul t ≡ false → has_nul (if test then front ++ slashes n ++ rest else t) ≡ false
-inline-no_nul true front rest t n e f g = has_nul-append_false (front ++ slashes n) rest (has_nul-append_false front (slashes n) e (has_nul-slashes n)) f
-inline-no_nul false front rest t n e f g = g
+inline-no_nul : (o : Option MapPair) (t : List ℕ) → OfPair (Counts t) o → has_nul t ≡ false → has_nul (fitted_by o t) ≡ false
+inline-no_nul None t h e = e
+inline-no_nul (Some p) t h e =
+    let n : ℕ = length t - length (p.dest ++ drop (length p.base) t) in
+    has_nul-append_false (p.dest ++ slashes n) (drop (length p.base) t)
+    (has_nul-append_false p.dest (slashes n) (is_prefix-parts p.dest h.fit.dest).no_nul (has_nul-slashes n)) (has_nul-drop (length p.base) t e)
 
 -- an inline path has no NUL that the path hasn't
 pub has_nul-mapped_inline : (m : PathMap) (t : List ℕ) → IsPathMap m → has_nul t ≡ false → has_nul (mapped_inline m t) ≡ false
 unfolding mapped_inline
-has_nul-mapped_inline m t p bare =
-    inline-no_nul (lies_under m.base t) m.dest (drop (length m.base) t) t (length t - length (mapped_path m t)) (is_prefix-parts m.dest p.dest).no_nul (has_nul-drop (length m.base) t bare) bare
+has_nul-mapped_inline m t p bare = inline-no_nul (matching m.pairs t) t (counting m t p) bare
 
-inline-length : (test : Bool) (front rest t : List ℕ) → length (if test then front ++ rest else t) ≤ length t
-    → length (if test then front ++ slashes (length t - length (if test then front ++ rest else t)) ++ rest else t) ≡ length t
-inline-length true front rest t fits =
-    let n : ℕ = length t - length (front ++ rest) in
-    let whole : length (front ++ slashes n ++ rest) ≡ length t =
-    omega (arith, fits, length-append front rest, length-append (front ++ slashes n) rest, length-append front (slashes n), length-replicate {A = ℕ} n slash) in
+inline-length : (o : Option MapPair) (t : List ℕ) → length (mapped_by o t) ≤ length t → length (fitted_by o t) ≡ length t
+inline-length None t fits = refl
+inline-length (Some p) t fits =
+    let rest : List ℕ = drop (length p.base) t in
+    let n : ℕ = length t - length (p.dest ++ rest) in
+    let whole : length (p.dest ++ slashes n ++ rest) ≡ length t =
+    omega (arith, fits, length-append p.dest rest, length-append (p.dest ++ slashes n) rest, length-append p.dest (slashes n), length-replicate {A = ℕ} n slash) in
     whole
-inline-length false front rest t fits = refl
 
 -- it is as long as the path
 pub length-mapped_inline : (m : PathMap) (t : List ℕ) → IsTrue (inline_fits m t) → length (mapped_inline m t) ≡ length t
 unfolding mapped_inline mapped_path
-length-mapped_inline m t fits = inline-length (lies_under m.base t) m.dest (drop (length m.base) t) t (leb-true _ _ fits)
+length-mapped_inline m t fits = inline-length (matching m.pairs t) t (leb-true _ _ fits)

@@ -6,6 +6,7 @@ pub mod StandardFacts
 pub mod TextLaws
 pub mod NulLaws
 pub mod TableLaws
+pub mod LessLaws
 pub mod PathLaws
 pub mod ElfLaws
 pub mod FixedPartLaws
@@ -23,6 +24,7 @@ pub mod PartsAgainLaws
 pub mod SectionLaws
 pub mod ElfReadsLaws
 pub mod WorkedForms
+pub mod WorkedPaths
 pub mod DebugSectionLaws
 pub mod DebugSectionFailsLaws
 pub mod ViewFailsLaws

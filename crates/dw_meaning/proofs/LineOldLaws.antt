@@ -1,15 +1,15 @@
 -- The lists of directories and files before version 5 under an edit.
 use Rattle.dw_base.proofs.LebLaws.{uleb-inside}
-use Rattle.std.proofs.Common.{Bool, true, false, ◌≡◌, ◌≢◌, ℕ, zero, suc, ◌+◌, ◌-◌, ◌<◌, ◌≤◌, List, [], ◌∷◌, ◌++◌, length, drop, map, Option, Some, refl, sym, ap, ◌∙◌, subst, arith, if◌then◌else◌, append_assoc}
+use Rattle.std.proofs.Common.{◌≡◌, ◌≢◌, ℕ, zero, suc, ◌+◌, ◌-◌, ◌<◌, ◌≤◌, List, [], ◌∷◌, ◌++◌, length, drop, map, Option, Some, refl, sym, ap, ◌∙◌, subst, arith, append_assoc}
 use Rattle.std.specs.Prelude.{⊤, option_and_then, option_map}
-use Rattle.std.proofs.lemmas.List.{length-append, length-drop}
+use Rattle.std.proofs.lemmas.List.{length-drop}
 use Rattle.dw_base.specs.Cells.{Cell}
 use Rattle.dw_base.specs.Lebs.{uleb_at}
 use Rattle.dw_base.specs.LineMeanings.{place_text, LineColumn, number_column, leb_size, leb_columns, old_columns}
 use Rattle.dw_base.specs.LineSources.{LineSource}
 use Rattle.dw_base.specs.LineTables.{texts_of}
 use Rattle.dw_base.specs.LineTexts.{inline_text, skip_lebs, file_numbers}
-use Rattle.dw_base.specs.Paths.{PathMap, IsPathMap, mapped_path, lies_under}
+use Rattle.dw_base.specs.Paths.{PathMap, IsPathMap, mapped_path}
 use Rattle.dw_base.specs.Texts.{text_in}
 use Rattle.dw_base.specs.UnitStates.{read_value}
 use Rattle.dw_base.specs.WrittenLines.{part, Change, path_changes, all_changes}
@@ -17,7 +17,7 @@ use Rattle.dw_base.specs.declared.line_numbers.TheConstants.{DW_LNCT_directory_i
 use Rattle.dw_base.specs.declared.line_tables.FilePlace.{FilePlace}
 use Rattle.dw_base.specs.declared.line_tables.LineHeader.{LineHeader}
 use Rattle.dw_base.specs.declared.line_tables.TextPlace.{TextPlace}
-use Rattle.dw_base.proofs.PathLaws.{is_prefix-parts}
+use Rattle.dw_base.proofs.PathLaws.{mapped_path-some}
 use Rattle.dw_meaning.specs.LineCells.{CellChange, all_path_cells, path_cells}
 use Rattle.dw_meaning.proofs.CellRestLaws.{CellRest, cells-copied, clear-none, same-from}
 use Rattle.dw_meaning.proofs.ClearLaws.{Clear, clear-join, clear-part, whole-clear}
@@ -29,17 +29,13 @@ use Rattle.dw_meaning.proofs.LineMoveLaws.{Sides, inline-changes, text-cells, te
 use Rattle.dw_meaning.proofs.LineReadLaws.{Both, both-behind, uleb-both, text-both, inline-here, inline-inside, bound, made, some-same, skip-behind, file_numbers-both}
 use Rattle.dw_meaning.proofs.LineWalkLaws.{OldDirs, OldFile, OldFiles}
 
+some-length : (n : ℕ) → n ≢ 0 → 0 < n
+some-length zero some = absurd (some refl)
+some-length (suc n) some = omega arith
+
 -- a path that isn't empty is mapped to one that isn't
 mapped-some : (m : PathMap) (t : List ℕ) → IsPathMap m → length t ≢ 0 → length (mapped_path m t) ≢ 0
-unfolding mapped_path
-mapped-some m t p some = by_under (lies_under m.base t)
-  where
-    dest : 0 < length m.dest
-    dest = subst (λ (d : List ℕ). 0 < length d) p.dest_cut (is_prefix-parts m.dest p.dest).some
-
-    by_under : (b : Bool) → length (if b then m.dest ++ drop (length m.base) t else t) ≢ 0
-    by_under true e = omega (arith, e, dest, length-append m.dest (drop (length m.base) t))
-    by_under false e = some e
+mapped-some m t p some e = omega (arith, e, mapped_path-some m t p (some-length (length t) some))
 
 -- texts that are mapped, one by one
 abbrev pub MovedTexts : LineSource → LineSource → PathMap → List TextPlace → List TextPlace → Type 0

@@ -14,7 +14,7 @@ use Rattle.dw_base.specs.Forms.{kind_in, form_rows}
 use Rattle.dw_base.specs.InlinePaths.{inline_fits, mapped_inline}
 use Rattle.dw_base.specs.Lebs.{uleb_at, sleb_at, initial_length_at}
 use Rattle.dw_base.specs.Numbers.{spelled, number_at}
-use Rattle.dw_base.specs.Paths.{PathMap, lies_under, mapped_path}
+use Rattle.dw_base.specs.Paths.{PathMap, lies_under, mapped_path, matching}
 use Rattle.dw_base.specs.Roles.{role_of}
 use Rattle.dw_base.specs.NewOffsets.{with_offset}
 use Rattle.dw_base.specs.Texts.{text_in}
@@ -83,7 +83,7 @@ unfolding units_of unit_header initial_length_at number_at spelled between after
 shared-meaning = refl
 
 abbrev shared_map : PathMap
-shared_map = record { base = codes "/build/p"; dest = codes "/usr/src/debug/p" }
+shared_map = record { pairs = record { base = codes "/build/p"; dest = codes "/usr/src/debug/p" } ∷ [] }
 
 pub shared-output : new_bodies shared_map shared_data (worked_readings shared_data 26 shared_pieces)
     ≡ record { number = 3; bytes = codes "/build/p/a.c\0" ++ codes "/build/p\0" ++ codes "/usr/src/debug/p/a.c\0" ++ codes "/usr/src/debug/p\0" }
@@ -101,7 +101,7 @@ pub shared-output : new_bodies shared_map shared_data (worked_readings shared_da
           ∷ []);
     } ∷ []
 unfolding new_bodies table_change unit_header initial_length_at number_at spelled between after_code kind_in form_rows abbreviations_at
-    uleb_at text_in offset_of field_of role_of lies_under mapped_path mapped_inline with_offset
+    uleb_at text_in offset_of field_of role_of lies_under matching mapped_path mapped_inline with_offset
 shared-output = refl
 
 -- a path that stands in its value, mapped in its room
@@ -133,7 +133,7 @@ unfolding units_of unit_header initial_length_at number_at spelled between after
 inline-meaning = refl
 
 abbrev inline_map : PathMap
-inline_map = record { base = codes "/build/package-1.0"; dest = codes "/usr/src/debug" }
+inline_map = record { pairs = record { base = codes "/build/package-1.0"; dest = codes "/usr/src/debug" } ∷ [] }
 
 pub inline-output : new_bodies inline_map inline_data (worked_readings inline_data 35 inline_pieces)
     ≡ record { number = 3; bytes = codes "/build/p/a.c\0" ++ codes "/build/p\0" }
@@ -147,7 +147,7 @@ pub inline-output : new_bodies inline_map inline_data (worked_readings inline_da
           ∷ []);
     } ∷ []
 unfolding new_bodies table_change unit_header initial_length_at number_at spelled between after_code kind_in form_rows abbreviations_at
-    uleb_at text_in offset_of field_of role_of lies_under mapped_path mapped_inline with_offset
+    uleb_at text_in offset_of field_of role_of lies_under matching mapped_path mapped_inline with_offset
 inline-output = refl
 
 -- two units of 64-bit DWARF; the second variable of the first refers to the variable of the second
@@ -205,7 +205,7 @@ unfolding units_of unit_header initial_length_at number_at spelled between after
 wide-meaning = refl
 
 abbrev wide_map : PathMap
-wide_map = record { base = codes "/build/p"; dest = codes "/usr/src/debug/p" }
+wide_map = record { pairs = record { base = codes "/build/p"; dest = codes "/usr/src/debug/p" } ∷ [] }
 
 pub wide-output : new_bodies wide_map wide_data (worked_readings wide_data 85 wide_pieces)
     ≡ record { number = 3; bytes = codes "/build/p/a.c\0" ++ codes "/build/p/b.c\0" ++ codes "/usr/src/debug/p/a.c\0" ++ codes "/usr/src/debug/p/b.c\0" }
@@ -231,7 +231,7 @@ pub wide-output : new_bodies wide_map wide_data (worked_readings wide_data 85 wi
           ∷ []);
     } ∷ []
 unfolding new_bodies table_change unit_header initial_length_at number_at spelled between after_code kind_in form_rows abbreviations_at
-    uleb_at text_in offset_of field_of role_of lies_under mapped_path mapped_inline with_offset
+    uleb_at text_in offset_of field_of role_of lies_under matching mapped_path mapped_inline with_offset
 wide-output = refl
 
 -- each form that has values of its own
@@ -304,7 +304,7 @@ unfolding units_of unit_header initial_length_at number_at spelled between after
 forms-meaning = refl
 
 abbrev forms_map : PathMap
-forms_map = record { base = codes "/build/p"; dest = codes "/usr/src/debug/p" }
+forms_map = record { pairs = record { base = codes "/build/p"; dest = codes "/usr/src/debug/p" } ∷ [] }
 
 pub forms-output : new_bodies forms_map forms_data (worked_readings forms_data 149 forms_pieces)
     ≡ record { number = 3; bytes = codes "/build/p/a.c\0" ++ codes "/build/p\0" ++ codes "/usr/src/debug/p/a.c\0" }
@@ -357,10 +357,10 @@ pub forms-output : new_bodies forms_map forms_data (worked_readings forms_data 1
           ∷ []);
     } ∷ []
 unfolding new_bodies table_change unit_header initial_length_at number_at spelled between after_code kind_in form_rows abbreviations_at
-    uleb_at text_in offset_of field_of role_of lies_under mapped_path mapped_inline with_offset
+    uleb_at text_in offset_of field_of role_of lies_under matching mapped_path mapped_inline with_offset
 forms-output = refl
 
 -- a path that would grow in its room doesn't fit it
-pub grows : inline_fits (record { base = codes "/build/package-1.0"; dest = codes "/usr/src/debug/package-1.0-1" }) (codes "/build/package-1.0/a.c") ≡ false
-unfolding mapped_path lies_under
+pub grows : inline_fits (record { pairs = record { base = codes "/build/package-1.0"; dest = codes "/usr/src/debug/package-1.0-1" } ∷ [] }) (codes "/build/package-1.0/a.c") ≡ false
+unfolding mapped_path lies_under matching
 grows = refl

@@ -12,7 +12,7 @@ use Rattle.dw_base.specs.Forms.{kind_in, form_rows}
 use Rattle.dw_base.specs.InlinePaths.{mapped_inline}
 use Rattle.dw_base.specs.Lebs.{uleb_at, initial_length_at}
 use Rattle.dw_base.specs.Numbers.{spelled, number_at}
-use Rattle.dw_base.specs.Paths.{PathMap, lies_under, mapped_path}
+use Rattle.dw_base.specs.Paths.{PathMap, lies_under, mapped_path, matching}
 use Rattle.dw_base.specs.Roles.{role_of}
 use Rattle.dw_base.specs.NewOffsets.{with_offset}
 use Rattle.dw_base.specs.Texts.{text_in}
@@ -39,7 +39,7 @@ abbrev pub lone_readings : DebugData → ℕ → List (List ℕ) → DataReading
 lone_readings d whole pieces = units_alone (record { number = 1; pieces = pieces_from d.base (before_unit 1 in_info whole 0 0) pieces } ∷ [])
 
 abbrev pub build_map : PathMap
-build_map = record { base = codes "/build/p"; dest = codes "/usr/src/debug/p" }
+build_map = record { pairs = record { base = codes "/build/p"; dest = codes "/usr/src/debug/p" } ∷ [] }
 
 -- a program of one entry
 abbrev small_pieces : List (List ℕ)
@@ -65,5 +65,5 @@ pub small-output : new_bodies build_map small_data (lone_readings small_data 20 
     ∷ record { number = 0; bytes = [] } ∷ record { number = 0; bytes = [] } ∷ record { number = 0; bytes = [] } ∷ record { number = 0; bytes = [] }
     ∷ record { number = 1; bytes = word 16 ++ half 4 ++ word 0 ++ (8 ∷ 1 ∷ []) ++ word 22 ++ word 43 } ∷ []
 unfolding new_bodies table_change unit_header initial_length_at number_at spelled between after_code kind_in form_rows abbreviations_at
-    uleb_at text_in offset_of field_of role_of lies_under mapped_path mapped_inline with_offset
+    uleb_at text_in offset_of field_of role_of lies_under matching mapped_path mapped_inline with_offset
 small-output = refl

@@ -20,7 +20,7 @@ use Rattle.dw_base.specs.Layout.{is_loaded_kind, part_of, is_fixed, fixed_end, p
 use Rattle.dw_base.specs.Lebs.{uleb_at, initial_length_at}
 use Rattle.dw_base.specs.Notes.{build_id_of, descriptor_at, id_in, is_id_note, is_id_section}
 use Rattle.dw_base.specs.Numbers.{spelled, number_at, with_number}
-use Rattle.dw_base.specs.Paths.{lies_under, mapped_path}
+use Rattle.dw_base.specs.Paths.{lies_under, mapped_path, matching}
 use Rattle.dw_base.specs.Roles.{role_of}
 use Rattle.dw_base.specs.NewOffsets.{with_offset}
 use Rattle.dw_base.specs.Texts.{ends_in, text_in}
@@ -250,7 +250,7 @@ one_unit_out-reads = file-reads one_unit_out (new_data Little 8) (new_readings L
 -- the bodies of its sections that change, and the output
 pub one_unit-bodies : new_bodies worked_map (old_data Little 8) (old_readings Little 8) ≡ paths_bodies Little 8
 unfolding new_bodies table_change unit_header initial_length_at number_at spelled between after_code kind_in form_rows abbreviations_at
-    uleb_at text_in offset_of field_of role_of lies_under mapped_path mapped_inline with_offset
+    uleb_at text_in offset_of field_of role_of lies_under matching mapped_path mapped_inline with_offset
 one_unit-bodies = refl
 
 pub one_unit-written : with_bodies one_unit (body_in (paths_bodies Little 8) (contents_of one_unit)) ≡ one_unit_out
@@ -303,7 +303,7 @@ one_unit-means = record {
 }
 
 pub one_unit_out-means : Means one_unit_out (mapped worked_map (paths_meaning 8))
-unfolding lies_under mapped_path
+unfolding lies_under matching mapped_path
 one_unit_out-means = record {
   readings = new_readings Little 8;
   reads = one_unit_out-reads;
@@ -363,7 +363,7 @@ of_32_bits_out-reads = file-reads of_32_bits_out (new_data Big 4) (new_readings 
 -- the bodies of its sections that change, and the output
 pub of_32_bits-bodies : new_bodies worked_map (old_data Big 4) (old_readings Big 4) ≡ paths_bodies Big 4
 unfolding new_bodies table_change unit_header initial_length_at number_at spelled between after_code kind_in form_rows abbreviations_at
-    uleb_at text_in offset_of field_of role_of lies_under mapped_path mapped_inline with_offset
+    uleb_at text_in offset_of field_of role_of lies_under matching mapped_path mapped_inline with_offset
 of_32_bits-bodies = refl
 
 pub of_32_bits-written : with_bodies of_32_bits (body_in (paths_bodies Big 4) (contents_of of_32_bits)) ≡ of_32_bits_out
@@ -416,7 +416,7 @@ of_32_bits-means = record {
 }
 
 pub of_32_bits_out-means : Means of_32_bits_out (mapped worked_map (paths_meaning 4))
-unfolding lies_under mapped_path
+unfolding lies_under matching mapped_path
 of_32_bits_out-means = record {
   readings = new_readings Big 4;
   reads = of_32_bits_out-reads;

@@ -12,7 +12,7 @@ use Rattle.dw_base.specs.LineOperations.{special_operation, const_operation, is_
 use Rattle.dw_base.specs.LineRegisters.{start_registers, advanced, on_line, at_address, moved, gives_row, behind_row}
 use Rattle.dw_base.specs.LineMeanings.{ShownFile, named, unnamed, ShownRow, LineMeaning, line_meanings}
 use Rattle.dw_base.specs.Numbers.{spelled, number_at}
-use Rattle.dw_base.specs.Paths.{PathMap, lies_under, mapped_path}
+use Rattle.dw_base.specs.Paths.{PathMap, lies_under, mapped_path, matching}
 use Rattle.dw_base.specs.Roles.{role_of}
 use Rattle.dw_base.specs.NewOffsets.{with_offset}
 use Rattle.dw_base.specs.Texts.{text_in, ends_in}
@@ -109,7 +109,7 @@ lines_readings = record {
 }
 
 abbrev pub lines_map : PathMap
-lines_map = record { base = codes "/build/p"; dest = codes "/usr/src/debug/p" }
+lines_map = record { pairs = record { base = codes "/build/p"; dest = codes "/usr/src/debug/p" } ∷ [] }
 
 -- the unit names table 1
 pub lines-units : units_of lines_data lines_readings
@@ -131,7 +131,7 @@ pub lines-output : new_bodies lines_map lines_data lines_readings
     ∷ record { number = 4; bytes = old_table 71 49 (codes "/usr/src/debug/p/inc") ++ new_table5 14 } ∷ record { number = 0; bytes = [] }
     ∷ record { number = 1; bytes = all_bytes (line_pieces 14 75) } ∷ []
 unfolding new_bodies table_change unit_header initial_length_at number_at spelled between after_code kind_in form_rows abbreviations_at
-    uleb_at text_in offset_of field_of role_of lies_under mapped_path mapped_inline with_offset line_header written_header written_table
+    uleb_at text_in offset_of field_of role_of lies_under matching mapped_path mapped_inline with_offset line_header written_header written_table
     header_in header_of_version header_at flags_place length_place header_of_length is_header header_with has_standard_operands
 lines-output = refl
 

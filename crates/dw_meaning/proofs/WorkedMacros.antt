@@ -13,7 +13,7 @@ use Rattle.dw_base.specs.MacroMeanings.{defined, begun, ended, brought, front_ma
 use Rattle.dw_base.specs.MacroOperations.{bring_operation, enter_behind, enter_operation, inline_behind, inline_operation, is_foreign, named_behind, named_operation, operation_of, plain_operation}
 use Rattle.dw_base.specs.MacroPieces.{of_text, of_unit, at_unit, at_line, at_offset, MacroState, macros_at, whole, last, before_offset, front_by, front_of, mode_behind, ReadsMacros}
 use Rattle.dw_base.specs.Numbers.{spelled, number_at}
-use Rattle.dw_base.specs.Paths.{lies_under, mapped_path}
+use Rattle.dw_base.specs.Paths.{lies_under, mapped_path, matching}
 use Rattle.dw_base.specs.Pieces.{Piece}
 use Rattle.dw_base.specs.Refusals.{at}
 use Rattle.dw_base.specs.Roles.{role_of}
@@ -159,7 +159,7 @@ pub macros-output : new_bodies lines_map sound_data sound_readings
     ∷ record { number = 4; bytes = old_table 71 49 (codes "/usr/src/debug/p/inc") ++ new_table5 14 } ∷ record { number = 0; bytes = [] }
     ∷ record { number = 5; bytes = all_bytes (macro_bytes 75 14 0) } ∷ record { number = 1; bytes = all_bytes (unit_pieces 14 75 18) } ∷ []
 unfolding new_bodies table_change unit_header initial_length_at number_at spelled between after_code kind_in form_rows abbreviations_at
-    uleb_at text_in ends_in offset_of field_of role_of lies_under mapped_path mapped_inline with_offset line_header written_header written_table
+    uleb_at text_in ends_in offset_of field_of role_of lies_under matching mapped_path mapped_inline with_offset line_header written_header written_table
     macros_from front_of front_by operation_of plain_operation enter_operation enter_behind inline_operation inline_behind named_operation named_behind bring_operation is_foreign
     header_in header_of_version header_at flags_place length_place header_of_length is_header header_with has_standard_operands
 macros-output = refl

@@ -14,7 +14,7 @@ use Rattle.dw_base.specs.Layout.{padding}
 use Rattle.dw_base.specs.Lebs.{uleb_at, initial_length_at}
 use Rattle.dw_base.specs.Notes.{build_id_of, descriptor_at, id_in, is_id_note, is_id_section}
 use Rattle.dw_base.specs.Numbers.{spelled, number_at}
-use Rattle.dw_base.specs.Paths.{lies_under, mapped_path}
+use Rattle.dw_base.specs.Paths.{lies_under, mapped_path, matching}
 use Rattle.dw_base.specs.Roles.{role_of}
 use Rattle.dw_base.specs.Texts.{ends_in, text_in}
 use Rattle.dw_base.specs.UnitHeaders.{unit_header}
@@ -67,7 +67,7 @@ not_kept b out x y count old new differs h =
 
 -- the file as it was
 pub one_unit-not_kept : MeaningKept worked_map one_unit one_unit → ⊥
-unfolding lies_under mapped_path
+unfolding lies_under matching mapped_path
 one_unit-not_kept h =
     not_kept one_unit one_unit (paths_meaning 8) (paths_meaning 8) (λ x. units_sum x.units) one_unit-means one_unit-means refl h
 
@@ -125,7 +125,7 @@ unmapped_directory-means = record {
 }
 
 pub unmapped_directory-not_kept : MeaningKept worked_map one_unit unmapped_directory → ⊥
-unfolding lies_under mapped_path
+unfolding lies_under matching mapped_path
 unmapped_directory-not_kept h = not_kept one_unit unmapped_directory (paths_meaning 8) _ (λ x. units_sum x.units) one_unit-means unmapped_directory-means refl h
 
 abbrev other_texts : List ℕ
@@ -185,7 +185,7 @@ other_name-means = record {
 }
 
 pub other_name-not_kept : MeaningKept worked_map one_unit other_name → ⊥
-unfolding lies_under mapped_path
+unfolding lies_under matching mapped_path
 other_name-not_kept h = not_kept one_unit other_name (paths_meaning 8) _ (λ x. units_sum x.units) one_unit-means other_name-means refl h
 
 -- another letter in a section that isn't read

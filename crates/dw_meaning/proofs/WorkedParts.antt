@@ -7,7 +7,7 @@ use Rattle.dw_base.specs.declared.shared.Order.{Order}
 
 -- the map of the worked files
 abbrev pub worked_map : PathMap
-worked_map = record { base = codes "/build/p"; dest = codes "/usr/src/debug/p" }
+worked_map = record { pairs = record { base = codes "/build/p"; dest = codes "/usr/src/debug/p" } ∷ [] }
 
 -- numbers of one size, one after another
 abbrev pub numbers : Order → ℕ → List ℕ → List ℕ

@@ -17,7 +17,7 @@ use Rattle.dw_base.specs.Layout.{is_loaded_kind, part_of, is_fixed, fixed_end, p
 use Rattle.dw_base.specs.Lebs.{uleb_at, initial_length_at}
 use Rattle.dw_base.specs.Notes.{build_id_of, descriptor_at, id_in, is_id_note, is_id_section}
 use Rattle.dw_base.specs.Numbers.{spelled, number_at, with_number}
-use Rattle.dw_base.specs.Paths.{lies_under, mapped_path}
+use Rattle.dw_base.specs.Paths.{lies_under, mapped_path, matching}
 use Rattle.dw_base.specs.Roles.{role_of}
 use Rattle.dw_base.specs.NewOffsets.{with_offset}
 use Rattle.dw_base.specs.Texts.{ends_in, text_in}
@@ -117,7 +117,7 @@ with_id_out-reads = file-reads with_id_out (data_in 2 22 43 all_texts) (readings
 
 with_id-bodies : new_bodies worked_map (data_in 2 0 13 path_texts) (readings_in 2 0 13 path_texts) ≡ bodies_in 2
 unfolding new_bodies table_change unit_header initial_length_at number_at spelled between after_code kind_in form_rows abbreviations_at
-    uleb_at text_in offset_of field_of role_of lies_under mapped_path mapped_inline with_offset
+    uleb_at text_in offset_of field_of role_of lies_under matching mapped_path mapped_inline with_offset
 with_id-bodies = refl
 
 with_id-written : with_bodies with_id (body_in (bodies_in 2) (contents_of with_id)) ≡ with_id_out
@@ -176,7 +176,7 @@ with_id-means = record {
 }
 
 pub with_id_out-means : Means with_id_out (mapped worked_map with_id_meaning)
-unfolding lies_under mapped_path
+unfolding lies_under matching mapped_path
 with_id_out-means = record {
   readings = (readings_in 2 22 43 all_texts);
   reads = with_id_out-reads;
@@ -291,7 +291,7 @@ with_a_segment_out-reads = file-reads with_a_segment_out (data_in 3 22 43 all_te
 
 with_a_segment-bodies : new_bodies worked_map (data_in 3 0 13 path_texts) (readings_in 3 0 13 path_texts) ≡ bodies_in 3
 unfolding new_bodies table_change unit_header initial_length_at number_at spelled between after_code kind_in form_rows abbreviations_at
-    uleb_at text_in offset_of field_of role_of lies_under mapped_path mapped_inline with_offset
+    uleb_at text_in offset_of field_of role_of lies_under matching mapped_path mapped_inline with_offset
 with_a_segment-bodies = refl
 
 with_a_segment-written : with_bodies with_a_segment (body_in (bodies_in 3) (contents_of with_a_segment)) ≡ with_a_segment_out
@@ -338,7 +338,7 @@ with_a_segment-means = record {
 }
 
 pub with_a_segment_out-means : Means with_a_segment_out (mapped worked_map with_a_segment_meaning)
-unfolding lies_under mapped_path
+unfolding lies_under matching mapped_path
 with_a_segment_out-means = record {
   readings = (readings_in 3 22 43 all_texts);
   reads = with_a_segment_out-reads;

@@ -23,7 +23,7 @@ use Rattle.dw_base.specs.Lebs.{initial_length_at, uleb_at}
 use Rattle.dw_base.specs.MappedSlots.{unit_slots, mapped_slots}
 use Rattle.dw_base.specs.NamePieces.{NameState, at_table, names_at, name_grammar}
 use Rattle.dw_base.specs.OffsetPieces.{OffsetState, at_contribution, offsets_at, before_slot, offset_grammar}
-use Rattle.dw_base.specs.Paths.{PathMap, lies_under, mapped_path}
+use Rattle.dw_base.specs.Paths.{PathMap, lies_under, mapped_path, matching}
 use Rattle.dw_base.specs.Pieces.{Piece}
 use Rattle.dw_base.specs.Refusals.{at}
 use Rattle.dw_base.specs.SlotTexts.{slot_texts, raw_part, text_part, name_parts}
@@ -97,7 +97,7 @@ abbrev own_readings : DataReadings
 own_readings = slot_readings own_data (slot_units 8 1) (two_slots 0 0) name_table
 
 abbrev slot_map : PathMap
-slot_map = record { base = codes "/build/p"; dest = codes "/usr/src/debug/p" }
+slot_map = record { pairs = record { base = codes "/build/p"; dest = codes "/usr/src/debug/p" } ∷ [] }
 
 -- the directory is the path of slot 0, the variable's name the text of slot 1
 pub own-units : units_of own_data own_readings
@@ -119,7 +119,7 @@ own-units = refl
 pub own-slots : mapped_slots slot_map (unit_slots (units_of own_data own_readings)) 0 (slot_texts Little (own_data.found Str) own_readings.offsets)
     ≡ codes "/usr/src/debug/p" ∷ codes "/build/p" ∷ []
 unfolding units_of unit_header initial_length_at number_at spelled between after_code kind_in form_rows abbreviations_at uleb_at text_in
-    offset_of field_of address_of before_slot slot_of lies_under mapped_path
+    offset_of field_of address_of before_slot slot_of lies_under matching mapped_path
 own-slots = refl
 
 -- the name is the text behind the front of its table
@@ -134,7 +134,7 @@ pub own-output : new_bodies slot_map own_data own_readings
     ∷ record { number = 4; bytes = all_bytes (two_slots 9 0) } ∷ record { number = 0; bytes = [] } ∷ record { number = 5; bytes = all_bytes name_table }
     ∷ record { number = 1; bytes = all_bytes (slot_units 8 1) } ∷ []
 unfolding new_bodies table_change unit_header initial_length_at number_at spelled between after_code kind_in form_rows abbreviations_at
-    uleb_at text_in offset_of field_of role_of lies_under mapped_path mapped_inline with_offset before_slot slot_of name_counts before_strings
+    uleb_at text_in offset_of field_of role_of lies_under matching mapped_path mapped_inline with_offset before_slot slot_of name_counts before_strings
 own-output = refl
 
 -- where both name slot 0, it is refused
@@ -146,7 +146,7 @@ shared_readings = slot_readings shared_data (slot_units 8 0) one_slot []
 
 pub shared-refused : SharedFails slot_map 4 (around_of shared_data shared_readings) shared_readings.offsets (at SharedIndex 4 8)
 unfolding unit_header initial_length_at number_at spelled between after_code kind_in form_rows abbreviations_at uleb_at text_in
-    offset_of field_of before_slot slot_of lies_under mapped_path
+    offset_of field_of before_slot slot_of lies_under matching mapped_path
 shared-refused =
     shared _ (record { before = _ ∷ []; behind = []; pieces = refl; width = W32; end = 12; mode = refl }) refl refl (λ e. longer e)
   where
@@ -206,5 +206,5 @@ pub wide-output : new_bodies slot_map wide_data wide_readings
     ∷ record { number = 4; bytes = all_bytes (wide_slots 9) } ∷ record { number = 0; bytes = [] } ∷ record { number = 0; bytes = [] }
     ∷ record { number = 1; bytes = all_bytes wide_units } ∷ []
 unfolding new_bodies table_change unit_header initial_length_at number_at spelled between after_code kind_in form_rows abbreviations_at
-    uleb_at text_in offset_of field_of role_of lies_under mapped_path mapped_inline with_offset before_slot slot_of
+    uleb_at text_in offset_of field_of role_of lies_under matching mapped_path mapped_inline with_offset before_slot slot_of
 wide-output = refl
