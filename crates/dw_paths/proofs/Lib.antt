@@ -1,3 +1,4 @@
 pub mod Rules
 pub mod InlineLaws
 pub mod CleanLaws
+pub mod CountingLaws
