@@ -1,6 +1,5 @@
--- Debug data that are read: a map whose base and destination are one changes no path, so what is refused with it is refused for what debug
--- data say alone; and what was read excludes what refuses.
-use Rattle.std.proofs.Common.{true, false, ◌≡◌, ℕ, Bool, if◌then◌else◌, nat_le, List, [], ◌∷◌, ◌++◌, length, drop, refl, sym, ap, ◌∙◌, subst, arith}
+-- Debug data that are read: what is refused with a map that changes no path is refused for what debug data say alone; and what was read excludes what refuses.
+use Rattle.std.proofs.Common.{true, false, ◌≡◌, ℕ, Bool, nat_le, List, [], ◌∷◌, ◌++◌, length, refl, sym, ap, ◌∙◌, subst, arith}
 use Rattle.std.proofs.lemmas.Bool.Decides.{nat_tests}
 use Rattle.dw_base.specs.Cells.{CellSection, Located}
 use Rattle.dw_base.specs.DebugData.{DataReadings}
@@ -8,7 +7,7 @@ use Rattle.dw_base.specs.FileViews.{View}
 use Rattle.dw_base.specs.IndexFails.{shared as shared_slot}
 use Rattle.dw_base.specs.InlinePaths.{inline_fits}
 use Rattle.dw_base.specs.LineTables.{LineTable}
-use Rattle.dw_base.specs.Paths.{PathMap, is_prefix, lies_under, mapped_path, path_map}
+use Rattle.dw_base.specs.Paths.{ChangesNone, PathMap, is_prefix, path_map}
 use Rattle.dw_base.specs.Refusals.{Blames}
 use Rattle.dw_base.specs.RelocationRows.{moving_sections}
 use Rattle.dw_base.specs.StringOffsetFails.{ContributionsFail}
@@ -16,7 +15,7 @@ use Rattle.dw_base.specs.ViewData.{debug_data, string_offsets}
 use Rattle.dw_base.specs.declared.fault.Fault.{Fault}
 use Rattle.dw_base.specs.declared.fault.Fault.TheVariants.{NoMemory, Refused}
 use Rattle.dw_base.specs.declared.fault.Refusal.{Refusal}
-use Rattle.dw_base.proofs.PathLaws.{lies_under-split}
+use Rattle.dw_base.proofs.PathLaws.{ChangesNone-same}
 use Rattle.dw_base.proofs.ViewCellLaws.{offsets-located}
 use Rattle.dw_meaning.specs.DataFails.{InlineFails, grows, LinesFail}
 use Rattle.dw_meaning.specs.DataOutput.{DataReads}
@@ -42,30 +41,21 @@ use Rattle.dw_base.specs.declared.debug_sections.DebugSection.TheVariants.{StrOf
 use Rattle.dw_meaning.specs.RelocationFails.{RelocationsReadIn}
 use Rattle.dw_meaning.specs.RelocationFails.OffsetsFailIn.{names as offset_names, macros as offset_macros}
 
--- such a map leaves each path
-same-path : (m : PathMap) (t : List ℕ) → m.base ≡ m.dest → mapped_path m t ≡ t
-unfolding mapped_path
-same-path m t same = by (lies_under m.base t) refl
-  where
-    by : (b : Bool) → lies_under m.base t ≡ b → (if b then m.dest ++ drop (length m.base) t else t) ≡ t
-    by true under = ap (λ (l : List ℕ). l ++ drop (length m.base) t) (sym same) ∙ sym (lies_under-split m.base t under)
-    by false under = refl
-
 le-same : (n : ℕ) → nat_le n n ≡ true
 le-same n = grind (arith, nat_tests)
 
-fits-same : (m : PathMap) (t : List ℕ) → m.base ≡ m.dest → inline_fits m t ≡ true
-fits-same m t same = ap (λ (l : List ℕ). nat_le (length l) (length t)) (same-path m t same) ∙ le-same (length t)
+fits-same : (m : PathMap) (t : List ℕ) → ChangesNone m → inline_fits m t ≡ true
+fits-same m t same = ap (λ (l : List ℕ). nat_le (length l) (length t)) (same.stays t) ∙ le-same (length t)
 
 not-both : (b : Bool) → b ≡ true → b ≡ false → ⊥
 not-both b e f =
     let same : true ≡ false = sym e ∙ f in
     absurd cc
 
-inline-never : (m : PathMap) (v : View) (r : Refusal) → m.base ≡ m.dest → InlineFails m (debug_data v) r → ⊥
+inline-never : (m : PathMap) (v : View) (r : Refusal) → ChangesNone m → InlineFails m (debug_data v) r → ⊥
 inline-never m v r same (grows z h list number a x place w there stands path inline over) = not-both _ (fits-same m _ same) over
 
-row-same : (m : PathMap) (v : View) (r : Refusal) → m.base ≡ m.dest → PathsRefuse m v r → DataRefuses v r
+row-same : (m : PathMap) (v : View) (r : Refusal) → ChangesNone m → PathsRefuse m v r → DataRefuses v r
 row-same m v r same (found_units h) = units h
 row-same m v r same (found_starts h) = starts h
 row-same m v r same (found_inline h) = absurd (inline-never m v r same h)
@@ -74,9 +64,9 @@ row-same m v r same (found_name_tables h) = name_tables h
 row-same m v r same (found_name_offsets h) = name_offsets h
 row-same m v r same (found_relocations h) = relocations h
 row-same m v r same (found_slots h) = slots h
-row-same m v r same (found_shared readings i (shared_slot x there path other changes)) = absurd (changes (same-path m _ same))
+row-same m v r same (found_shared readings i (shared_slot x there path other changes)) = absurd (changes (same.stays _))
 
-pub found-fault : (m : PathMap) (v : View) (f : Fault) → m.base ≡ m.dest → Blames (PathsRefuse m v) f → Blames (DataRefuses v) f
+pub found-fault : (m : PathMap) (v : View) (f : Fault) → ChangesNone m → Blames (PathsRefuse m v) f → Blames (DataRefuses v) f
 found-fault m v NoMemory same h = tt
 found-fault m v (Refused r) same h = row-same m v r same h
 
@@ -103,15 +93,14 @@ pub slice-units : (v : View) (ss slice : List SectionUnits) → slice ≡ ss →
 slice-units v ss slice same found = subst (UnitsFoundIn v) (sym same) found
 
 -- a map of one word twice is such a map, and there is one
-pub same-ends : (m : PathMap) (w : List ℕ) → m ≡ path_map w w → m.base ≡ m.dest
-unfolding path_map
-same-ends m w is = ap (λ (x : PathMap). x.base) is ∙ sym (ap (λ (x : PathMap). x.dest) is)
-
 pub is-word : is_prefix (47 ∷ 97 ∷ []) ≡ true
 unfolding is_prefix
 is-word = refl
 
-pub ruleset map_rules = (same-ends, is-word)
+pub same-none : (m : PathMap) → m ≡ path_map (47 ∷ 97 ∷ []) (47 ∷ 97 ∷ []) → ChangesNone m
+same-none m is = subst ChangesNone (sym is) (ChangesNone-same (47 ∷ 97 ∷ []) is-word)
+
+pub ruleset map_rules = (same-none, is-word)
 
 -- what was read excludes each row
 strings-exclude : (v : View) (rs : DataReadings) (r : Refusal) → DataReads (debug_data v) rs → ContributionsFail v.order (string_offsets v) r → ⊥

@@ -2,7 +2,8 @@
 //!
 //! Read first: `specs/ReadData.antt`.
 
-ghost use Rattle.std.specs.Prelude.{◌≡◌, IfErr, IfOk, OnOk};
+ghost use Rattle.std.specs.Prelude.{IfErr, IfOk, OnOk};
+ghost use Rattle.dw_base.specs.Paths.{ChangesNone};
 ghost use Rattle.dw_base.specs.Refusals.{Blames};
 ghost use Rattle.dw_base.specs.declared.fault.Refusal.{Refusal as RefusalOf};
 ghost use Rattle.dw_find.specs.ReadData.{DataRead, DataRefuses};
@@ -44,7 +45,7 @@ pub fn read_data(alloc: Global, view: &View) -> Result<ReadTables, Fault>
 /// A map that changes no path.
 #[tactic(auto, using(crate::proofs::ReadDataLaws::map_rules))]
 fn same_map(alloc: Global) -> Result<Maps, NoMemory>
-    ensures same { IfOk result (λ m. m.base ≡ m.dest) }
+    ensures none { IfOk result (λ m. ChangesNone m) }
 {
     match Maps::new(alloc, b"/a", b"/a")? {
         Some(maps) => Ok(maps),

@@ -1,14 +1,15 @@
--- Whether a text lies under a base, by the bytes of the table that it stands in.
-use Rattle.std.proofs.Common.{Bool, true, false, ◌≡◌, ℕ, zero, suc, ◌<◌, ◌≤◌, ◌==◌, ◌&&◌, ◌||◌, not, nat_eq, List, [], ◌∷◌, ◌++◌, length, take, drop, get_or, cond, sym, ap, ◌∙◌, refl, arith, inl, inr}
+-- Whether a text lies under a base, by the bytes of the table that it stands in; and whether a map changes it, by the pair that counts.
+use Rattle.std.proofs.Common.{Bool, true, false, ◌≡◌, ℕ, zero, suc, ◌<◌, ◌≤◌, ◌==◌, ◌&&◌, ◌||◌, not, nat_eq, Option, Some, None, List, [], ◌∷◌, ◌++◌, length, take, get_or, sym, ap, subst, ◌∙◌, refl, arith, inl, inr}
 use Rattle.std.proofs.lemmas.Bool.{cases_lt}
 use Rattle.std.proofs.lemmas.Bool.Decides.{nat_tests}
-use Rattle.std.proofs.lemmas.List.{length-take, take-append-le, append_cancel_right}
+use Rattle.std.proofs.lemmas.List.{length-take, take-append-le}
 use Rattle.std.proofs.lemmas.Slice.Eq.{bytes_eq-Decides}
 use Rattle.std.specs.List.{starts_with}
-use Rattle.dw_base.specs.Paths.{PathMap, IsPathMap, lies_under, mapped_path}
+use Rattle.dw_base.specs.Paths.{EachPair, IsMapPair, IsPathMap, MapPair, PathMap, lies_under, mapped_by, mapped_path, matching}
 use Rattle.dw_base.specs.Texts.{has_nul, text, same_text}
 use Rattle.dw_base.proofs.TextLaws.{text-split, has_nul-text, length-text, same_text-true, same_text-from}
-use Rattle.dw_base.proofs.PathLaws.{lies_under-split, is_prefix-parts}
+use Rattle.dw_base.proofs.PathLaws.{is_prefix-parts, mapped_path-same, mapped_path-stays, of-pair, to-pair}
+use Rattle.dw_paths.proofs.CountingLaws.{counting-end, counting-next}
 
 -- a list begins with a needle where its front is the needle
 starts : (xs needle : List ℕ) → starts_with nat_eq xs needle ≡ true → needle ≡ take (length needle) xs
@@ -122,39 +123,38 @@ under_next base xs plain ends begins =
 
 pub ruleset under_rules = (under_short, under_other, under_next)
 
--- a path under the base changes where base and destination differ
-pub asks_under : (base dest t : List ℕ) → (base ≡ dest → ⊥) → lies_under base t ≡ not (same_text (mapped_path (record { base = base; dest = dest }) t) t)
+-- where no pair counts for a path it stays
+asks_none : (ps : List MapPair) (t : List ℕ) → None ≡ matching ps t → false ≡ not (same_text (mapped_path (record { pairs = ps }) t) t)
 unfolding mapped_path
-asks_under base dest t differ = by_under (lies_under base t) refl
-  where
-    by_under : (b : Bool) → lies_under base t ≡ b → b ≡ not (same_text (cond b (dest ++ drop (length base) t) t) t)
-    by_under true h =
-        let t_is : t ≡ base ++ drop (length base) t = lies_under-split base t h in
-        let other : same_text (dest ++ drop (length base) t) t ≡ false = both_tests (same_text (dest ++ drop (length base) t) t) false
-        (λ e. absurd (differ (sym (append_cancel_right dest base (drop (length base) t) (same_text-true (dest ++ drop (length base) t) t e ∙ t_is)))))
-        (λ e. absurd cc) in
-        rw other refl
-    by_under false h = rw (same_text-from t t refl) refl
+asks_none ps t is =
+    let stays : mapped_by (matching ps t) t ≡ t = ap (λ (o : Option MapPair). mapped_by o t) (sym is) in
+    rw (same_text-from (mapped_by (matching ps t) t) t stays) refl
 
--- no path changes where base and destination are one
-pub asks_none : (base dest t : List ℕ) → base ≡ dest → false ≡ not (same_text (mapped_path (record { base = base; dest = dest }) t) t)
-unfolding mapped_path
-asks_none base dest t same = by_under (lies_under base t) refl
-  where
-    by_under : (b : Bool) → lies_under base t ≡ b → false ≡ not (same_text (cond b (dest ++ drop (length base) t) t) t)
-    by_under true h =
-        let t_is : t ≡ base ++ drop (length base) t = lies_under-split base t h in
-        let back : dest ++ drop (length base) t ≡ t = ap (λ (y : List ℕ). y ++ drop (length base) t) (sym same) ∙ sym t_is in
-        rw (same_text-from (dest ++ drop (length base) t) t back) refl
-    by_under false h = rw (same_text-from t t refl) refl
+-- else it changes where base and destination of the one that counts differ
+asks_pair : (ps : List MapPair) (t : List ℕ) (p : MapPair) (b : Bool) → Some p ≡ matching ps t → b ≡ not (same_text p.dest p.base) → IsPathMap (record { pairs = ps })
+    → b ≡ not (same_text (mapped_path (record { pairs = ps }) t) t)
+asks_pair ps t p b is e h =
+    let m : PathMap = record { pairs = ps } in
+    let one : same_text p.dest p.base ≡ same_text (mapped_path m t) t = both_tests (same_text p.dest p.base) (same_text (mapped_path m t) t)
+    (λ x. same_text-from (mapped_path m t) t (mapped_path-stays m t h (to-pair (λ q. q.dest ≡ q.base) (matching ps t) p is (same_text-true p.dest p.base x))))
+    (λ x. same_text-from p.dest p.base (of-pair (λ q. q.dest ≡ q.base) (matching ps t) p is (mapped_path-same m t h (same_text-true (mapped_path m t) t x)))) in
+    e ∙ ap not one
 
-pub ruleset ask_rules = (asks_under, asks_none)
+pub ruleset ask_rules = (asks_none, asks_pair)
 
--- the base of a map has no NUL
-pub base_plain : (m : PathMap) → IsPathMap m → has_nul m.base ≡ false
-base_plain m ok = (is_prefix-parts m.base ok.base).no_nul
+-- the base of a pair of a map has no NUL
+each_plain : (ps : List MapPair) (i : ℕ) (p : MapPair) → EachPair IsMapPair ps → i < length ps → p ≡ get_or ps i p → has_nul p.base ≡ false
+each_plain [] i p h lt is = absurd (omega (arith, lt))
+each_plain (q ∷ ps) zero p h lt is = ap (λ (x : MapPair). has_nul x.base) is ∙ (is_prefix-parts q.base h.0.base).no_nul
+each_plain (q ∷ ps) (suc i) p h lt is = each_plain ps i p h.1 (omega (arith, lt)) is
 
-pub ruleset map_rules = (base_plain)
+pub base_plain : (ps : List MapPair) (i : ℕ) (p : MapPair) → i < length ps → p ≡ get_or ps i p → IsPathMap (record { pairs = ps }) → has_nul p.base ≡ false
+base_plain ps i p lt is h = each_plain ps i p h.each lt is
 
--- a test of two lists
-pub ruleset same_rules = (bytes_eq-Decides)
+pub ruleset pair_rules = (base_plain, counting-next, counting-end)
+
+-- a slice of the pairs of a map makes the map
+pub slice_map : (ps slice : List MapPair) → slice ≡ ps → IsPathMap (record { pairs = ps }) → IsPathMap (record { pairs = slice })
+slice_map ps slice same h = subst (λ (qs : List MapPair). IsPathMap (record { pairs = qs })) (sym same) h
+
+pub ruleset map_rules = (slice_map)

@@ -108,7 +108,7 @@ fn rewrite_checked<'a>(
     ensures refused { IfErr result (Blames (EditFails maps.now elf.now.bytes.now)) }
 {
     // What a map obeys is known where one of its fields is used: no text that it makes has a NUL.
-    let _ = &maps.base;
+    let _ = &maps.pairs;
     let tables = tables_in(alloc, elf, view, maps)?;
     let bodies = made_bodies(alloc, elf, view, sources, maps, tables.as_slice())?;
     let file = emitted(alloc, elf, bodies)?;
