@@ -66,13 +66,13 @@ outcome-one s b name _ _ (is_left {why = x} one) (is_edited taken free is source
 outcome-one s b name _ _ (is_left {why = x} one) (is_split taken loaded is sources) = absurd (left-taken b x one taken)
 outcome-one s b name _ _ (is_edited taken free is sources) (is_left {why = y} two) = absurd (left-taken b y two taken)
 outcome-one s b name _ _ (is_edited {file = f} {names = ns} taken free is sources) (is_edited {file = g} {names = ks} other same also rest) =
-    ap (λ (x : List ℕ). outcome.Edited x ns) (edited-one s b f g is also) ∙ ap (λ (x : List (List ℕ)). outcome.Edited g x) (sources-one (file_data b) s.maps.base ns ks sources rest)
+    ap (λ (x : List ℕ). outcome.Edited x ns) (edited-one s b f g is also) ∙ ap (λ (x : List (List ℕ)). outcome.Edited g x) (sources-one (file_data b) s.maps ns ks sources rest)
 outcome-one s b name _ _ (is_edited taken free is sources) (is_split other loaded also rest) = absurd (differ (is_loaded_kind b) loaded free)
 outcome-one s b name _ _ (is_split taken loaded is sources) (is_left {why = y} two) = absurd (left-taken b y two taken)
 outcome-one s b name _ _ (is_split taken loaded is sources) (is_edited other free also rest) = absurd (differ (is_loaded_kind b) loaded free)
 outcome-one s b name _ _ (is_split {file = f} {names = ns} taken loaded is sources) (is_split {file = g} {names = ks} other same also rest) =
     ap (λ (x : List ℕ). outcome.Split (stripped_file x name) (debug_file x) (id_bytes x) ns) (edited-one s b f g is also)
-    ∙ ap (λ (x : List (List ℕ)). outcome.Split (stripped_file g name) (debug_file g) (id_bytes g) x) (sources-one (file_data b) s.maps.base ns ks sources rest)
+    ∙ ap (λ (x : List (List ℕ)). outcome.Split (stripped_file g name) (debug_file g) (id_bytes g) x) (sources-one (file_data b) s.maps ns ks sources rest)
 
 -- so what is given is the only one
 pub only-one : (s : Settings) (b name : List ℕ) (o : Outcome) → IsOutcome s b name o → (p : Outcome) → IsOutcome s b name p → p ≡ o

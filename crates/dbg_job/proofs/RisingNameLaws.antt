@@ -10,7 +10,8 @@ use Rattle.std.specs.declared.cmp.Ordering.TheVariants.{Less, Equal, Greater}
 use Rattle.dw_base.specs.DebugData.{DebugData, line_source}
 use Rattle.dw_base.specs.declared.debug_sections.DebugSection.TheVariants.{Info}
 use Rattle.dw_base.specs.FileViews.{view_of}
-use Rattle.dw_sources.specs.KeptNames.{HaveNoNul, front_of, kept_name, placed_by, with_kept, with_name, with_paths}
+use Rattle.dw_base.specs.Paths.{PathMap}
+use Rattle.dw_sources.specs.KeptNames.{HaveNoNul, fronts_of, kept_name, placed_by, with_kept, with_name, with_paths}
 use Rattle.dw_sources.specs.Sources.{AreSources, sections_paths, sources_of}
 use Rattle.dw_sources.specs.UnitPaths.{started_table}
 use Rattle.dw_sources.proofs.NoNulLaws.{sources-none}
@@ -55,27 +56,27 @@ rises-kept : (names : List (List ℕ)) (o : Option (List ℕ)) → AreInOrder na
 rises-kept names None s = s
 rises-kept names (Some name) s = rises-with names name s
 
-rises-paths : (front : List ℕ) (names ps : List (List ℕ)) → AreInOrder names → AreInOrder (with_paths front names ps)
-rises-paths front names [] s = s
-rises-paths front names (p ∷ ps) s = rises-paths front (with_kept names (kept_name front p)) ps (rises-kept names (kept_name front p) s)
+rises-paths : (fronts : List (List ℕ)) (names ps : List (List ℕ)) → AreInOrder names → AreInOrder (with_paths fronts names ps)
+rises-paths fronts names [] s = s
+rises-paths fronts names (p ∷ ps) s = rises-paths fronts (with_kept names (kept_name fronts p)) ps (rises-kept names (kept_name fronts p) s)
 
 none-rise : AreInOrder []
 unfolding IsStrictlySortedBy
 none-rise = tt
 
-pub sources-rise : (d : DebugData) (base : List ℕ) (names : List (List ℕ)) → AreSources d base names → AreInOrder names
+pub sources-rise : (d : DebugData) (m : PathMap) (names : List (List ℕ)) → AreSources d m names → AreInOrder names
 unfolding sources_of
-sources-rise d base names are =
+sources-rise d m names are =
     subst AreInOrder (sym are.is)
-    (rises-paths (front_of base) []
+    (rises-paths (fronts_of m) []
     (sections_paths d are.readings.contributions (started_table (line_source d) are.readings.lines) (d.found Info) are.readings.headers) none-rise)
 
 pub made-names : (s : Settings) (b name : List ℕ) (o : Outcome) → IsMade s b name o → AreInOrder (names_of o)
 made-names s b name _ (made_left why) = none-rise
-made-names s b name _ (made_edited {names = names} taken free is sources) = sources-rise (file_data b) s.maps.base names sources
-made-names s b name _ (made_split {names = names} taken loaded fits is parts sources) = sources-rise (file_data b) s.maps.base names sources
+made-names s b name _ (made_edited {names = names} taken free is sources) = sources-rise (file_data b) s.maps names sources
+made-names s b name _ (made_split {names = names} taken loaded fits is parts sources) = sources-rise (file_data b) s.maps names sources
 
 pub made-texts : (s : Settings) (b name : List ℕ) (o : Outcome) → IsMade s b name o → HaveNoNul (names_of o)
 made-texts s b name _ (made_left why) = tt
-made-texts s b name _ (made_edited {names = names} taken free is sources) = sources-none (view_of b) s.maps.base names sources
-made-texts s b name _ (made_split {names = names} taken loaded fits is parts sources) = sources-none (view_of b) s.maps.base names sources
+made-texts s b name _ (made_edited {names = names} taken free is sources) = sources-none (view_of b) s.maps names sources
+made-texts s b name _ (made_split {names = names} taken loaded fits is parts sources) = sources-none (view_of b) s.maps names sources

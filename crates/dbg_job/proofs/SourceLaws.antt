@@ -35,8 +35,8 @@ sources_want m b c v f a same is want =
     here.whole a.readings a.reads.data_reads
     (λ before behind z r split fails. header_offsets_exclude (file_data b).base z r (a.reads.relocations.on_data.headers before behind z split) fails)
 
-pub sources_of_file : (b c base : List ℕ) (v : View) (names : List (List ℕ)) → c ≡ b → v ≡ view_of c → AreSources (debug_data v) base names → AreSources (file_data b) base names
-sources_of_file b c base v names same is are = let P : View → Type 0 = λ x. AreSources (debug_data x) base names in subst P (is ∙ ap view_of same) are
+pub sources_of_file : (m : PathMap) (b c : List ℕ) (v : View) (names : List (List ℕ)) → c ≡ b → v ≡ view_of c → AreSources (debug_data v) m names → AreSources (file_data b) m names
+sources_of_file m b c v names same is are = let P : View → Type 0 = λ x. AreSources (debug_data x) m names in subst P (is ∙ ap view_of same) are
 
 -- the line tables of a file are those of its view
 pub tables_of_file : (b c : List ℕ) (v : View) (ts : List LineTable) → c ≡ b → v ≡ view_of c → TablesFound (view_of b) ts → TablesFound v ts

@@ -30,9 +30,9 @@ use Rattle.dbg_job.specs.EditedFiles.{EditedFails, IsEditOf, IsEdited}
 use Rattle.dbg_job.specs.Leaving.{IsLeft, IsTaken, begins_as_elf}
 use Rattle.dbg_job.specs.NewIds.{IdFits, id_bytes}
 
--- the names of the sources of a file, below the map's base and before they are mapped
+-- the names of the sources of a file, below the map's bases and before they are mapped
 abbrev pub AreSourcesOf : Settings → List ℕ → List (List ℕ) → Type 0
-AreSourcesOf s b names = AreSources (file_data b) s.maps.base names
+AreSourcesOf s b names = AreSources (file_data b) s.maps names
 
 -- what becomes of a file whose debug file is to have this base name: one that isn't left is edited, and one that is loaded as it
 -- stands is split then

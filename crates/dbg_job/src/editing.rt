@@ -35,7 +35,7 @@ fn mapped_file<'a>(alloc: Global, bytes: &'a [u8], maps: &Maps) -> Result<Rewrit
     ensures refused { IfErr result (Blames (EditFails maps.now bytes.now)) }
 {
     // What a map obeys is known where one of its fields is used.
-    let _ = &maps.base;
+    let _ = &maps.pairs;
     let out = rewrite(alloc, bytes, maps)?;
     Ok(out)
 }

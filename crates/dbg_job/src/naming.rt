@@ -19,8 +19,8 @@ use elf_file::ElfFile;
 use job_types::Sources;
 use std::alloc::Global;
 
-/// The names of the sources of a file that is taken with a prefix map: those below the map's base that its debug data name,
-/// before they are mapped, with the base cut off, in byte order and each once. The line tables of the file are those that
+/// The names of the sources of a file that is taken with a prefix map: those below the map's bases that its debug data name,
+/// before they are mapped, with the longest such base cut off, in byte order and each once. The line tables of the file are those that
 /// `edited` gives beside its output; they aren't read again. Want of memory alone is in the way.
 pub fn source_names(
     alloc: Global,
@@ -31,7 +31,7 @@ pub fn source_names(
     requires small { length bytes.now ≤ output_limit }
     requires accepted { IsAccepted maps.now bytes.now }
     requires tables { TablesFound (view_of bytes.now) tables.items }
-    ensures sources { IfOk result (λ names. AreSources (file_data bytes.now) maps.now.base names) }
+    ensures sources { IfOk result (λ names. AreSources (file_data bytes.now) maps.now names) }
 {
     match names_below(alloc, bytes, maps, tables) {
         Ok(names) => Ok(Sources::new(names)),
@@ -50,11 +50,11 @@ fn names_below(
     requires small { length bytes.now ≤ output_limit }
     requires accepted { IsAccepted maps.now bytes.now }
     requires tables { TablesFound (view_of bytes.now) tables.items }
-    ensures sources { IfOk result (λ names. AreSources (file_data bytes.now) maps.now.base (map bytes_of names.items)) }
+    ensures sources { IfOk result (λ names. AreSources (file_data bytes.now) maps.now (map bytes_of names.items)) }
     ensures memory { IfErr result (λ f. f ≡ fault.NoMemory) }
 {
     let elf = ElfFile::read(alloc, bytes)?;
     let view = View::one(&elf)?;
-    let names = sources_by_tables(alloc, &view, maps.base.as_slice(), tables)?;
+    let names = sources_by_tables(alloc, &view, maps, tables)?;
     Ok(names)
 }

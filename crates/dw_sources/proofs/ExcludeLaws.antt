@@ -5,6 +5,7 @@ use Rattle.dw_base.specs.AbbreviationBytes.{abbreviations_at}
 use Rattle.dw_base.specs.Cells.{bytes_of, located_cells}
 use Rattle.dw_base.specs.DebugData.{DebugData, DataReadings, line_source}
 use Rattle.dw_base.specs.LineReadings.{LineReading}
+use Rattle.dw_base.specs.Paths.{PathMap}
 use Rattle.dw_base.specs.Refusals.{Blames}
 use Rattle.dw_base.specs.SlotTexts.{contributions_in}
 use Rattle.dw_base.specs.UnitHeaders.{UnitBase, UnitSection, IsUnit, UnitsUpTo, more_units, header_at, unit_header}
@@ -107,20 +108,20 @@ unit-table d z hs list start h has up is =
         (subst (EachTable d) (sym (append-nil (list ++ h ∷ []))) (subst (EachTable d) (ap (λ (s : UnitsRead). s.list) same) has.tables))
 
 -- sources that were read exclude each refusal
-pub read-excludes : (d : DebugData) (base : List ℕ) (names : List (List ℕ)) (r : Refusal) → AreSources d base names → SourcesFail d r → ⊥
-read-excludes d base names r are (unit z before behind split f) =
+pub read-excludes : (d : DebugData) (m : PathMap) (names : List (List ℕ)) (r : Refusal) → AreSources d m names → SourcesFail d r → ⊥
+read-excludes d m names r are (unit z before behind split f) =
     let s : SectionUnits d z = section-units d before behind z are.readings.headers split are.reads.units in
     units-exclude d.base z s.headers r s.has.units f
-read-excludes d base names r are (table z h u f) =
+read-excludes d m names r are (table z h u f) =
     let s : SectionUnits d z = section-units d u.before u.behind z are.readings.headers u.sections are.reads.units in
     unit_table-excludes d.base h (abbreviations_at d.base.abbrevs.bytes h.abbrevs) r
     (unit-table d z s.headers u.list u.start h s.has u.units u.is) f
-read-excludes d base names r are (relocation z before behind split f) =
+read-excludes d m names r are (relocation z before behind split f) =
     let s : SectionUnits d z = section-units d before behind z are.readings.headers split are.reads.units in
     header_offsets_exclude d.base z r s.has.offsets f
-read-excludes d base names r are (string_tables f) =
+read-excludes d m names r are (string_tables f) =
     contributions-exclude d.base.order (located_cells (d.found StrOffsets)).bytes (d.found StrOffsets).number are.readings.contributions r are.reads.offsets f
-read-excludes d base names r are (lines f) = lines-exclude d are.readings.lines r are.reads.lines f
+read-excludes d m names r are (lines f) = lines-exclude d are.readings.lines r are.reads.lines f
 
 pub ruleset want_rules = (want-only, read-excludes)
 
@@ -142,6 +143,6 @@ readings-one d x y a b =
     ∙ ap (λ (ls : List LineReading). record { headers = y.headers; contributions = y.contributions; lines = ls })
     (tables-one (line_source d) 0 _ x.lines y.lines a.lines b.lines)
 
-pub sources-one : (d : DebugData) (base : List ℕ) (xs ys : List (List ℕ)) → AreSources d base xs → AreSources d base ys → xs ≡ ys
-sources-one d base xs ys a b =
-    a.is ∙ ap (λ (r : SourceReadings). sources_of d r base) (readings-one d a.readings b.readings a.reads b.reads) ∙ sym b.is
+pub sources-one : (d : DebugData) (m : PathMap) (xs ys : List (List ℕ)) → AreSources d m xs → AreSources d m ys → xs ≡ ys
+sources-one d m xs ys a b =
+    a.is ∙ ap (λ (r : SourceReadings). sources_of d r m) (readings-one d a.readings b.readings a.reads b.reads) ∙ sym b.is

@@ -1,4 +1,5 @@
 pub mod NameLaws
+pub mod FrontLaws
 pub mod RootLaws
 pub mod BaseLaws
 pub mod TextLaws

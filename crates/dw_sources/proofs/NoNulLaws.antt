@@ -3,7 +3,7 @@
 use Rattle.std.proofs.Common.{Bool, true, false, not, ◌≡◌, ℕ, zero, suc, ◌-◌, ◌==◌, ◌&&◌, ◌||◌, nat_eq, List, [], ◌∷◌, ◌++◌, length, drop, reverse, Option, Some, None, refl, sym, subst, if◌then◌else◌}
 use Rattle.std.specs.Prelude.{⊤}
 use Rattle.std.specs.Cmp.Lexicographic.{slice_cmp}
-use Rattle.std.specs.List.{join_with_byte, onto_first, slice_split, starts_with}
+use Rattle.std.specs.List.{join_with_byte, onto_first, slice_split}
 use Rattle.std.specs.Ordering.{nat_cmp}
 use Rattle.std.specs.declared.cmp.Ordering.{Ordering}
 use Rattle.std.specs.declared.cmp.Ordering.TheVariants.{Less, Equal, Greater}
@@ -17,7 +17,7 @@ use Rattle.dw_base.specs.LineMeanings.{item_at, place_text}
 use Rattle.dw_base.specs.LineReadings.{LineReading, table_read}
 use Rattle.dw_base.specs.LineSources.{LineSource}
 use Rattle.dw_base.specs.LineTables.{LineTable, texts_of}
-use Rattle.dw_base.specs.Paths.{slash}
+use Rattle.dw_base.specs.Paths.{PathMap, slash}
 use Rattle.dw_base.specs.StringOffsets.{slot_place}
 use Rattle.dw_base.specs.Texts.{ends_in, has_nul, text_in}
 use Rattle.dw_base.specs.UnitHeaders.{UnitSection}
@@ -35,7 +35,7 @@ use Rattle.dw_base.proofs.TextLaws.{has_nul-append_false, has_nul-drop, has_nul-
 use Rattle.dw_paths.specs.CleanPaths.{cleaned_path, ends_in_name, is_rooted, joined_path, left_components, left_of, root}
 use Rattle.dw_paths.specs.Components.{components, is_idle, is_parent}
 use Rattle.dw_sources.specs.FieldOffsets.{root_offset, value_offset}
-use Rattle.dw_sources.specs.KeptNames.{HaveNoNul, front_of, kept_name, placed_by, with_kept, with_name, with_paths}
+use Rattle.dw_sources.specs.KeptNames.{HaveNoNul, behind_front, front_len, fronts_of, kept_name, placed_by, with_kept, with_name, with_paths}
 use Rattle.dw_sources.specs.RootValues.{root_at}
 use Rattle.dw_sources.specs.Sources.{AreSources, section_paths, sections_paths, sources_of}
 use Rattle.dw_sources.specs.UnitPaths.{base_width, class_text, dir_text, file_in, file_path, files_paths, folder_of, index_text, is_made_up, lines_paths, listed, named_text, number_text, paths_by, root_paths, slot_text, slot_text_at, started_table, table_paths, text_of_place, unit_path, unit_paths, value_text}
@@ -118,13 +118,13 @@ joined-none dir name d n = by_root (is_rooted name || nat_eq (length dir) 0)
 
 -- ### Names that are kept
 
-kept-none : (front path : List ℕ) → has_nul path ≡ false → AnyText (kept_name front path)
+behind-none : (path : List ℕ) (o : Option ℕ) → has_nul path ≡ false → AnyText (behind_front path o)
+behind-none path None e = tt
+behind-none path (Some n) e = has_nul-drop n path e
+
+kept-none : (fronts : List (List ℕ)) (path : List ℕ) → has_nul path ≡ false → AnyText (kept_name fronts path)
 unfolding kept_name
-kept-none front path e = by_front (starts_with nat_eq (cleaned_path path) front)
-  where
-    by_front : (t : Bool) → AnyText (if t then Some (drop (length front) (cleaned_path path)) else None)
-    by_front true = has_nul-drop (length front) (cleaned_path path) (cleaned-none path e)
-    by_front false = tt
+kept-none fronts path e = behind-none (cleaned_path path) (front_len fronts (cleaned_path path)) (cleaned-none path e)
 
 name-none : (names : List (List ℕ)) (name : List ℕ) → HaveNoNul names → has_nul name ≡ false → HaveNoNul (with_name names name)
 name-none [] name a e = (e, tt)
@@ -139,9 +139,9 @@ with-none : (names : List (List ℕ)) (o : Option (List ℕ)) → HaveNoNul name
 with-none names None a e = a
 with-none names (Some name) a e = name-none names name a e
 
-paths-none : (front : List ℕ) (names ps : List (List ℕ)) → HaveNoNul names → HaveNoNul ps → HaveNoNul (with_paths front names ps)
-paths-none front names [] a b = a
-paths-none front names (p ∷ ps) a b = paths-none front (with_kept names (kept_name front p)) ps (with-none names (kept_name front p) a (kept-none front p b.0)) b.1
+paths-none : (fronts : List (List ℕ)) (names ps : List (List ℕ)) → HaveNoNul names → HaveNoNul ps → HaveNoNul (with_paths fronts names ps)
+paths-none fronts names [] a b = a
+paths-none fronts names (p ∷ ps) a b = paths-none fronts (with_kept names (kept_name fronts p)) ps (with-none names (kept_name fronts p) a (kept-none fronts p b.0)) b.1
 
 -- ### Texts of values
 
@@ -293,11 +293,11 @@ sections-none d list rs (z ∷ zs) (hs ∷ hss) a =
 
 -- ### All names
 
-pub sources-none : (v : View) (base : List ℕ) (names : List (List ℕ)) → AreSources (debug_data v) base names → HaveNoNul names
+pub sources-none : (v : View) (m : PathMap) (names : List (List ℕ)) → AreSources (debug_data v) m names → HaveNoNul names
 unfolding sources_of
-sources-none v base names are =
+sources-none v m names are =
     subst HaveNoNul (sym are.is)
-    (paths-none (front_of base) []
+    (paths-none (fronts_of m) []
     (sections_paths (debug_data v) are.readings.contributions (started_table (line_source (debug_data v)) are.readings.lines) ((debug_data v).found Info) are.readings.headers) tt
     (sections-none (debug_data v) are.readings.contributions are.readings.lines ((debug_data v).found Info) are.readings.headers
     (tables-bare (line_source (debug_data v)) 0 (length (line_source (debug_data v)).bytes) are.readings.lines (view-apart v) are.reads.lines)))

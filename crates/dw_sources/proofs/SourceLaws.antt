@@ -4,6 +4,7 @@ use Rattle.dw_base.specs.Cells.{Located, located_cells}
 use Rattle.dw_base.specs.DebugData.{DebugData, line_source}
 use Rattle.dw_base.specs.FileViews.{View}
 use Rattle.dw_base.specs.LineTables.{LineTable}
+use Rattle.dw_base.specs.Paths.{PathMap}
 use Rattle.dw_base.specs.Refusals.{Blames}
 use Rattle.dw_base.specs.StringOffsetFails.{ContributionsFail}
 use Rattle.dw_base.specs.StringOffsets.{AreContributions}
@@ -17,7 +18,7 @@ use Rattle.dw_base.proofs.ViewCellLaws.{offsets-located}
 use Rattle.dw_base.specs.declared.debug_sections.DebugSection.TheVariants.{Info, StrOffsets, Line}
 use Rattle.dw_meaning.specs.DataFails.{LinesFail}
 use Rattle.dw_sources.specs.FieldOffsets.{root_offset}
-use Rattle.dw_sources.specs.KeptNames.{front_of, with_paths}
+use Rattle.dw_sources.specs.KeptNames.{fronts_of, with_paths}
 use Rattle.dw_sources.specs.Sources.{AddsSections, AreKept, AreSources, SourcesFail, string_tables, lines, section_paths, sections_paths, sources_of}
 use Rattle.dw_sources.specs.UnitPaths.{folder_of, started_table, lines_paths, paths_in, root_paths, unit_paths, table_paths, unit_path, value_text}
 use Rattle.dw_sources.specs.declared.roots.Root.{Root}
@@ -66,11 +67,11 @@ sections-same d list s t (z ∷ zs) (hs ∷ hss) same =
     ∙ ap (λ (ps : List (List ℕ)). section_paths d list t z hs ++ ps) (sections-same d list s t zs hss same)
 
 -- what was read, and the names that it gives
-pub are-sources : (v : View) (base front : List ℕ) (list : List Contribution) (tables : ℕ → Option LineTable) (first last names : List (List ℕ))
-    → front ≡ front_of base → AreContributions v.order (string_offsets v) list → AreKept (debug_data v) tables → first ≡ []
-    → AddsSections (debug_data v) list tables front ((debug_data v).found Info) first last → names ≡ last → AreSources (debug_data v) base names
+pub are-sources : (v : View) (m : PathMap) (fronts : List (List ℕ)) (list : List Contribution) (tables : ℕ → Option LineTable) (first last names : List (List ℕ))
+    → fronts ≡ fronts_of m → AreContributions v.order (string_offsets v) list → AreKept (debug_data v) tables → first ≡ []
+    → AddsSections (debug_data v) list tables fronts ((debug_data v).found Info) first last → names ≡ last → AreSources (debug_data v) m names
 unfolding sources_of
-are-sources v base front list tables first last names is contributions kept none adds e = record {
+are-sources v m fronts list tables first last names is contributions kept none adds e = record {
   readings = record { headers = adds.headers; contributions = list; lines = kept.readings };
   reads = record {
     units = adds.units;
@@ -80,8 +81,8 @@ are-sources v base front list tables first last names is contributions kept none
   };
   is =
       e ∙ adds.added ∙ ap (λ (f : List ℕ). with_paths f first (sections_paths (debug_data v) list tables ((debug_data v).found Info) adds.headers)) is
-      ∙ ap (λ (ns : List (List ℕ)). with_paths (front_of base) ns (sections_paths (debug_data v) list tables ((debug_data v).found Info) adds.headers)) none
-      ∙ ap (with_paths (front_of base) []) (sections-same (debug_data v) list tables (started_table (line_source (debug_data v)) kept.readings) ((debug_data v).found Info) adds.headers kept.kept);
+      ∙ ap (λ (ns : List (List ℕ)). with_paths (fronts_of m) ns (sections_paths (debug_data v) list tables ((debug_data v).found Info) adds.headers)) none
+      ∙ ap (with_paths (fronts_of m) []) (sections-same (debug_data v) list tables (started_table (line_source (debug_data v)) kept.readings) ((debug_data v).found Info) adds.headers kept.kept);
 }
 
 -- why they can't be read

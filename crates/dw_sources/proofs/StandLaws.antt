@@ -75,24 +75,24 @@ kept-stands : (names : List (List ℕ)) (o : Option (List ℕ)) → with_kept (w
 kept-stands names None = refl
 kept-stands names (Some n) = name-stands names n
 
-path-stays : (front : List ℕ) (names ps : List (List ℕ)) (o : Option (List ℕ)) → with_kept names o ≡ names
-    → with_kept (with_paths front names ps) o ≡ with_paths front names ps
-path-stays front names [] o e = e
-path-stays front names (p ∷ ps) o e = path-stays front (with_kept names (kept_name front p)) ps o (kept-stays names o (kept_name front p) e)
+path-stays : (fronts : List (List ℕ)) (names ps : List (List ℕ)) (o : Option (List ℕ)) → with_kept names o ≡ names
+    → with_kept (with_paths fronts names ps) o ≡ with_paths fronts names ps
+path-stays fronts names [] o e = e
+path-stays fronts names (p ∷ ps) o e = path-stays fronts (with_kept names (kept_name fronts p)) ps o (kept-stays names o (kept_name fronts p) e)
 
 -- and of paths
-pub paths-stay : (front : List ℕ) (names ps qs : List (List ℕ)) → EachStands front names ps → EachStands front (with_paths front names qs) ps
-paths-stay front names [] qs each = tt
-paths-stay front names (p ∷ ps) qs each = (path-stays front names qs (kept_name front p) each.0, paths-stay front names ps qs each.1)
+pub paths-stay : (fronts : List (List ℕ)) (names ps qs : List (List ℕ)) → EachStands fronts names ps → EachStands fronts (with_paths fronts names qs) ps
+paths-stay fronts names [] qs each = tt
+paths-stay fronts names (p ∷ ps) qs each = (path-stays fronts names qs (kept_name fronts p) each.0, paths-stay fronts names ps qs each.1)
 
-pub paths-stand : (front : List ℕ) (names ps : List (List ℕ)) → EachStands front (with_paths front names ps) ps
-paths-stand front names [] = tt
-paths-stand front names (p ∷ ps) = (
-  path-stays front (with_kept names (kept_name front p)) ps (kept_name front p) (kept-stands names (kept_name front p)),
-  paths-stand front (with_kept names (kept_name front p)) ps,
+pub paths-stand : (fronts : List (List ℕ)) (names ps : List (List ℕ)) → EachStands fronts (with_paths fronts names ps) ps
+paths-stand fronts names [] = tt
+paths-stand fronts names (p ∷ ps) = (
+  path-stays fronts (with_kept names (kept_name fronts p)) ps (kept_name fronts p) (kept-stands names (kept_name fronts p)),
+  paths-stand fronts (with_kept names (kept_name fronts p)) ps,
 )
 
-pub stand-same : (front : List ℕ) (names ps : List (List ℕ)) → EachStands front names ps → names ≡ with_paths front names ps
-stand-same front names [] each = refl
-stand-same front names (p ∷ ps) each =
-    stand-same front names ps each.1 ∙ ap (λ (ns : List (List ℕ)). with_paths front ns ps) (sym each.0)
+pub stand-same : (fronts : List (List ℕ)) (names ps : List (List ℕ)) → EachStands fronts names ps → names ≡ with_paths fronts names ps
+stand-same fronts names [] each = refl
+stand-same fronts names (p ∷ ps) each =
+    stand-same fronts names ps each.1 ∙ ap (λ (ns : List (List ℕ)). with_paths fronts ns ps) (sym each.0)

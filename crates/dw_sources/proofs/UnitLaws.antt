@@ -70,16 +70,16 @@ own-table d shared at h table are e same there =
 pub ruleset read_rules = (one-shared)
 
 -- a unit's bytes up to its end, and its paths
-pub unit-added : (v : View) (list : List Contribution) (tables : ℕ → Option LineTable) (front : List ℕ) (h : UnitHeader) (abbrevs : List Abbreviation) (bs : List ℕ) (root : Root)
+pub unit-added : (v : View) (list : List Contribution) (tables : ℕ → Option LineTable) (fronts : List (List ℕ)) (h : UnitHeader) (abbrevs : List Abbreviation) (bs : List ℕ) (root : Root)
     (old new : List (List ℕ)) → HasUnit (debug_data v) (unit_section_at v h.section) h → IsTable (debug_data v).base.abbrevs.bytes h.abbrevs abbrevs
     → bs ≡ section_bytes v h.section → root ≡ root_at h.params abbrevs (take h.end bs) h.first
-    → new ≡ with_paths front old (root_paths (debug_data v) list tables (unit_section_at v h.section) (take h.end bs) root)
-    → new ≡ with_paths front old (unit_paths (debug_data v) list tables (unit_section_at v h.section) h)
+    → new ≡ with_paths fronts old (root_paths (debug_data v) list tables (unit_section_at v h.section) (take h.end bs) root)
+    → new ≡ with_paths fronts old (unit_paths (debug_data v) list tables (unit_section_at v h.section) h)
 unfolding unit_paths
-unit-added v list tables front h abbrevs bs root old new u t is r e =
-    e ∙ ap (λ (x : Root). with_paths front old (root_paths (debug_data v) list tables (unit_section_at v h.section) (take h.end bs) x)) r
-    ∙ ap (λ (x : List ℕ). with_paths front old (root_paths (debug_data v) list tables (unit_section_at v h.section) x (root_at h.params abbrevs x h.first))) (unit-bytes v h bs u is)
-    ∙ ap (λ (x : List Abbreviation). with_paths front old (root_paths (debug_data v) list tables (unit_section_at v h.section) (bytes_up_to (unit_section_at v h.section) h)
+unit-added v list tables fronts h abbrevs bs root old new u t is r e =
+    e ∙ ap (λ (x : Root). with_paths fronts old (root_paths (debug_data v) list tables (unit_section_at v h.section) (take h.end bs) x)) r
+    ∙ ap (λ (x : List ℕ). with_paths fronts old (root_paths (debug_data v) list tables (unit_section_at v h.section) x (root_at h.params abbrevs x h.first))) (unit-bytes v h bs u is)
+    ∙ ap (λ (x : List Abbreviation). with_paths fronts old (root_paths (debug_data v) list tables (unit_section_at v h.section) (bytes_up_to (unit_section_at v h.section) h)
     (root_at h.params x (bytes_up_to (unit_section_at v h.section) h) h.first)))
     (sym (table-found (debug_data v).base.abbrevs.bytes h.abbrevs abbrevs t))
 
@@ -148,18 +148,18 @@ unfolding debug_data
 stands-section v section there = stands-numbered (unit_sections v) section (unit_section_at v section) there
 
 -- where a pass over the units of a section stands
-pub record UnitsPass (v : View) (list : List Contribution) (tables : ℕ → Option LineTable) (front : List ℕ) (section : ℕ) (hs : List UnitHeader) (i : ℕ)
+pub record UnitsPass (v : View) (list : List Contribution) (tables : ℕ → Option LineTable) (fronts : List (List ℕ)) (section : ℕ) (hs : List UnitHeader) (i : ℕ)
     (old now : List (List ℕ)) : Type 0 where
   pub start : ℕ
   pub before : UnitsUpTo (debug_data v).base (unit_section_at v section) (take i hs) start
   pub rest : UnitsFrom (debug_data v).base (unit_section_at v section) start (drop i hs) (length (unit_section_at v section).contents)
   pub declared : EachTable (debug_data v) (take i hs)
-  pub same : with_paths front now (section_paths (debug_data v) list tables (unit_section_at v section) (drop i hs))
-      ≡ with_paths front old (section_paths (debug_data v) list tables (unit_section_at v section) hs)
+  pub same : with_paths fronts now (section_paths (debug_data v) list tables (unit_section_at v section) (drop i hs))
+      ≡ with_paths fronts old (section_paths (debug_data v) list tables (unit_section_at v section) hs)
 
-pub units-start : (v : View) (list : List Contribution) (tables : ℕ → Option LineTable) (front : List ℕ) (section : ℕ) (hs : List UnitHeader) (old : List (List ℕ))
-    → AreUnits (debug_data v).base (unit_section_at v section) hs → UnitsPass v list tables front section hs 0 old old
-units-start v list tables front section hs old units = record {
+pub units-start : (v : View) (list : List Contribution) (tables : ℕ → Option LineTable) (fronts : List (List ℕ)) (section : ℕ) (hs : List UnitHeader) (old : List (List ℕ))
+    → AreUnits (debug_data v).base (unit_section_at v section) hs → UnitsPass v list tables fronts section hs 0 old old
+units-start v list tables fronts section hs old units = record {
   start = 0;
   before = no_units;
   rest = subst (λ (xs : List UnitHeader). UnitsFrom (debug_data v).base (unit_section_at v section) 0 xs (length (unit_section_at v section).contents)) (append-nil hs)
@@ -178,16 +178,16 @@ behind-of hs h i lt is =
     let next : i + 1 ≡ suc i = omega arith in
     ap (λ (n : ℕ). take n hs) next ∙ take-suc hs i h lt ∙ ap (λ (y : UnitHeader). take i hs ++ y ∷ []) (sym is)
 
-next-unit : (v : View) (list : List Contribution) (tables : ℕ → Option LineTable) (front : List ℕ) (section : ℕ) (hs : List UnitHeader) (i : ℕ) (old now : List (List ℕ))
-    (h : UnitHeader) → i < length hs → h ≡ get_or hs i h → (p : UnitsPass v list tables front section hs i old now)
+next-unit : (v : View) (list : List Contribution) (tables : ℕ → Option LineTable) (fronts : List (List ℕ)) (section : ℕ) (hs : List UnitHeader) (i : ℕ) (old now : List (List ℕ))
+    (h : UnitHeader) → i < length hs → h ≡ get_or hs i h → (p : UnitsPass v list tables fronts section hs i old now)
     → IsUnit (debug_data v).base (unit_section_at v section) p.start h × UnitsFrom (debug_data v).base (unit_section_at v section) h.end (drop (i + 1) hs) (length (unit_section_at v section).contents)
-next-unit v list tables front section hs i old now h lt is p =
+next-unit v list tables fronts section hs i old now h lt is p =
     subst (λ (xs : List UnitHeader). UnitsFrom (debug_data v).base (unit_section_at v section) p.start xs (length (unit_section_at v section).contents)) (front-of hs h i lt is) p.rest
 
-own-unit : (v : View) (list : List Contribution) (tables : ℕ → Option LineTable) (front : List ℕ) (section : ℕ) (hs : List UnitHeader) (i : ℕ) (old now : List (List ℕ))
-    (h : UnitHeader) → IsUnitSection v section → i < length hs → h ≡ get_or hs i h → UnitsPass v list tables front section hs i old now
+own-unit : (v : View) (list : List Contribution) (tables : ℕ → Option LineTable) (fronts : List (List ℕ)) (section : ℕ) (hs : List UnitHeader) (i : ℕ) (old now : List (List ℕ))
+    (h : UnitHeader) → IsUnitSection v section → i < length hs → h ≡ get_or hs i h → UnitsPass v list tables fronts section hs i old now
     → HasUnit (debug_data v) (unit_section_at v section) h
-own-unit v list tables front section hs i old now h there lt is p =
+own-unit v list tables fronts section hs i old now h there lt is p =
     let s : Stands ((debug_data v).found Info) (unit_section_at v section) = stands-section v section there in
     record {
       before = s.before;
@@ -196,34 +196,34 @@ own-unit v list tables front section hs i old now h there lt is p =
       list = take i hs;
       start = p.start;
       units = p.before;
-      is = (next-unit v list tables front section hs i old now h lt is p).0;
+      is = (next-unit v list tables fronts section hs i old now h lt is p).0;
     }
 
 own-section : (v : View) (section : ℕ) (h : UnitHeader) → IsUnitSection v section → HasUnit (debug_data v) (unit_section_at v section) h → h.section ≡ section
 own-section v section h there u =
     unit-section (debug_data v).base (unit_section_at v section) u.start h u.is.header ∙ (is-of-view v section there).number
 
-pub units-there : (v : View) (list : List Contribution) (tables : ℕ → Option LineTable) (front : List ℕ) (section : ℕ) (hs : List UnitHeader) (i : ℕ) (old now : List (List ℕ))
-    (h : UnitHeader) → IsUnitSection v section → i < length hs → h ≡ get_or hs i h → UnitsPass v list tables front section hs i old now
+pub units-there : (v : View) (list : List Contribution) (tables : ℕ → Option LineTable) (fronts : List (List ℕ)) (section : ℕ) (hs : List UnitHeader) (i : ℕ) (old now : List (List ℕ))
+    (h : UnitHeader) → IsUnitSection v section → i < length hs → h ≡ get_or hs i h → UnitsPass v list tables fronts section hs i old now
     → HasUnit (debug_data v) (unit_section_at v h.section) h
-units-there v list tables front section hs i old now h there lt is p =
-    let u : HasUnit (debug_data v) (unit_section_at v section) h = own-unit v list tables front section hs i old now h there lt is p in
+units-there v list tables fronts section hs i old now h there lt is p =
+    let u : HasUnit (debug_data v) (unit_section_at v section) h = own-unit v list tables fronts section hs i old now h there lt is p in
     subst (λ (n : ℕ). HasUnit (debug_data v) (unit_section_at v n) h) (sym (own-section v section h there u)) u
 
 each-table-append : (d : DebugData) (hs : List UnitHeader) (h : UnitHeader) → EachTable d hs → HasAbbreviations d h → EachTable d (hs ++ h ∷ [])
 each-table-append d [] h all one = (one, tt)
 each-table-append d (x ∷ xs) h all one = (all.0, each-table-append d xs h all.1 one)
 
-pub units-more : (v : View) (list : List Contribution) (tables : ℕ → Option LineTable) (front : List ℕ) (section : ℕ) (hs : List UnitHeader) (i : ℕ) (old now new : List (List ℕ))
-    (h : UnitHeader) → IsUnitSection v section → i < length hs → h ≡ get_or hs i h → UnitsPass v list tables front section hs i old now
-    → new ≡ with_paths front now (unit_paths (debug_data v) list tables (unit_section_at v h.section) h) → HasAbbreviations (debug_data v) h
-    → UnitsPass v list tables front section hs (i + 1) old new
-units-more v list tables front section hs i old now new h there lt is p e own_table =
+pub units-more : (v : View) (list : List Contribution) (tables : ℕ → Option LineTable) (fronts : List (List ℕ)) (section : ℕ) (hs : List UnitHeader) (i : ℕ) (old now new : List (List ℕ))
+    (h : UnitHeader) → IsUnitSection v section → i < length hs → h ≡ get_or hs i h → UnitsPass v list tables fronts section hs i old now
+    → new ≡ with_paths fronts now (unit_paths (debug_data v) list tables (unit_section_at v h.section) h) → HasAbbreviations (debug_data v) h
+    → UnitsPass v list tables fronts section hs (i + 1) old new
+units-more v list tables fronts section hs i old now new h there lt is p e own_table =
     let z : UnitSection = unit_section_at v section in
-    let u : HasUnit (debug_data v) (unit_section_at v section) h = own-unit v list tables front section hs i old now h there lt is p in
-    let next = next-unit v list tables front section hs i old now h lt is p in
-    let own : new ≡ with_paths front now (unit_paths (debug_data v) list tables (unit_section_at v section) h) =
-    e ∙ ap (λ (n : ℕ). with_paths front now (unit_paths (debug_data v) list tables (unit_section_at v n) h)) (own-section v section h there u) in
+    let u : HasUnit (debug_data v) (unit_section_at v section) h = own-unit v list tables fronts section hs i old now h there lt is p in
+    let next = next-unit v list tables fronts section hs i old now h lt is p in
+    let own : new ≡ with_paths fronts now (unit_paths (debug_data v) list tables (unit_section_at v section) h) =
+    e ∙ ap (λ (n : ℕ). with_paths fronts now (unit_paths (debug_data v) list tables (unit_section_at v n) h)) (own-section v section h there u) in
     record {
       start = h.end;
       before = subst (λ (xs : List UnitHeader). UnitsUpTo (debug_data v).base (unit_section_at v section) xs h.end) (sym (behind-of hs h i lt is))
@@ -231,21 +231,21 @@ units-more v list tables front section hs i old now new h there lt is p e own_ta
       rest = next.1;
       declared = subst (EachTable (debug_data v)) (sym (behind-of hs h i lt is)) (each-table-append (debug_data v) (take i hs) h p.declared own_table);
       same =
-          ap (λ (ns : List (List ℕ)). with_paths front ns (section_paths (debug_data v) list tables (unit_section_at v section) (drop (i + 1) hs))) own
-          ∙ sym (paths-append front now (unit_paths (debug_data v) list tables (unit_section_at v section) h)
+          ap (λ (ns : List (List ℕ)). with_paths fronts ns (section_paths (debug_data v) list tables (unit_section_at v section) (drop (i + 1) hs))) own
+          ∙ sym (paths-append fronts now (unit_paths (debug_data v) list tables (unit_section_at v section) h)
           (section_paths (debug_data v) list tables (unit_section_at v section) (drop (i + 1) hs)))
-          ∙ ap (λ (xs : List UnitHeader). with_paths front now (section_paths (debug_data v) list tables (unit_section_at v section) xs)) (sym (front-of hs h i lt is)) ∙ p.same;
+          ∙ ap (λ (xs : List UnitHeader). with_paths fronts now (section_paths (debug_data v) list tables (unit_section_at v section) xs)) (sym (front-of hs h i lt is)) ∙ p.same;
     }
 
-pub units-end : (v : View) (list : List Contribution) (tables : ℕ → Option LineTable) (front : List ℕ) (section : ℕ) (hs : List UnitHeader) (i : ℕ) (old now : List (List ℕ))
-    → length hs ≤ i → UnitsPass v list tables front section hs i old now
-    → now ≡ with_paths front old (section_paths (debug_data v) list tables (unit_section_at v section) hs)
-units-end v list tables front section hs i old now end p =
-    ap (λ (xs : List UnitHeader). with_paths front now (section_paths (debug_data v) list tables (unit_section_at v section) xs)) (sym (drop_all i hs end)) ∙ p.same
+pub units-end : (v : View) (list : List Contribution) (tables : ℕ → Option LineTable) (fronts : List (List ℕ)) (section : ℕ) (hs : List UnitHeader) (i : ℕ) (old now : List (List ℕ))
+    → length hs ≤ i → UnitsPass v list tables fronts section hs i old now
+    → now ≡ with_paths fronts old (section_paths (debug_data v) list tables (unit_section_at v section) hs)
+units-end v list tables fronts section hs i old now end p =
+    ap (λ (xs : List UnitHeader). with_paths fronts now (section_paths (debug_data v) list tables (unit_section_at v section) xs)) (sym (drop_all i hs end)) ∙ p.same
 
-pub units-tables : (v : View) (list : List Contribution) (tables : ℕ → Option LineTable) (front : List ℕ) (section : ℕ) (hs : List UnitHeader) (i : ℕ) (old now : List (List ℕ))
-    → UnitsPass v list tables front section hs i old now → length hs ≤ i → EachTable (debug_data v) hs
-units-tables v list tables front section hs i old now p end = subst (EachTable (debug_data v)) (take_all i hs end) p.declared
+pub units-tables : (v : View) (list : List Contribution) (tables : ℕ → Option LineTable) (fronts : List (List ℕ)) (section : ℕ) (hs : List UnitHeader) (i : ℕ) (old now : List (List ℕ))
+    → UnitsPass v list tables fronts section hs i old now → length hs ≤ i → EachTable (debug_data v) hs
+units-tables v list tables fronts section hs i old now p end = subst (EachTable (debug_data v)) (take_all i hs end) p.declared
 
 pub ruleset units_rules = (units-start, units-end, units-tables)
 
@@ -262,10 +262,10 @@ section-row v section (Refused r) there b =
     let s : Stands ((debug_data v).found Info) (unit_section_at v section) = stands-section v section there in
     headers-row (debug_data v) (unit_section_at v section) s.before s.behind r s.is b
 
-pub section-added : (d : DebugData) (list : List Contribution) (tables : ℕ → Option LineTable) (front : List ℕ) (z : UnitSection) (hs : List UnitHeader)
-    (old new : List (List ℕ)) → AreUnits d.base z hs → HeaderOffsetsRead d.base z → EachTable d hs → new ≡ with_paths front old (section_paths d list tables z hs)
-    → AddsSection d list tables front z old new
-section-added d list tables front z hs old new are read each e = record {
+pub section-added : (d : DebugData) (list : List Contribution) (tables : ℕ → Option LineTable) (fronts : List (List ℕ)) (z : UnitSection) (hs : List UnitHeader)
+    (old new : List (List ℕ)) → AreUnits d.base z hs → HeaderOffsetsRead d.base z → EachTable d hs → new ≡ with_paths fronts old (section_paths d list tables z hs)
+    → AddsSection d list tables fronts z old new
+section-added d list tables fronts z hs old new are read each e = record {
   headers = hs;
   units = record { units = are; offsets = read; tables = each };
   added = e;
@@ -274,9 +274,9 @@ section-added d list tables front z hs old new are read each e = record {
 pub ruleset section_rules = (section-row, section-added)
 
 -- the sections so far: none at first
-pub sections-start : (v : View) (list : List Contribution) (tables : ℕ → Option LineTable) (front : List ℕ) (numbers : List ℕ) (old : List (List ℕ))
-    → AddsSections (debug_data v) list tables front (map (unit_section_at v) (take 0 numbers)) old old
-sections-start v list tables front numbers old = record { headers = []; units = tt; added = refl }
+pub sections-start : (v : View) (list : List Contribution) (tables : ℕ → Option LineTable) (fronts : List (List ℕ)) (numbers : List ℕ) (old : List (List ℕ))
+    → AddsSections (debug_data v) list tables fronts (map (unit_section_at v) (take 0 numbers)) old old
+sections-start v list tables fronts numbers old = record { headers = []; units = tt; added = refl }
 
 each-append : (d : DebugData) (zs : List UnitSection) (hss : List (List UnitHeader)) (z : UnitSection) (hs : List UnitHeader) → EachUnits d zs hss → HasUnits d z hs
     → EachUnits d (zs ++ z ∷ []) (hss ++ hs ∷ [])
@@ -295,29 +295,29 @@ sections-append d list tables (x ∷ xs) (y ∷ ys) z hs all =
     ap (λ (ps : List (List ℕ)). section_paths d list tables x y ++ ps) (sections-append d list tables xs ys z hs all.1)
     ∙ sym (append_assoc (section_paths d list tables x y) (sections_paths d list tables xs ys) (section_paths d list tables z hs))
 
-adds-more : (d : DebugData) (list : List Contribution) (tables : ℕ → Option LineTable) (front : List ℕ) (zs : List UnitSection) (z : UnitSection) (old now new : List (List ℕ))
-    → AddsSections d list tables front zs old now → AddsSection d list tables front z now new → AddsSections d list tables front (zs ++ z ∷ []) old new
-adds-more d list tables front zs z old now new p one = record {
+adds-more : (d : DebugData) (list : List Contribution) (tables : ℕ → Option LineTable) (fronts : List (List ℕ)) (zs : List UnitSection) (z : UnitSection) (old now new : List (List ℕ))
+    → AddsSections d list tables fronts zs old now → AddsSection d list tables fronts z now new → AddsSections d list tables fronts (zs ++ z ∷ []) old new
+adds-more d list tables fronts zs z old now new p one = record {
   headers = p.headers ++ one.headers ∷ [];
   units = each-append d zs p.headers z one.headers p.units one.units;
   added =
-      one.added ∙ ap (λ (ns : List (List ℕ)). with_paths front ns (section_paths d list tables z one.headers)) p.added
-      ∙ sym (paths-append front old (sections_paths d list tables zs p.headers) (section_paths d list tables z one.headers))
-      ∙ ap (with_paths front old) (sym (sections-append d list tables zs p.headers z one.headers p.units));
+      one.added ∙ ap (λ (ns : List (List ℕ)). with_paths fronts ns (section_paths d list tables z one.headers)) p.added
+      ∙ sym (paths-append fronts old (sections_paths d list tables zs p.headers) (section_paths d list tables z one.headers))
+      ∙ ap (with_paths fronts old) (sym (sections-append d list tables zs p.headers z one.headers p.units));
 }
 
-pub sections-more : (v : View) (list : List Contribution) (tables : ℕ → Option LineTable) (front : List ℕ) (numbers : List ℕ) (i n : ℕ) (old now new : List (List ℕ))
-    → i < length numbers → n ≡ get_or numbers i n → AddsSections (debug_data v) list tables front (map (unit_section_at v) (take i numbers)) old now
-    → AddsSection (debug_data v) list tables front (unit_section_at v n) now new
-    → AddsSections (debug_data v) list tables front (map (unit_section_at v) (take (i + 1) numbers)) old new
-sections-more v list tables front numbers i n old now new lt is p one =
-    subst (λ (zs : List UnitSection). AddsSections (debug_data v) list tables front zs old new) (sym (sections-next v numbers i n lt is))
-    (adds-more (debug_data v) list tables front (map (unit_section_at v) (take i numbers)) (unit_section_at v n) old now new p one)
+pub sections-more : (v : View) (list : List Contribution) (tables : ℕ → Option LineTable) (fronts : List (List ℕ)) (numbers : List ℕ) (i n : ℕ) (old now new : List (List ℕ))
+    → i < length numbers → n ≡ get_or numbers i n → AddsSections (debug_data v) list tables fronts (map (unit_section_at v) (take i numbers)) old now
+    → AddsSection (debug_data v) list tables fronts (unit_section_at v n) now new
+    → AddsSections (debug_data v) list tables fronts (map (unit_section_at v) (take (i + 1) numbers)) old new
+sections-more v list tables fronts numbers i n old now new lt is p one =
+    subst (λ (zs : List UnitSection). AddsSections (debug_data v) list tables fronts zs old new) (sym (sections-next v numbers i n lt is))
+    (adds-more (debug_data v) list tables fronts (map (unit_section_at v) (take i numbers)) (unit_section_at v n) old now new p one)
 
-pub sections-end : (v : View) (list : List Contribution) (tables : ℕ → Option LineTable) (front : List ℕ) (numbers : List ℕ) (i : ℕ) (old now : List (List ℕ))
-    → length numbers ≤ i → AreSections v numbers → AddsSections (debug_data v) list tables front (map (unit_section_at v) (take i numbers)) old now
-    → AddsSections (debug_data v) list tables front ((debug_data v).found Info) old now
-sections-end v list tables front numbers i old now end are p =
-    subst (λ (zs : List UnitSection). AddsSections (debug_data v) list tables front zs old now) (sections-whole v numbers i are end) p
+pub sections-end : (v : View) (list : List Contribution) (tables : ℕ → Option LineTable) (fronts : List (List ℕ)) (numbers : List ℕ) (i : ℕ) (old now : List (List ℕ))
+    → length numbers ≤ i → AreSections v numbers → AddsSections (debug_data v) list tables fronts (map (unit_section_at v) (take i numbers)) old now
+    → AddsSections (debug_data v) list tables fronts ((debug_data v).found Info) old now
+sections-end v list tables fronts numbers i old now end are p =
+    subst (λ (zs : List UnitSection). AddsSections (debug_data v) list tables fronts zs old now) (sections-whole v numbers i are end) p
 
 pub ruleset all_rules = (none-shared, sections-start, sections-end)

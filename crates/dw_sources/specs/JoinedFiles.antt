@@ -13,9 +13,9 @@ use Rattle.dw_sources.specs.KeptNames.{bytes_of, kept_name, with_kept}
 use Rattle.dw_sources.specs.UnitPaths.{lines_paths}
 
 -- the names that are kept of paths stand already: none is one more
-abbrev pub EachStands : List ℕ → List (List ℕ) → List (List ℕ) → Type 0
-EachStands front names [] = ⊤
-EachStands front names (p ∷ ps) = (with_kept names (kept_name front p) ≡ names) × EachStands front names ps
+abbrev pub EachStands : List (List ℕ) → List (List ℕ) → List (List ℕ) → Type 0
+EachStands fronts names [] = ⊤
+EachStands fronts names (p ∷ ps) = (with_kept names (kept_name fronts p) ≡ names) × EachStands fronts names ps
 
 -- the start of a table, and a folder
 abbrev pub Pair : Type 0
@@ -30,14 +30,14 @@ abbrev pub has_pair : List Pair → Pair → Bool
 has_pair pairs x = list_any (λ y. is_eq (pair_order x y)) pairs
 
 -- the names of each pair's files stand
-abbrev pub EachJoined : DebugData → (ℕ → Option LineTable) → List ℕ → List (List ℕ) → List Pair → Type 0
-EachJoined d tables front names [] = ⊤
-EachJoined d tables front names (x ∷ xs) =
-    EachStands front names (lines_paths (line_source d) tables (bytes_of x.1) (Some x.0)) × EachJoined d tables front names xs
+abbrev pub EachJoined : DebugData → (ℕ → Option LineTable) → List (List ℕ) → List (List ℕ) → List Pair → Type 0
+EachJoined d tables fronts names [] = ⊤
+EachJoined d tables fronts names (x ∷ xs) =
+    EachStands fronts names (lines_paths (line_source d) tables (bytes_of x.1) (Some x.0)) × EachJoined d tables fronts names xs
 
 -- pairs are joined: the names of their files are among these
-pub record AreJoined (d : DebugData) (tables : ℕ → Option LineTable) (front : List ℕ) (names : List (List ℕ)) (pairs : List Pair) : Type 0 where
-  pub each : EachJoined d tables front names pairs
+pub record AreJoined (d : DebugData) (tables : ℕ → Option LineTable) (fronts : List (List ℕ)) (names : List (List ℕ)) (pairs : List Pair) : Type 0 where
+  pub each : EachJoined d tables fronts names pairs
 
 -- the pair of a start and a folder is put among pairs; whether it is new there
 pub record Marks (old new : List Pair) (start : ℕ) (folder : List ℕ) (fresh : Bool) : Type 0 where

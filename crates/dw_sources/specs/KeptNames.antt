@@ -1,13 +1,13 @@
--- The names of sources: of cleaned paths those below the base, with the base cut off, in byte order and each once. This
--- project's profile.
-use Rattle.std.specs.Prelude.{◌≡◌, false, ℕ, nat_eq, if◌then◌else◌, List, [], ◌∷◌, ◌++◌, length, drop, Option, Some, None}
+-- The names of sources: of cleaned paths those below a base of a prefix map, with the longest such base cut off, in byte order and each
+-- once. This project's profile.
+use Rattle.std.specs.Prelude.{◌≡◌, false, ℕ, nat_eq, nat_lt, if◌then◌else◌, List, [], ◌∷◌, ◌++◌, length, drop, map, Option, Some, None}
 use Rattle.std.specs.Cmp.Lexicographic.{slice_cmp}
 use Rattle.std.specs.Global.{Vec}
 use Rattle.std.specs.List.{AllByRecursion, starts_with}
 use Rattle.std.specs.Ordering.{nat_cmp}
 use Rattle.std.specs.declared.cmp.Ordering.{Ordering}
 use Rattle.std.specs.declared.cmp.Ordering.TheVariants.{Less, Equal, Greater}
-use Rattle.dw_base.specs.Paths.{slash}
+use Rattle.dw_base.specs.Paths.{PathMap, slash}
 use Rattle.dw_base.specs.Texts.{has_nul}
 use Rattle.dw_paths.specs.CleanPaths.{cleaned_path}
 
@@ -19,13 +19,28 @@ bytes_of v = v.items
 abbrev pub front_of : List ℕ → List ℕ
 front_of base = cleaned_path base ++ slash ∷ []
 
--- a path without its front; none where it doesn't begin with it
-abbrev pub behind_front : List ℕ → List ℕ → Option (List ℕ)
-behind_front front path = if starts_with nat_eq path front then Some (drop (length front) path) else None
+-- the same of each pair of a prefix map
+abbrev pub fronts_of : PathMap → List (List ℕ)
+fronts_of m = map (λ p. front_of p.base) m.pairs
 
--- the name that is kept of a path
-unfoldable pub kept_name : List ℕ → List ℕ → Option (List ℕ)
-kept_name front path = behind_front front (cleaned_path path)
+-- the greater of a number and another that may be there
+abbrev pub greater : ℕ → Option ℕ → Option ℕ
+greater n None = Some n
+greater n (Some k) = if nat_lt n k then Some k else Some n
+
+-- how long the longest front is that a path begins with; none where it begins with none
+abbrev pub front_len : List (List ℕ) → List ℕ → Option ℕ
+front_len [] path = None
+front_len (front ∷ fronts) path = if starts_with nat_eq path front then greater (length front) (front_len fronts path) else front_len fronts path
+
+-- a path without so many bytes
+abbrev pub behind_front : List ℕ → Option ℕ → Option (List ℕ)
+behind_front path None = None
+behind_front path (Some n) = Some (drop n path)
+
+-- the name that is kept of a path: the cleaned path without the longest front that it begins with
+unfoldable pub kept_name : List (List ℕ) → List ℕ → Option (List ℕ)
+kept_name fronts path = behind_front (cleaned_path path) (front_len fronts (cleaned_path path))
 
 -- a name at its place among names in byte order, where it doesn't stand yet
 abbrev pub placed_by : Ordering → List ℕ → List ℕ → List (List ℕ) → List (List ℕ) → List (List ℕ)
@@ -43,9 +58,9 @@ with_kept names None = names
 with_kept names (Some name) = with_name names name
 
 -- with the names that are kept of paths
-abbrev pub with_paths : List ℕ → List (List ℕ) → List (List ℕ) → List (List ℕ)
-with_paths front names [] = names
-with_paths front names (p ∷ ps) = with_paths front (with_kept names (kept_name front p)) ps
+abbrev pub with_paths : List (List ℕ) → List (List ℕ) → List (List ℕ) → List (List ℕ)
+with_paths fronts names [] = names
+with_paths fronts names (p ∷ ps) = with_paths fronts (with_kept names (kept_name fronts p)) ps
 
 -- no name has a NUL
 abbrev pub HaveNoNul : List (List ℕ) → Type 0

@@ -1,5 +1,6 @@
 pub mod FieldOffsets
 pub mod KeptNames
+pub mod LongestFronts
 pub mod RootValues
 pub mod UnitPaths
 pub mod JoinedFiles

@@ -7,6 +7,7 @@ use Rattle.dw_base.specs.DebugData.{DebugData, DataReadings, line_source}
 use Rattle.dw_base.specs.EntryValues.{HasUnit}
 use Rattle.dw_base.specs.LineReadings.{LineReading, AreTables}
 use Rattle.dw_base.specs.LineTables.{LineTable}
+use Rattle.dw_base.specs.Paths.{PathMap}
 use Rattle.dw_base.specs.RelocationRows.{HeaderOffsetFails, HeaderOffsetsRead}
 use Rattle.dw_base.specs.StringOffsets.{AreContributions}
 use Rattle.dw_base.specs.UnitFails.{UnitFails}
@@ -21,7 +22,7 @@ use Rattle.dw_base.specs.declared.fault.Fault.{Fault}
 use Rattle.dw_base.specs.declared.fault.Fault.TheVariants.{NoMemory}
 use Rattle.dw_meaning.specs.DataFails.{LinesFail}
 use Rattle.dw_meaning.specs.DataOutput.{DataReads}
-use Rattle.dw_sources.specs.KeptNames.{front_of, with_paths}
+use Rattle.dw_sources.specs.KeptNames.{fronts_of, with_paths}
 use Rattle.dw_sources.specs.UnitPaths.{started_table, unit_paths}
 
 -- what is read of debug data for its sources: the headers of the units of each section, the contributions of string offsets, and the
@@ -68,16 +69,16 @@ sections_paths d list tables [] hss = []
 sections_paths d list tables (z ∷ zs) [] = []
 sections_paths d list tables (z ∷ zs) (hs ∷ hss) = section_paths d list tables z hs ++ sections_paths d list tables zs hss
 
--- the sources below a base
-unfoldable pub sources_of : DebugData → SourceReadings → List ℕ → List (List ℕ)
-sources_of d r base =
-    with_paths (front_of base) [] (sections_paths d r.contributions (started_table (line_source d) r.lines) (d.found Info) r.headers)
+-- the sources below the bases of a prefix map
+unfoldable pub sources_of : DebugData → SourceReadings → PathMap → List (List ℕ)
+sources_of d r m =
+    with_paths (fronts_of m) [] (sections_paths d r.contributions (started_table (line_source d) r.lines) (d.found Info) r.headers)
 
--- these are the sources of debug data below a base
-pub record AreSources (d : DebugData) (base : List ℕ) (names : List (List ℕ)) : Type 0 where
+-- these are the sources of debug data below the bases of a prefix map
+pub record AreSources (d : DebugData) (m : PathMap) (names : List (List ℕ)) : Type 0 where
   pub readings : SourceReadings
   pub reads : SourcesRead d readings
-  pub is : names ≡ sources_of d readings base
+  pub is : names ≡ sources_of d readings m
 
 -- why they can't be read: a unit, the offset of its abbreviations for a relocation, its table of abbreviations, a contribution of string offsets, or a
 -- line table can't
@@ -100,15 +101,15 @@ pub record AreShared (d : DebugData) (shared : ℕ → Option (List Abbreviation
   pub each : (at : ℕ) (table : List Abbreviation) → shared at ≡ Some table → IsTable d.base.abbrevs.bytes at table
 
 -- the paths of the units of a section, or of sections, are added to names
-pub record AddsSection (d : DebugData) (list : List Contribution) (tables : ℕ → Option LineTable) (front : List ℕ) (z : UnitSection) (old new : List (List ℕ)) : Type 0 where
+pub record AddsSection (d : DebugData) (list : List Contribution) (tables : ℕ → Option LineTable) (fronts : List (List ℕ)) (z : UnitSection) (old new : List (List ℕ)) : Type 0 where
   pub headers : List UnitHeader
   pub units : HasUnits d z headers
-  pub added : new ≡ with_paths front old (section_paths d list tables z headers)
+  pub added : new ≡ with_paths fronts old (section_paths d list tables z headers)
 
-pub record AddsSections (d : DebugData) (list : List Contribution) (tables : ℕ → Option LineTable) (front : List ℕ) (zs : List UnitSection) (old new : List (List ℕ)) : Type 0 where
+pub record AddsSections (d : DebugData) (list : List Contribution) (tables : ℕ → Option LineTable) (fronts : List (List ℕ)) (zs : List UnitSection) (old new : List (List ℕ)) : Type 0 where
   pub headers : List (List UnitHeader)
   pub units : EachUnits d zs headers
-  pub added : new ≡ with_paths front old (sections_paths d list tables zs headers)
+  pub added : new ≡ with_paths fronts old (sections_paths d list tables zs headers)
 
 -- no relocation refuses the offset of a unit's abbreviations
 abbrev pub HeadersRead : DebugData → Type 0

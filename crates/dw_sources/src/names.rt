@@ -1,9 +1,10 @@
-//! The names of sources: those below a base, in byte order; and which line tables' files are among them.
+//! The names of sources: those below a base of a prefix map, in byte order; and which line tables' files are among them.
 
 ghost use Rattle.std.specs.Prelude.{◌≡◌, [], map, option_map, IfOk, OnOk};
 ghost use Rattle.dw_sources.specs.JoinedFiles.{Marks};
-ghost use Rattle.dw_sources.specs.KeptNames.{behind_front, bytes_of, front_of, kept_name, with_kept, with_name};
+ghost use Rattle.dw_sources.specs.KeptNames.{behind_front, bytes_of, front_len, kept_name, with_kept, with_name};
 
+use crate::fronts::Fronts;
 use dw_base::NoMemory;
 use dw_paths::clean_path;
 use std::alloc::Global;
@@ -43,32 +44,23 @@ pub(crate) fn mark(
     Ok(joined.insert((start, folder))?)
 }
 
-/// What the paths below a base begin with.
-pub(crate) fn front_of(alloc: Global, base: &[u8]) -> Result<Vec<u8>, NoMemory>
-    ensures value { IfOk result (λ front. front.items ≡ front_of base.now) }
+/// A path without its longest front. `None` exactly where it begins with none.
+fn behind_front<'p>(fronts: &Fronts, path: &'p [u8]) -> Option<&'p [u8]>
+    ensures value { option_map (λ n. n.now) result ≡ behind_front path.now (front_len fronts.now path.now) }
 {
-    let mut front = clean_path(alloc, base)?;
-    front.push(b'/')?;
-    Ok(front)
-}
-
-/// A path without its front. `None` exactly where it doesn't begin with it.
-fn behind_front<'p>(front: &[u8], path: &'p [u8]) -> Option<&'p [u8]>
-    ensures value { option_map (λ n. n.now) result ≡ behind_front front.now path.now }
-{
-    if path.starts_with(front) {
-        return Some(&path[front.len()..]);
+    match fronts.len_in(path) {
+        Some(len) => Some(&path[len..]),
+        None => None,
     }
-    None
 }
 
 /// The name that is kept of a path, where one is.
 #[tactic(auto, unfolding(crate::specs::KeptNames::kept_name))]
-fn kept_name(alloc: Global, front: &[u8], path: &[u8]) -> Result<Option<Vec<u8>>, NoMemory>
-    ensures value { IfOk result (λ o. option_map bytes_of o ≡ kept_name front.now path.now) }
+fn kept_name(alloc: Global, fronts: &Fronts, path: &[u8]) -> Result<Option<Vec<u8>>, NoMemory>
+    ensures value { IfOk result (λ o. option_map bytes_of o ≡ kept_name fronts.now path.now) }
 {
     let cleaned = clean_path(alloc, path)?;
-    match behind_front(front, &cleaned) {
+    match behind_front(fronts, &cleaned) {
         Some(name) => Ok(Some(Vec::from_slice(alloc, name)?)),
         None => Ok(None),
     }
@@ -86,13 +78,13 @@ fn add_name(names: &mut BTreeSet<Vec<u8>>, name: Vec<u8>) -> Result<(), NoMemory
 /// Adds the name that is kept of a path, where one is.
 pub(crate) fn add_path(
     alloc: Global,
-    front: &[u8],
+    fronts: &Fronts,
     path: &[u8],
     names: &mut BTreeSet<Vec<u8>>,
 ) -> Result<(), NoMemory>
-    ensures value { OnOk result (map bytes_of names.new.keys ≡ with_kept (map bytes_of names.old.keys) (kept_name front.now path.now)) }
+    ensures value { OnOk result (map bytes_of names.new.keys ≡ with_kept (map bytes_of names.old.keys) (kept_name fronts.now path.now)) }
 {
-    match kept_name(alloc, front, path)? {
+    match kept_name(alloc, fronts, path)? {
         Some(name) => add_name(names, name)?,
         None => {}
     }

@@ -15,6 +15,7 @@ ghost use Rattle.dw_sources.specs.KeptNames.{bytes_of, with_paths};
 ghost use Rattle.dw_sources.specs.UnitPaths.{dir_place, dir_text, file_path, files_paths, folder_of, is_made_up, lines_paths, listed, paths_in, root_paths, table_paths, unit_path};
 ghost use Rattle.dw_paths.specs.CleanPaths.{joined_path};
 
+use crate::fronts::Fronts;
 use crate::names::{FoundNames, add_path, mark};
 use crate::offsets::root_offset;
 use crate::roots::Root;
@@ -38,33 +39,33 @@ fn is_made_up(text: &[u8]) -> bool
 #[tactic(auto, using(crate::proofs::PathLaws::named_rules))]
 fn add_named(
     alloc: Global,
-    front: &[u8],
+    fronts: &Fronts,
     folder: &[u8],
     name: &[u8],
     names: &mut BTreeSet<Vec<u8>>,
 ) -> Result<(), NoMemory>
-    ensures value { OnOk result (map bytes_of names.new.keys ≡ with_paths front.now (map bytes_of names.old.keys) (listed name.now (joined_path folder.now name.now))) }
+    ensures value { OnOk result (map bytes_of names.new.keys ≡ with_paths fronts.now (map bytes_of names.old.keys) (listed name.now (joined_path folder.now name.now))) }
 {
     if is_made_up(name) {
         return Ok(());
     }
     let path = join_path(alloc, folder, name)?;
-    add_path(alloc, front, &path, names)?;
+    add_path(alloc, fronts, &path, names)?;
     Ok(())
 }
 
 /// Adds the path of a unit, where it has a name.
 fn add_unit_path(
     alloc: Global,
-    front: &[u8],
+    fronts: &Fronts,
     folder: &[u8],
     name: Option<&[u8]>,
     names: &mut BTreeSet<Vec<u8>>,
 ) -> Result<(), NoMemory>
-    ensures value { OnOk result (map bytes_of names.new.keys ≡ with_paths front.now (map bytes_of names.old.keys) (unit_path folder.now (option_map (λ t. t.now) name.entry))) }
+    ensures value { OnOk result (map bytes_of names.new.keys ≡ with_paths fronts.now (map bytes_of names.old.keys) (unit_path folder.now (option_map (λ t. t.now) name.entry))) }
 {
     match name {
-        Some(name) => add_named(alloc, front, folder, name, names),
+        Some(name) => add_named(alloc, fronts, folder, name, names),
         None => Ok(()),
     }
 }
@@ -107,19 +108,19 @@ fn dir_text<'v>(view: &'v View, table: &LineTable, number: u64) -> Option<&'v [u
 fn add_file(
     alloc: Global,
     view: &View,
-    front: &[u8],
+    fronts: &Fronts,
     folder: &[u8],
     table: &LineTable,
     file: &FilePlace,
     names: &mut BTreeSet<Vec<u8>>,
 ) -> Result<(), NoMemory>
-    ensures value { OnOk result (map bytes_of names.new.keys ≡ with_paths front.now (map bytes_of names.old.keys) (file_path (line_source (debug_data view.now)) folder.now table.now file.now)) }
+    ensures value { OnOk result (map bytes_of names.new.keys ≡ with_paths fronts.now (map bytes_of names.old.keys) (file_path (line_source (debug_data view.now)) folder.now table.now file.now)) }
 {
     let Some(dir) = dir_text(view, table, file.dir) else {
         return Ok(());
     };
     let dir = join_path(alloc, folder, dir)?;
-    add_named(alloc, front, &dir, place_text(view, &file.text), names)?;
+    add_named(alloc, fronts, &dir, place_text(view, &file.text), names)?;
     Ok(())
 }
 
@@ -128,16 +129,16 @@ fn add_file(
 fn add_files(
     alloc: Global,
     view: &View,
-    front: &[u8],
+    fronts: &Fronts,
     folder: &[u8],
     table: &LineTable,
     files: &[FilePlace],
     names: &mut BTreeSet<Vec<u8>>,
 ) -> Result<(), NoMemory>
-    ensures value { OnOk result (map bytes_of names.new.keys ≡ with_paths front.now (map bytes_of names.old.keys) (files_paths (line_source (debug_data view.now)) folder.now table.now files.now)) }
+    ensures value { OnOk result (map bytes_of names.new.keys ≡ with_paths fronts.now (map bytes_of names.old.keys) (files_paths (line_source (debug_data view.now)) folder.now table.now files.now)) }
 {
     for file in files {
-        add_file(alloc, view, front, folder, table, file, names)?;
+        add_file(alloc, view, fronts, folder, table, file, names)?;
     }
     Ok(())
 }
@@ -148,14 +149,14 @@ fn add_lines(
     alloc: Global,
     view: &View,
     tables: &HashMap<u64, LineTable>,
-    front: &[u8],
+    fronts: &Fronts,
     folder: &[u8],
     lines: Option<u64>,
     found: &mut FoundNames,
 ) -> Result<(), NoMemory>
-    requires joined { AreJoined (debug_data view.now) (λ at. get nat_eq tables.now at) front.now (map bytes_of found.old.names.keys) found.old.joined.keys }
-    ensures joined { OnOk result (AreJoined (debug_data view.now) (λ at. get nat_eq tables.now at) front.now (map bytes_of found.new.names.keys) found.new.joined.keys) }
-    ensures value { OnOk result (map bytes_of found.new.names.keys ≡ with_paths front.now (map bytes_of found.old.names.keys) (lines_paths (line_source (debug_data view.now)) (λ at. get nat_eq tables.now at) folder.now lines)) }
+    requires joined { AreJoined (debug_data view.now) (λ at. get nat_eq tables.now at) fronts.now (map bytes_of found.old.names.keys) found.old.joined.keys }
+    ensures joined { OnOk result (AreJoined (debug_data view.now) (λ at. get nat_eq tables.now at) fronts.now (map bytes_of found.new.names.keys) found.new.joined.keys) }
+    ensures value { OnOk result (map bytes_of found.new.names.keys ≡ with_paths fronts.now (map bytes_of found.old.names.keys) (lines_paths (line_source (debug_data view.now)) (λ at. get nat_eq tables.now at) folder.now lines)) }
 {
     let Some(start) = lines else {
         return Ok(());
@@ -167,7 +168,7 @@ fn add_lines(
         add_files(
             alloc,
             view,
-            front,
+            fronts,
             folder,
             table,
             &table.files,
@@ -193,18 +194,18 @@ fn add_paths(
     alloc: Global,
     view: &View,
     tables: &HashMap<u64, LineTable>,
-    front: &[u8],
+    fronts: &Fronts,
     folder: &[u8],
     name: Option<&[u8]>,
     lines: Option<u64>,
     found: &mut FoundNames,
 ) -> Result<(), NoMemory>
-    requires joined { AreJoined (debug_data view.now) (λ at. get nat_eq tables.now at) front.now (map bytes_of found.old.names.keys) found.old.joined.keys }
-    ensures joined { OnOk result (AreJoined (debug_data view.now) (λ at. get nat_eq tables.now at) front.now (map bytes_of found.new.names.keys) found.new.joined.keys) }
-    ensures value { OnOk result (map bytes_of found.new.names.keys ≡ with_paths front.now (map bytes_of found.old.names.keys) (paths_in (debug_data view.now) (λ at. get nat_eq tables.now at) folder.now (option_map (λ t. t.now) name.entry) lines)) }
+    requires joined { AreJoined (debug_data view.now) (λ at. get nat_eq tables.now at) fronts.now (map bytes_of found.old.names.keys) found.old.joined.keys }
+    ensures joined { OnOk result (AreJoined (debug_data view.now) (λ at. get nat_eq tables.now at) fronts.now (map bytes_of found.new.names.keys) found.new.joined.keys) }
+    ensures value { OnOk result (map bytes_of found.new.names.keys ≡ with_paths fronts.now (map bytes_of found.old.names.keys) (paths_in (debug_data view.now) (λ at. get nat_eq tables.now at) folder.now (option_map (λ t. t.now) name.entry) lines)) }
 {
-    add_unit_path(alloc, front, folder, name, &mut found.names)?;
-    add_lines(alloc, view, tables, front, folder, lines, found)?;
+    add_unit_path(alloc, fronts, folder, name, &mut found.names)?;
+    add_lines(alloc, view, tables, fronts, folder, lines, found)?;
     Ok(())
 }
 
@@ -215,7 +216,7 @@ pub(crate) fn add_root(
     view: &View,
     list: &ContributionList,
     tables: &HashMap<u64, LineTable>,
-    front: &[u8],
+    fronts: &Fronts,
     section: u32,
     bytes: &[u8],
     root: Root,
@@ -223,14 +224,14 @@ pub(crate) fn add_root(
 ) -> Result<(), NoMemory>
     requires unit { IsOfView view.now section (unit_section_at view.now section) }
     requires inside { length bytes.now ≤ length (section_bytes view.now section) }
-    requires joined { AreJoined (debug_data view.now) (λ at. get nat_eq tables.now at) front.now (map bytes_of found.old.names.keys) found.old.joined.keys }
-    ensures joined { OnOk result (AreJoined (debug_data view.now) (λ at. get nat_eq tables.now at) front.now (map bytes_of found.new.names.keys) found.new.joined.keys) }
-    ensures value { OnOk result (map bytes_of found.new.names.keys ≡ with_paths front.now (map bytes_of found.old.names.keys) (root_paths (debug_data view.now) list.now (λ at. get nat_eq tables.now at) (unit_section_at view.now section) bytes.now root)) }
+    requires joined { AreJoined (debug_data view.now) (λ at. get nat_eq tables.now at) fronts.now (map bytes_of found.old.names.keys) found.old.joined.keys }
+    ensures joined { OnOk result (AreJoined (debug_data view.now) (λ at. get nat_eq tables.now at) fronts.now (map bytes_of found.new.names.keys) found.new.joined.keys) }
+    ensures value { OnOk result (map bytes_of found.new.names.keys ≡ with_paths fronts.now (map bytes_of found.old.names.keys) (root_paths (debug_data view.now) list.now (λ at. get nat_eq tables.now at) (unit_section_at view.now section) bytes.now root)) }
 {
     let base = root_offset(view, section, bytes, DebugSection::StrOffsets, root.base);
     let lines = root_offset(view, section, bytes, DebugSection::Line, root.lines);
     let folder = folder_of(value_text(view, list, section, bytes, base, root.comp_dir));
     let name = value_text(view, list, section, bytes, base, root.name);
-    add_paths(alloc, view, tables, front, folder, name, lines, found)?;
+    add_paths(alloc, view, tables, fronts, folder, name, lines, found)?;
     Ok(())
 }

@@ -18,6 +18,7 @@ ghost use Rattle.dw_sources.specs.KeptNames.{bytes_of, with_paths};
 ghost use Rattle.dw_sources.specs.Sources.{AddsSection, AddsSections, AreShared, EachTable, HasAbbreviations, SourcesFail, section_paths};
 ghost use Rattle.dw_sources.specs.UnitPaths.{unit_paths};
 
+use crate::fronts::Fronts;
 use crate::names::FoundNames;
 use crate::paths::add_root;
 use crate::roots::root_at;
@@ -58,16 +59,16 @@ fn add_unit(
     view: &View,
     list: &ContributionList,
     tables: &HashMap<u64, LineTable>,
-    front: &[u8],
+    fronts: &Fronts,
     unit: &UnitHeader,
     abbrevs: &AbbrevTable,
     found: &mut FoundNames,
 ) -> Result<(), NoMemory>
     requires unit { HasUnit (debug_data view.now) (unit_section_at view.now unit.now.section) unit.now }
     requires table { IsTable (debug_data view.now).base.abbrevs.bytes unit.now.abbrevs abbrevs.now }
-    requires joined { AreJoined (debug_data view.now) (λ at. get nat_eq tables.now at) front.now (map bytes_of found.old.names.keys) found.old.joined.keys }
-    ensures joined { OnOk result (AreJoined (debug_data view.now) (λ at. get nat_eq tables.now at) front.now (map bytes_of found.new.names.keys) found.new.joined.keys) }
-    ensures value { OnOk result (map bytes_of found.new.names.keys ≡ with_paths front.now (map bytes_of found.old.names.keys) (unit_paths (debug_data view.now) list.now (λ at. get nat_eq tables.now at) (unit_section_at view.now unit.now.section) unit.now)) }
+    requires joined { AreJoined (debug_data view.now) (λ at. get nat_eq tables.now at) fronts.now (map bytes_of found.old.names.keys) found.old.joined.keys }
+    ensures joined { OnOk result (AreJoined (debug_data view.now) (λ at. get nat_eq tables.now at) fronts.now (map bytes_of found.new.names.keys) found.new.joined.keys) }
+    ensures value { OnOk result (map bytes_of found.new.names.keys ≡ with_paths fronts.now (map bytes_of found.old.names.keys) (unit_paths (debug_data view.now) list.now (λ at. get nat_eq tables.now at) (unit_section_at view.now unit.now.section) unit.now)) }
 {
     let bytes = &view.bytes(unit.section)[..unit.end as usize];
     let root = root_at(&unit.params, abbrevs, bytes, unit.first);
@@ -76,7 +77,7 @@ fn add_unit(
         view,
         list,
         tables,
-        front,
+        fronts,
         unit.section,
         bytes,
         root,
@@ -92,17 +93,17 @@ fn one_unit(
     view: &View,
     list: &ContributionList,
     tables: &HashMap<u64, LineTable>,
-    front: &[u8],
+    fronts: &Fronts,
     unit: &UnitHeader,
     shared: &mut HashMap<u64, AbbrevTable>,
     found: &mut FoundNames,
 ) -> Result<(), Fault>
     requires unit { HasUnit (debug_data view.now) (unit_section_at view.now unit.now.section) unit.now }
     requires shared { AreShared (debug_data view.now) (λ at. get nat_eq shared.old at) }
-    requires joined { AreJoined (debug_data view.now) (λ at. get nat_eq tables.now at) front.now (map bytes_of found.old.names.keys) found.old.joined.keys }
+    requires joined { AreJoined (debug_data view.now) (λ at. get nat_eq tables.now at) fronts.now (map bytes_of found.old.names.keys) found.old.joined.keys }
     ensures shared { OnOk result (AreShared (debug_data view.now) (λ at. get nat_eq shared.new at)) }
-    ensures joined { OnOk result (AreJoined (debug_data view.now) (λ at. get nat_eq tables.now at) front.now (map bytes_of found.new.names.keys) found.new.joined.keys) }
-    ensures value { OnOk result (map bytes_of found.new.names.keys ≡ with_paths front.now (map bytes_of found.old.names.keys) (unit_paths (debug_data view.now) list.now (λ at. get nat_eq tables.now at) (unit_section_at view.now unit.now.section) unit.now)) }
+    ensures joined { OnOk result (AreJoined (debug_data view.now) (λ at. get nat_eq tables.now at) fronts.now (map bytes_of found.new.names.keys) found.new.joined.keys) }
+    ensures value { OnOk result (map bytes_of found.new.names.keys ≡ with_paths fronts.now (map bytes_of found.old.names.keys) (unit_paths (debug_data view.now) list.now (λ at. get nat_eq tables.now at) (unit_section_at view.now unit.now.section) unit.now)) }
     ensures table { OnOk result (HasAbbreviations (debug_data view.now) unit.now) }
     ensures refused { IfErr result (Blames (SourcesFail (debug_data view.now))) }
 {
@@ -111,7 +112,7 @@ fn one_unit(
     let Some(abbrevs) = shared.get(&at) else {
         unreachable!()
     };
-    add_unit(alloc, view, list, tables, front, unit, abbrevs, found)?;
+    add_unit(alloc, view, list, tables, fronts, unit, abbrevs, found)?;
     Ok(())
 }
 
@@ -122,7 +123,7 @@ fn add_units(
     view: &View,
     list: &ContributionList,
     tables: &HashMap<u64, LineTable>,
-    front: &[u8],
+    fronts: &Fronts,
     section: u32,
     units: &[UnitHeader],
     shared: &mut HashMap<u64, AbbrevTable>,
@@ -131,15 +132,15 @@ fn add_units(
     requires there { IsUnitSection view.now section }
     requires units { AreUnits (debug_data view.now).base (unit_section_at view.now section) units.now }
     requires shared { AreShared (debug_data view.now) (λ at. get nat_eq shared.old at) }
-    requires joined { AreJoined (debug_data view.now) (λ at. get nat_eq tables.now at) front.now (map bytes_of found.old.names.keys) found.old.joined.keys }
+    requires joined { AreJoined (debug_data view.now) (λ at. get nat_eq tables.now at) fronts.now (map bytes_of found.old.names.keys) found.old.joined.keys }
     ensures shared { OnOk result (AreShared (debug_data view.now) (λ at. get nat_eq shared.new at)) }
-    ensures joined { OnOk result (AreJoined (debug_data view.now) (λ at. get nat_eq tables.now at) front.now (map bytes_of found.new.names.keys) found.new.joined.keys) }
-    ensures value { OnOk result (map bytes_of found.new.names.keys ≡ with_paths front.now (map bytes_of found.old.names.keys) (section_paths (debug_data view.now) list.now (λ at. get nat_eq tables.now at) (unit_section_at view.now section) units.now)) }
+    ensures joined { OnOk result (AreJoined (debug_data view.now) (λ at. get nat_eq tables.now at) fronts.now (map bytes_of found.new.names.keys) found.new.joined.keys) }
+    ensures value { OnOk result (map bytes_of found.new.names.keys ≡ with_paths fronts.now (map bytes_of found.old.names.keys) (section_paths (debug_data view.now) list.now (λ at. get nat_eq tables.now at) (unit_section_at view.now section) units.now)) }
     ensures tables { OnOk result (EachTable (debug_data view.now) units.now) }
     ensures refused { IfErr result (Blames (SourcesFail (debug_data view.now))) }
 {
     for unit in units {
-        one_unit(alloc, view, list, tables, front, unit, shared, found)?;
+        one_unit(alloc, view, list, tables, fronts, unit, shared, found)?;
     }
     Ok(())
 }
@@ -151,17 +152,17 @@ fn add_section(
     view: &View,
     list: &ContributionList,
     tables: &HashMap<u64, LineTable>,
-    front: &[u8],
+    fronts: &Fronts,
     section: u32,
     shared: &mut HashMap<u64, AbbrevTable>,
     found: &mut FoundNames,
 ) -> Result<(), Fault>
     requires there { IsUnitSection view.now section }
     requires shared { AreShared (debug_data view.now) (λ at. get nat_eq shared.old at) }
-    requires joined { AreJoined (debug_data view.now) (λ at. get nat_eq tables.now at) front.now (map bytes_of found.old.names.keys) found.old.joined.keys }
+    requires joined { AreJoined (debug_data view.now) (λ at. get nat_eq tables.now at) fronts.now (map bytes_of found.old.names.keys) found.old.joined.keys }
     ensures shared { OnOk result (AreShared (debug_data view.now) (λ at. get nat_eq shared.new at)) }
-    ensures joined { OnOk result (AreJoined (debug_data view.now) (λ at. get nat_eq tables.now at) front.now (map bytes_of found.new.names.keys) found.new.joined.keys) }
-    ensures value { OnOk result (AddsSection (debug_data view.now) list.now (λ at. get nat_eq tables.now at) front.now (unit_section_at view.now section) (map bytes_of found.old.names.keys) (map bytes_of found.new.names.keys)) }
+    ensures joined { OnOk result (AreJoined (debug_data view.now) (λ at. get nat_eq tables.now at) fronts.now (map bytes_of found.new.names.keys) found.new.joined.keys) }
+    ensures value { OnOk result (AddsSection (debug_data view.now) list.now (λ at. get nat_eq tables.now at) fronts.now (unit_section_at view.now section) (map bytes_of found.old.names.keys) (map bytes_of found.new.names.keys)) }
     ensures refused { IfErr result (Blames (SourcesFail (debug_data view.now))) }
 {
     let units = unit_headers(alloc, view, section)?;
@@ -170,7 +171,7 @@ fn add_section(
         view,
         list,
         tables,
-        front,
+        fronts,
         section,
         units.as_slice(),
         shared,
@@ -185,14 +186,14 @@ fn add_sections(
     view: &View,
     list: &ContributionList,
     tables: &HashMap<u64, LineTable>,
-    front: &[u8],
+    fronts: &Fronts,
     numbers: &[u32],
     found: &mut FoundNames,
 ) -> Result<(), Fault>
     requires sections { AreSections view.now numbers.now }
-    requires joined { AreJoined (debug_data view.now) (λ at. get nat_eq tables.now at) front.now (map bytes_of found.old.names.keys) found.old.joined.keys }
-    ensures joined { OnOk result (AreJoined (debug_data view.now) (λ at. get nat_eq tables.now at) front.now (map bytes_of found.new.names.keys) found.new.joined.keys) }
-    ensures value { OnOk result (AddsSections (debug_data view.now) list.now (λ at. get nat_eq tables.now at) front.now ((debug_data view.now).found Info) (map bytes_of found.old.names.keys) (map bytes_of found.new.names.keys)) }
+    requires joined { AreJoined (debug_data view.now) (λ at. get nat_eq tables.now at) fronts.now (map bytes_of found.old.names.keys) found.old.joined.keys }
+    ensures joined { OnOk result (AreJoined (debug_data view.now) (λ at. get nat_eq tables.now at) fronts.now (map bytes_of found.new.names.keys) found.new.joined.keys) }
+    ensures value { OnOk result (AddsSections (debug_data view.now) list.now (λ at. get nat_eq tables.now at) fronts.now ((debug_data view.now).found Info) (map bytes_of found.old.names.keys) (map bytes_of found.new.names.keys)) }
     ensures refused { IfErr result (Blames (SourcesFail (debug_data view.now))) }
 {
     let mut shared = HashMap::new(alloc);
@@ -202,7 +203,7 @@ fn add_sections(
             view,
             list,
             tables,
-            front,
+            fronts,
             *section,
             &mut shared,
             found,
@@ -217,14 +218,14 @@ pub(crate) fn add_all(
     view: &View,
     list: &ContributionList,
     tables: &HashMap<u64, LineTable>,
-    front: &[u8],
+    fronts: &Fronts,
     found: &mut FoundNames,
 ) -> Result<(), Fault>
-    requires joined { AreJoined (debug_data view.now) (λ at. get nat_eq tables.now at) front.now (map bytes_of found.old.names.keys) found.old.joined.keys }
-    ensures joined { OnOk result (AreJoined (debug_data view.now) (λ at. get nat_eq tables.now at) front.now (map bytes_of found.new.names.keys) found.new.joined.keys) }
-    ensures value { OnOk result (AddsSections (debug_data view.now) list.now (λ at. get nat_eq tables.now at) front.now ((debug_data view.now).found Info) (map bytes_of found.old.names.keys) (map bytes_of found.new.names.keys)) }
+    requires joined { AreJoined (debug_data view.now) (λ at. get nat_eq tables.now at) fronts.now (map bytes_of found.old.names.keys) found.old.joined.keys }
+    ensures joined { OnOk result (AreJoined (debug_data view.now) (λ at. get nat_eq tables.now at) fronts.now (map bytes_of found.new.names.keys) found.new.joined.keys) }
+    ensures value { OnOk result (AddsSections (debug_data view.now) list.now (λ at. get nat_eq tables.now at) fronts.now ((debug_data view.now).found Info) (map bytes_of found.old.names.keys) (map bytes_of found.new.names.keys)) }
     ensures refused { IfErr result (Blames (SourcesFail (debug_data view.now))) }
 {
     let numbers = unit_sections(alloc, view)?;
-    add_sections(alloc, view, list, tables, front, &numbers, found)
+    add_sections(alloc, view, list, tables, fronts, &numbers, found)
 }

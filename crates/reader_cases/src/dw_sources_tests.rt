@@ -2,6 +2,7 @@
 
 use crate::files::{Piece, Row, file_of};
 use dw_base::Order;
+use dw_paths::Maps;
 use dw_sources::sources;
 use dw_view::View;
 use elf_file::ElfFile;
@@ -71,9 +72,25 @@ fn the_sources_are_those_of_units_and_files(rt: HostRuntime) -> Result<(), Fail>
     assert!(rt; file.len() <= 0x8000_0000);
     let elf = ElfFile::read(rt.alloc(), &file)?;
     let view = View::one(&elf)?;
-    let names = sources(rt.alloc(), &view, b"/build/p")?;
+    let maps = Maps::new(rt.alloc(), b"/build/p", b"/d")?.ok_or("no map")?;
+    let names = sources(rt.alloc(), &view, &maps)?;
     assert!(rt; names.len() == 2);
     assert_eq!(rt; names[0].as_slice(), b"a.c".as_slice());
     assert_eq!(rt; names[1].as_slice(), b"inc/x.h".as_slice());
+    Ok(())
+}
+
+#[test]
+fn the_longest_base_is_cut_off(rt: HostRuntime) -> Result<(), Fail> {
+    let file = file_of(rt.alloc(), Order::Little, &[UNIT, ABBREVIATIONS, LINES])?;
+    assert!(rt; file.len() <= 0x8000_0000);
+    let elf = ElfFile::read(rt.alloc(), &file)?;
+    let view = View::one(&elf)?;
+    let mut maps = Maps::new(rt.alloc(), b"/build/p", b"/d")?.ok_or("no map")?;
+    assert!(rt; maps.add(rt.alloc(), b"/build/./p/inc", b"/i")?);
+    let names = sources(rt.alloc(), &view, &maps)?;
+    assert!(rt; names.len() == 2);
+    assert_eq!(rt; names[0].as_slice(), b"a.c".as_slice());
+    assert_eq!(rt; names[1].as_slice(), b"x.h".as_slice());
     Ok(())
 }

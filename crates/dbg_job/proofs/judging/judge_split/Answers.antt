@@ -12,5 +12,5 @@ pub returns-clause-judged : goal.returns-clause-judged
 returns-clause-judged c =
     judged-split c.args.options.now c.args.elf.now.bytes.now c.in_ok-out.out.file c.new-file.result c.in_ok-id.id c.in_ok-sources.sources c.requires.taken
     c.requires.loaded c.in_ok-id_fits.ensures.fits c.in_ok-out.ensures.made
-    (subst (λ (m : PathMap). AreSources (file_data c.args.elf.now.bytes.now) m.base c.in_ok-sources.sources) (ap (λ (s : Settings). s.maps) c.options.view_is) c.in_ok-sources.ensures.sources)
+    (subst (λ (m : PathMap). AreSources (file_data c.args.elf.now.bytes.now) m c.in_ok-sources.sources) (ap (λ (s : Settings). s.maps) c.options.view_is) c.in_ok-sources.ensures.sources)
     (c.new-file.ensures.value ∙ c.in_ok-file.ensures.value) (c.in_ok-id.ensures.value ∙ ap id_bytes (c.as_slice.ensures.value ∙ c.in_ok-file.ensures.value))

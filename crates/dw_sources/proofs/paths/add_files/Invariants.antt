@@ -7,4 +7,4 @@ use Rattle.dw_sources.proofs.paths.add_files.Given as goal
 
 abbrev pub invariant-loop-file : goal.invariant-loop-file
 invariant-loop-file l =
-    FilesPass (line_source (debug_data l.view)) l.front l.folder l.table l.files l.file-index (map bytes_of l.fn.names.keys) (map bytes_of l.names.keys)
+    FilesPass (line_source (debug_data l.view)) l.fronts l.folder l.table l.files l.file-index (map bytes_of l.fn.names.keys) (map bytes_of l.names.keys)

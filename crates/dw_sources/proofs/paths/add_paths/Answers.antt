@@ -7,6 +7,6 @@ use Rattle.dw_sources.proofs.paths.add_paths.Goals as goal
 
 pub add_lines-requires : goal.add_lines-requires
 add_lines-requires c = record {
-  joined = joined-stays (debug_data c.args.view.now) _ c.args.front.now _ _ (unit_path c.args.folder.now (option_map (λ t. t.now) c.args.name)) _
+  joined = joined-stays (debug_data c.args.view.now) _ c.args.fronts.now _ _ (unit_path c.args.folder.now (option_map (λ t. t.now) c.args.name)) _
       c.requires.joined c.in_ok-add_unit_path.ensures.value;
 }

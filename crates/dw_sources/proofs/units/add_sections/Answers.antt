@@ -12,7 +12,7 @@ add_section-requires-clause-there c =
 
 pub loop-section-preserved : goal.loop-section-preserved
 loop-section-preserved c = record {
-  passed = sections-more c.args.view.now c.args.list.now _ c.args.front.now c.args.numbers.now c.loop-section.section-index _ _ _ _ (omega arith)
+  passed = sections-more c.args.view.now c.args.list.now _ c.args.fronts.now c.args.numbers.now c.loop-section.section-index _ _ _ _ (omega arith)
       (get_or_default c.args.numbers.now c.loop-section.section-index _ _ (omega arith)) c.loop-section.invariant.passed c.in_ok-add_section.ensures.value;
   joined = c.in_ok-add_section.ensures.joined;
   shared = c.in_ok-add_section.ensures.shared;

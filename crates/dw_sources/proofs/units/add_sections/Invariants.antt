@@ -9,7 +9,7 @@ use Rattle.dw_sources.proofs.units.add_sections.Given as goal
 
 abbrev pub invariant-loop-section : goal.invariant-loop-section
 invariant-loop-section l = record {
-  passed : AddsSections (debug_data l.view) l.list (λ at. get nat_eq l.tables at) l.front (map (unit_section_at l.view) (take l.section-index l.numbers)) (map bytes_of l.fn.found.names.keys) (map bytes_of l.found.names.keys);
-  joined : AreJoined (debug_data l.view) (λ at. get nat_eq l.tables at) l.front (map bytes_of l.found.names.keys) l.found.joined.keys;
+  passed : AddsSections (debug_data l.view) l.list (λ at. get nat_eq l.tables at) l.fronts (map (unit_section_at l.view) (take l.section-index l.numbers)) (map bytes_of l.fn.found.names.keys) (map bytes_of l.found.names.keys);
+  joined : AreJoined (debug_data l.view) (λ at. get nat_eq l.tables at) l.fronts (map bytes_of l.found.names.keys) l.found.joined.keys;
   shared : AreShared (debug_data l.view) (λ at. get nat_eq l.shared at);
 }

@@ -22,6 +22,6 @@ add_root-requires-clause-inside c = unit-front c.args.view.now c.args.unit.now.s
 pub returns : goal.returns
 returns c = record {
   joined = c.in_ok-add_root.ensures.joined;
-  value = unit-added c.args.view.now c.args.list.now _ c.args.front.now c.args.unit.now c.args.abbrevs.now c.bytes.result.now c.root_at-root.result _ _
+  value = unit-added c.args.view.now c.args.list.now _ c.args.fronts.now c.args.unit.now c.args.abbrevs.now c.bytes.result.now c.root_at-root.result _ _
       c.requires.unit c.requires.table c.bytes.ensures.bytes c.root_at-root.ensures.value c.in_ok-add_root.ensures.value;
 }

@@ -9,7 +9,7 @@ use Rattle.dw_sources.proofs.units.add_units.Given as goal
 
 abbrev pub invariant-loop-unit : goal.invariant-loop-unit
 invariant-loop-unit l = record {
-  passed : UnitsPass l.view l.list (λ at. get nat_eq l.tables at) l.front l.section l.units l.unit-index (map bytes_of l.fn.found.names.keys) (map bytes_of l.found.names.keys);
-  joined : AreJoined (debug_data l.view) (λ at. get nat_eq l.tables at) l.front (map bytes_of l.found.names.keys) l.found.joined.keys;
+  passed : UnitsPass l.view l.list (λ at. get nat_eq l.tables at) l.fronts l.section l.units l.unit-index (map bytes_of l.fn.found.names.keys) (map bytes_of l.found.names.keys);
+  joined : AreJoined (debug_data l.view) (λ at. get nat_eq l.tables at) l.fronts (map bytes_of l.found.names.keys) l.found.joined.keys;
   shared : AreShared (debug_data l.view) (λ at. get nat_eq l.shared at);
 }
