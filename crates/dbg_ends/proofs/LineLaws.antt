@@ -28,14 +28,19 @@ pub field_5 : (n : ℕ) → n ≡ 5 → codes "max-file" ≡ field_text n
 unfolding field_text
 field_5 n is = rw is refl
 
-pub no_field : (n : ℕ) → n ≢ 0 → n ≢ 1 → n ≢ 2 → n ≢ 3 → n ≢ 4 → n ≢ 5 → [] ≡ field_text n
+pub field_6 : (n : ℕ) → n ≡ 6 → codes "more-maps" ≡ field_text n
 unfolding field_text
-no_field zero a b c d e f = absurd (a refl)
-no_field (suc zero) a b c d e f = absurd (b refl)
-no_field (suc (suc zero)) a b c d e f = absurd (c refl)
-no_field (suc (suc (suc zero))) a b c d e f = absurd (d refl)
-no_field (suc (suc (suc (suc zero)))) a b c d e f = absurd (e refl)
-no_field (suc (suc (suc (suc (suc zero))))) a b c d e f = absurd (f refl)
-no_field (suc (suc (suc (suc (suc (suc n)))))) a b c d e f = refl
+field_6 n is = rw is refl
 
-pub ruleset field_rules = (field_0, field_1, field_2, field_3, field_4, field_5, no_field)
+pub no_field : (n : ℕ) → n ≢ 0 → n ≢ 1 → n ≢ 2 → n ≢ 3 → n ≢ 4 → n ≢ 5 → n ≢ 6 → [] ≡ field_text n
+unfolding field_text
+no_field zero a b c d e f g = absurd (a refl)
+no_field (suc zero) a b c d e f g = absurd (b refl)
+no_field (suc (suc zero)) a b c d e f g = absurd (c refl)
+no_field (suc (suc (suc zero))) a b c d e f g = absurd (d refl)
+no_field (suc (suc (suc (suc zero)))) a b c d e f g = absurd (e refl)
+no_field (suc (suc (suc (suc (suc zero))))) a b c d e f g = absurd (f refl)
+no_field (suc (suc (suc (suc (suc (suc zero)))))) a b c d e f g = absurd (g refl)
+no_field (suc (suc (suc (suc (suc (suc (suc n))))))) a b c d e f g = refl
+
+pub ruleset field_rules = (field_0, field_1, field_2, field_3, field_4, field_5, field_6, no_field)

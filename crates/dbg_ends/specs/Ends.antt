@@ -46,7 +46,7 @@ mismatch_text (Sum named found) = codes "sum"
 
 -- the option of each field of a run's key, in the order of the fields, as it is printed
 abbrev pub field_texts : List (List ℕ)
-field_texts = codes "base-dir" ∷ codes "dest-dir" ∷ codes "build-id" ∷ codes "seed" ∷ codes "skip-refused" ∷ codes "max-file" ∷ []
+field_texts = codes "base-dir" ∷ codes "dest-dir" ∷ codes "build-id" ∷ codes "seed" ∷ codes "skip-refused" ∷ codes "max-file" ∷ codes "more-maps" ∷ []
 
 -- that of the field of a number, counted from 0
 unfoldable pub field_text : ℕ → List ℕ

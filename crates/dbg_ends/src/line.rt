@@ -54,6 +54,7 @@ fn field_name(field: u8) -> &'static str
         3 => "seed",
         4 => "skip-refused",
         5 => "max-file",
+        6 => "more-maps",
         _ => "",
     }
 }

@@ -22,6 +22,8 @@ pub struct Options {
     pub skip: bool,
     /// The longest file that is read, in bytes: 1 to 2^30.
     pub max_file: u64,
+    /// Whether a path that stands in its value and would grow is moved to a table of texts before.
+    pub grow_inline: bool,
 }
 
 impl Model for Options {
@@ -33,6 +35,7 @@ impl Model for Options {
       seed = o.seed;
       skip = o.skip;
       max_file = o.max_file;
+      grow_inline = o.grow_inline;
     } };
 
     ghost invariant = { λ o. IsWithin o.max_file };

@@ -2,6 +2,7 @@
 ghost use Rattle.std.specs.Prelude.{◌<◌, ◌≤◌};
 
 use crate::toy::Toy;
+use dw_paths::Maps;
 use file_tree::{Blob, Listed, MemTree, Node, Text, Tree};
 use std::alloc::{AllocError, Global};
 use std::process::Abort;
@@ -21,10 +22,10 @@ fn begun(alloc: Global, jobs: u32) -> Result<MemTree, Fail> {
 }
 
 /// The key of the small runs.
-fn key(alloc: Global) -> Result<RunKey, AllocError> {
+fn key(alloc: Global) -> Result<RunKey, Fail> {
+    let maps = Maps::new(alloc, b"/b", b"/d")?.ok_or("no map")?;
     Ok(RunKey {
-        base: Blob::from_slice(alloc, b"/b")?,
-        dest: Blob::from_slice(alloc, b"/d")?,
+        maps,
         build_id: false,
         seed: Blob::from_slice(alloc, b"")?,
         skip: false,

@@ -1,4 +1,5 @@
 //! The texts of the work folder as a whole, against bytes that were written by hand from the rules.
+use dw_paths::Maps;
 use file_tree::{Blob, Text};
 use std::alloc::Global;
 use std::test::Fail;
@@ -21,9 +22,9 @@ const FINISHED: &[u8] =
     b"dbgfinished 1\0/build/p\0/usr/src/debug/p\x001\0seed-1\x000\x001073741824\0split 1, edited 1\n\0";
 
 fn key(alloc: Global) -> Result<RunKey, Fail> {
+    let maps = Maps::new(alloc, b"/build/p", b"/usr/src/debug/p")?.ok_or("no map")?;
     Ok(RunKey {
-        base: Blob::from_slice(alloc, b"/build/p")?,
-        dest: Blob::from_slice(alloc, b"/usr/src/debug/p")?,
+        maps,
         build_id: true,
         seed: Blob::from_slice(alloc, b"seed-1")?,
         skip: false,
@@ -188,5 +189,23 @@ fn the_first_field_that_differs_is_named(rt: HostRuntime) -> Result<(), Fail> {
     assert_eq!(rt; field, 4);
     assert_eq!(rt; kept.as_slice(), b"0".as_slice());
     assert_eq!(rt; given.as_slice(), b"1".as_slice());
+    Ok(())
+}
+
+#[test]
+fn the_pairs_behind_the_first_are_told_last(rt: HostRuntime) -> Result<(), Fail> {
+    let alloc = rt.alloc();
+    let mut other = key(alloc)?;
+    assert!(rt; other.maps.add(alloc, b"/build/q", b"/usr/src/debug/q")?);
+    let Err(JournalErr::OtherRun { field, kept, given }) = check_key(alloc, &key(alloc)?, &other)
+    else {
+        return Err("the same".into());
+    };
+    assert_eq!(rt; field, 6);
+    assert_eq!(rt; kept.as_slice(), b"".as_slice());
+    assert_eq!(rt;
+        given.as_slice(),
+        b"/build/q\0/usr/src/debug/q\0".as_slice()
+    );
     Ok(())
 }

@@ -53,6 +53,7 @@ fn options(alloc: Global, skip: bool) -> Result<Options, Fail> {
         seed,
         skip,
         max_file: 10,
+        grow_inline: false,
     })
 }
 
@@ -62,8 +63,8 @@ fn a_run_has_the_key_of_its_options_and_a_folder_below_its_root(
 ) -> Result<(), Fail> {
     let alloc = rt.alloc();
     let key = run_key(alloc, &options(alloc, true)?)?;
-    assert_eq!(rt; key.base.as_slice(), b"/build/p".as_slice());
-    assert_eq!(rt; key.dest.as_slice(), b"/usr/src/debug/p".as_slice());
+    assert_eq!(rt; key.maps.base(), b"/build/p".as_slice());
+    assert_eq!(rt; key.maps.dest(), b"/usr/src/debug/p".as_slice());
     assert!(rt; key.seed.as_slice().is_empty());
     assert!(rt; !key.build_id && key.skip);
     assert_eq!(rt; key.max_file, 10);

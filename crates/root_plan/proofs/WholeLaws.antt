@@ -343,7 +343,7 @@ module _ (old : Option TreeMap) (root : List ℕ) (s : Settings) (v : JudgeView)
       let jobs : length t.jobs ≤ text_limit = fewer-jobs (plan_of s t) within in
       let sources : length t.sources ≤ text_limit = fewer-sources (plan_of s t) within in
       record {
-        key = record { map = asked.map; seed = asked.seed; low = asked.limit.least; high = asked.limit.greatest };
+        key = record { map = asked.map; one = asked.key.one; seed = asked.key.seed; low = asked.limit.least; high = asked.limit.greatest };
         report = report-bare t (recursion_from_All IsBare t.skipped fit.bare);
         job_count = omega (arith, jobs);
         jobs = recursion_from_All IsJob t.jobs (fit.jobs (omega (arith, jobs)));

@@ -5,9 +5,8 @@ use Rattle.sha1.specs.Sha1.{sha1}
 use Rattle.file_tree.specs.declared.node.Found.TheVariants as found
 use Rattle.file_tree.specs.Trees.{TreeMap}
 use Rattle.dw_base.specs.Paths.{IsPathMap}
-use Rattle.dw_base.specs.Texts.{has_nul}
 use Rattle.file_tree.specs.Causes.{Stood, AreInOrder}
-use Rattle.job_types.specs.Settings.{Settings, IsWithin}
+use Rattle.job_types.specs.Settings.{HasKey, Settings, IsWithin}
 use Rattle.job_types.specs.declared.outcome.Verdict.{Verdict}
 use Rattle.job_types.specs.declared.outcome.Verdict.TheVariants.{Edited, Split}
 use Rattle.work_texts.specs.declared.plan.JobLine.{JobLine}
@@ -37,13 +36,13 @@ pub record HasFile (old : Option TreeMap) (root : List ℕ) (s : Settings) (v : 
 pub record ArePlain (root : List ℕ) (paths : List (List ℕ)) : Type 0 where
   pub plain : (path : List ℕ) → Contains paths path → may_be_candidate root path ≡ true → IsTrue (is_job_path (below_root root path))
 
--- a run asks for the plan of a root with these paths: it has a judge of files, a prefix map and a limit on files, a seed that is
--- a text, and the paths in byte order, written in one way
+-- a run asks for the plan of a root with these paths: it has a judge of files, a prefix map and a limit on files, a key that the texts
+-- can say, and the paths in byte order, written in one way
 pub record AreAsked (root : List ℕ) (present : List (List ℕ)) (s : Settings) (v : JudgeView) : Type 0 where
   pub judge : IsJudge v
   pub map : IsPathMap s.maps
   pub limit : IsWithin s.max_file
-  pub seed : has_nul s.seed ≡ false
+  pub key : HasKey s
   pub order : AreInOrder present
   pub paths : ArePlain root present
 

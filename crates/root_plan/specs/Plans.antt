@@ -21,7 +21,7 @@ use Rattle.root_plan.specs.Verdicts.{JudgeView}
 
 -- the options that the outputs of a run depend on
 abbrev pub key_of : Settings → RunKey
-key_of s = record { base = s.maps.base; dest = s.maps.dest; build_id = s.build_id; seed = s.seed; skip = s.skip; max_file = s.max_file }
+key_of s = record { maps = s.maps; build_id = s.build_id; seed = s.seed; skip = s.skip; max_file = s.max_file }
 
 -- the plan of a tally
 abbrev pub plan_of : Settings → Tally → PlanData
@@ -102,7 +102,7 @@ pub record IsPlanOf (old : Option TreeMap) (root : List ℕ) (present : List (Li
 
 -- these words, with files that are refused passed over
 abbrev pub skipping : Settings → Settings
-skipping s = record { maps = s.maps; build_id = s.build_id; seed = s.seed; skip = true; max_file = s.max_file }
+skipping s = record { maps = s.maps; build_id = s.build_id; seed = s.seed; skip = true; max_file = s.max_file; grow_inline = s.grow_inline }
 
 -- the plan that a run of these words carries out: its jobs don't depend on whether the words say that files that are refused
 -- are passed over, and its key says what they say

@@ -29,12 +29,10 @@ use work_texts::{JobLine, Jobs, PlanData, PlannedSources, RunKey, TEXT_LIMIT, wr
 pub fn run_key(alloc: Global, options: &Options) -> Result<RunKey, AllocError>
     ensures value { IfOk result (λ key. key ≡ key_of options.now) }
 {
-    let base = Blob::from_slice(alloc, &options.maps.base)?;
-    let dest = Blob::from_slice(alloc, &options.maps.dest)?;
+    let maps = options.maps.copied(alloc)?;
     let seed = options.seed.copied(alloc)?;
     Ok(RunKey {
-        base,
-        dest,
+        maps,
         build_id: options.build_id,
         seed,
         skip: options.skip,

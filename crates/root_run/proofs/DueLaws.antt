@@ -17,7 +17,7 @@ use Rattle.work_texts.specs.declared.plan.FinishedData.{FinishedData}
 use Rattle.work_texts.specs.declared.plan.PlanData.{PlanData}
 use Rattle.work_texts.specs.BadFields.{PlanBlames, FinishedBlames}
 use Rattle.work_texts.specs.Fields.{plan_fields, finished_fields}
-use Rattle.work_texts.specs.Keys.{KeyBlames, key_field}
+use Rattle.work_texts.specs.Keys.{KeyBlames, key_part}
 use Rattle.work_texts.specs.Reading.{plan_at, finished_at}
 use Rattle.work_texts.specs.Rules.{IsPlan, IsPlanText, IsFinishedText, text_limit}
 use Rattle.work_texts.specs.Rules as rule
@@ -99,7 +99,7 @@ finished-one : (bytes : List ℕ) (x y : FinishedData) → IsFinishedText bytes 
 finished-one bytes x y a b = one_value finished_fields rule.IsFinished finished_at finished_reader bytes x y (record { fits = a.finished; text = a.text }) (record { fits = b.finished; text = b.text })
 
 key-differs : (kept given : RunKey) (e : JournalErr) → KeyBlames kept given e → kept ≢ given
-key-differs kept given e (n, differs, other) same = differs.here (ap (λ (k : RunKey). key_field k n) same)
+key-differs kept given e (n, differs, other) same = differs.here (ap (λ (k : RunKey). key_part k n) same)
 
 key-status : (kept given : RunKey) (e : JournalErr) → KeyBlames kept given e → is_mild_run e ≡ false → 9 ≡ journal_status e
 key-status kept given (journal.OtherRun field a b) h hard = refl

@@ -4,14 +4,13 @@ use Rattle.std.specs.Prelude.{Option, Some, IsTrue, ⊤}
 use Rattle.std.proofs.lemmas.List.{length-map}
 use Rattle.dw_base.specs.Layout.{file_limit}
 use Rattle.dw_base.specs.Paths.{IsPathMap}
-use Rattle.dw_base.specs.Texts.{has_nul}
 use Rattle.dw_base.specs.declared.fault.Refusal.{Refusal}
 use Rattle.file_tree.specs.Images.{state_of}
 use Rattle.file_tree.specs.Moments.{LooksOnly}
 use Rattle.file_tree.specs.Seen.{Seen, map_now, now_of}
 use Rattle.file_tree.specs.Trees.{TreeMap}
 use Rattle.file_tree.proofs.ImageLaws.{image_now}
-use Rattle.job_types.specs.Settings.{Settings, IsWithin}
+use Rattle.job_types.specs.Settings.{HasKey, Settings, IsWithin}
 use Rattle.journal_core.specs.Names.{plan, final}
 use Rattle.journal_core.specs.Table.{closed_core, new_core}
 use Rattle.work_texts.specs.declared.journal_err.JournalErr.{JournalErr}
@@ -199,12 +198,16 @@ limit-few n w = omega (arith, w.greatest)
 once-more : (n : ℕ) → 1 ≤ n + 3
 once-more n = omega arith
 
+-- a key that a text says can be said
+key-kept : (s : Settings) → IsKey (key_of s) → HasKey s
+key-kept s key = record { one = key.one; seed = key.seed }
+
 module _ (start : TreeMap) (root : List ℕ) (s : Settings) (v : JudgeView) (fails : List ℕ → List ℕ → Refusal → Type 0) (edit_fails : List ℕ → Refusal → Type 0)
     (split_fails : List ℕ → List ℕ → Refusal → Type 0) (judge : IsJudge v) (maps : IsPathMap s.maps) (within : IsWithin s.max_file) (in_flight : ℕ)
     (old new : Seen) (u : IsUnderway start root (work_folder root) s v fails old) where
   -- nothing was changed, or a journal went on by a plan of the root
   pub data Entered (result : Result (List ℕ) RunErr) : Type 1 where
-    unbegun : Begun old.past new.past → (e : RunErr) → (has_nul s.seed ≡ false → IsTrue (is_mild_end e)) → result ≡ Err e → Entered result
+    unbegun : Begun old.past new.past → (e : RunErr) → (HasKey s → IsTrue (is_mild_end e)) → result ≡ Err e → Entered result
     by_journal : Journaled start root s v fails judge in_flight old new u result → Entered result
 
   module _ (mid : Seen) (paths : List (List ℕ)) (f : SettledFirst old mid) (walked : AreWalked (now_of old) root paths) where
@@ -234,7 +237,7 @@ module _ (start : TreeMap) (root : List ℕ) (s : Settings) (v : JudgeView) (fai
       finished-went report result o c =
           let x = finished-opened (work_folder root) paths (key_of s) at report o in
           let g = finished-found start root s v fails u.clean old.past f.mid.past mid paths u.partway (f.settled u.tells) mid-looks mid-walked x.there in
-          let fits : IsPlan g.p = root-plan-fits start root s v fails u.clean g.p g.made judge maps within x.fits.seed g.planned in
+          let fits : IsPlan g.p = root-plan-fits start root s v fails u.clean g.p g.made judge maps within (key-kept s x.fits) g.planned in
           let own = finished-own start root (work_folder root) g.p g.made at (at_tells ∙ u.tells) fits
           (subst (IsPartway (wanted_of start root (work_folder root) g.p g.made)) at-same g.partway) (key_of s) report x.kept in
           record {
@@ -270,7 +273,7 @@ module _ (start : TreeMap) (root : List ℕ) (s : Settings) (v : JudgeView) (fai
       resumed-went p result o r ran answer =
           let x = plan-opened (work_folder root) paths (key_of s) at p o in
           let g = resumed-found start root s v fails u.clean old.past f.mid.past mid paths u.partway (f.settled u.tells) mid-looks mid-walked x.none x.there in
-          let fits : IsPlan g.p = root-plan-fits start root s v fails u.clean g.p g.made judge maps within x.key_fits.seed g.planned in
+          let fits : IsPlan g.p = root-plan-fits start root s v fails u.clean g.p g.made judge maps within (key-kept s x.key_fits) g.planned in
           let own = resumed-own start root (work_folder root) g.p g.made at (at_tells ∙ u.tells) fits
           (subst (IsPartway (wanted_of start root (work_folder root) g.p g.made)) at-same g.partway) (key_of s) p x.kept in
           let planned : IsRootPlan start root s v fails p g.made = subst (λ (q : PlanData). IsRootPlan start root s v fails q g.made) (sym own.0) g.planned in
@@ -374,7 +377,7 @@ module _ (start : TreeMap) (root : List ℕ) (s : Settings) (v : JudgeView) (fai
       (subst (λ (m : Option TreeMap). IsPlanOf m root paths s v fails p) (mid-now mid paths h.first h.walked) is) w
 
   -- no text of a tree that is partway is bad, or of another run
-  early-mild : (e : RunErr) → has_nul s.seed ≡ false → EarlyEnds root s old new e → IsTrue (is_mild_end e)
+  early-mild : (e : RunErr) → HasKey s → EarlyEnds root s old new e → IsTrue (is_mild_end e)
   early-mild e seed (early.failed rose) = refl
   early-mild e seed early.no_memory = refl
   early-mild e seed (early.walking at now later ends) = refl

@@ -18,7 +18,7 @@ use Rattle.work_texts.specs.declared.plan.FinishedData.{FinishedData}
 use Rattle.work_texts.specs.declared.plan.PlanData.{PlanData}
 use Rattle.work_texts.specs.BadFields.{IsBadAt, PlanBlames, FinishedBlames}
 use Rattle.work_texts.specs.Fields.{text_of, plan_fields, finished_fields}
-use Rattle.work_texts.specs.Keys.{KeyBlames, key_field}
+use Rattle.work_texts.specs.Keys.{KeyBlames, key_part}
 use Rattle.work_texts.specs.Rules.{IsPlan, IsFinished, text_limit}
 use Rattle.work_texts.proofs.OnePlace.{no_text}
 use Rattle.work_journal.specs.declared.opening.Opened.{Opened}
@@ -70,7 +70,7 @@ finished-blames-mild bytes (run.Refused path refusal) never b = absurd b
 finished-blames-mild bytes run.Tree never b = absurd b
 
 own-key : (kept given : RunKey) (e : JournalErr) → kept ≡ given → KeyBlames kept given e → ⊥
-own-key kept given e same (n, differs, other) = differs.here (ap (λ (k : RunKey). key_field k n) same)
+own-key kept given e same (n, differs, other) = differs.here (ap (λ (k : RunKey). key_part k n) same)
 
 -- ### A text that is there is read
 

@@ -7,6 +7,7 @@ use Rattle.std.specs.List.{All, flat_map}
 use Rattle.std.proofs.lemmas.List.{length-append}
 use Rattle.std.proofs.lemmas.List.Elements.{All-weaker}
 use Rattle.dw_base.proofs.TextLaws.{laid_texts-append}
+use Rattle.dw_base.specs.Paths.{first_pair}
 use Rattle.dw_base.specs.declared.fault.Refusal.{Refusal}
 use Rattle.file_tree.specs.Trees.{TreeMap}
 use Rattle.file_tree.specs.Causes.{AreInOrder}
@@ -43,7 +44,7 @@ flag-size false false = refl
 
 -- the fields of a plan before the word on files that are refused, and behind it
 abbrev fields_before : PlanData → List Field
-fields_before p = codes "dbgplan 1" ∷ p.key.base ∷ p.key.dest ∷ flag_field p.key.build_id ∷ p.key.seed ∷ []
+fields_before p = codes "dbgplan 1" ∷ (first_pair p.key.maps).base ∷ (first_pair p.key.maps).dest ∷ flag_field p.key.build_id ∷ p.key.seed ∷ []
 
 abbrev fields_behind : PlanData → List Field
 fields_behind p =
@@ -91,10 +92,10 @@ module _ (old : Option TreeMap) (root : List ℕ) (s : Settings) (v : JudgeView)
   -- and the work folder may have it
   pub run-fits : (p : PlanData) → AreAsked root present s v → IsRunPlan old root present s v fails p → IsPlan p
   run-fits p asked is =
-      let asks : AreAsked root present (skipping s) v = record { judge = asked.judge; map = asked.map; limit = asked.limit; seed = asked.seed; order = asked.order; paths = asked.paths } in
+      let asks : AreAsked root present (skipping s) v = record { judge = asked.judge; map = asked.map; limit = asked.limit; key = record { one = asked.key.one; seed = asked.key.seed }; order = asked.order; paths = asked.paths } in
       let fits : IsPlan (plan_of (skipping s) is.tally) = plan-fits old root (skipping s) v fails present (plan_of (skipping s) is.tally) asks (as-planned p is) in
       subst IsPlan (sym is.is) (record {
-        key = record { map = fits.key.map; seed = fits.key.seed; low = fits.key.low; high = fits.key.high };
+        key = record { map = fits.key.map; one = fits.key.one; seed = fits.key.seed; low = fits.key.low; high = fits.key.high };
         report = fits.report;
         job_count = fits.job_count;
         jobs = fits.jobs;

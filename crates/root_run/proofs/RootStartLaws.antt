@@ -3,7 +3,6 @@ use Rattle.std.proofs.Common.{◌≡◌, ℕ, ◌+◌, ◌≤◌, ◌^◌, true,
 use Rattle.std.specs.Prelude.{Some, OnOk}
 use Rattle.dw_base.specs.Layout.{file_limit}
 use Rattle.dw_base.specs.Paths.{IsPathMap}
-use Rattle.dw_base.specs.Texts.{has_nul}
 use Rattle.dw_base.specs.declared.fault.Refusal.{Refusal}
 use Rattle.file_tree.specs.declared.call.Call.TheVariants as call
 use Rattle.file_tree.specs.declared.call.Effect.TheVariants as effect
@@ -12,7 +11,7 @@ use Rattle.file_tree.specs.Images.{Images, LeavesOnly, state_of}
 use Rattle.file_tree.specs.Moments.{LooksOnly}
 use Rattle.file_tree.specs.Seen.{Seen, Past, adds, map_now, settles_of}
 use Rattle.file_tree.specs.Trees.{TreeMap, keys_below}
-use Rattle.job_types.specs.Settings.{Settings, IsWithin}
+use Rattle.job_types.specs.Settings.{HasKey, Settings, IsWithin}
 use Rattle.journal_core.specs.declared.event.Event.TheVariants.{Settle}
 use Rattle.journal_core.specs.declared.event.Phase.TheVariants.{Closed}
 use Rattle.journal_core.specs.Names.{plan, final}
@@ -78,20 +77,20 @@ module _ (start : TreeMap) (root : List ℕ) (s : Settings) (v : JudgeView) (fai
 
   -- ### A plan of the root
 
-  root-asked : IsJudge v → IsPathMap s.maps → IsWithin s.max_file → has_nul s.seed ≡ false → AreAsked root (keys_below start root) s v
-  root-asked judge maps limit seed = record {
+  root-asked : IsJudge v → IsPathMap s.maps → IsWithin s.max_file → HasKey s → AreAsked root (keys_below start root) s v
+  root-asked judge maps limit key = record {
     judge = judge;
     map = maps;
     limit = limit;
-    seed = seed;
+    key = key;
     order = keys-order start root;
     paths = record { plain = λ path c may. clean.plain path c };
   }
 
   -- a plan of the root is one that the work folder may have
-  pub root-plan-fits : (p : PlanData) (made : List (List Node)) → IsJudge v → IsPathMap s.maps → IsWithin s.max_file → has_nul s.seed ≡ false → IsRootPlan start root s v fails p made → IsPlan p
-  root-plan-fits p made judge maps limit seed planned =
-      run-fits (Some start) root s v fails (keys_below start root) p (root-asked judge maps limit seed) planned.plan_is
+  pub root-plan-fits : (p : PlanData) (made : List (List Node)) → IsJudge v → IsPathMap s.maps → IsWithin s.max_file → HasKey s → IsRootPlan start root s v fails p made → IsPlan p
+  root-plan-fits p made judge maps limit key planned =
+      run-fits (Some start) root s v fails (keys_below start root) p (root-asked judge maps limit key) planned.plan_is
 
   -- ### What a start finds
 

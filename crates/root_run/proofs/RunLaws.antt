@@ -1,9 +1,8 @@
 -- The clauses of a run over a build root, of what a start did.
-use Rattle.std.proofs.Common.{◌≡◌, ℕ, ◌+◌, ◌≤◌, ◌^◌, false, List, length, map, refl, sym, ap, subst, arith, Result, Ok, Err}
+use Rattle.std.proofs.Common.{◌≡◌, ℕ, ◌+◌, ◌≤◌, ◌^◌, List, length, map, refl, sym, ap, subst, arith, Result, Ok, Err}
 use Rattle.std.specs.Prelude.{IfErr, IfOk, IsTrue, OnOk}
 use Rattle.dw_base.specs.Layout.{file_limit}
 use Rattle.dw_base.specs.Paths.{IsPathMap}
-use Rattle.dw_base.specs.Texts.{has_nul}
 use Rattle.dw_base.specs.declared.fault.Refusal.{Refusal}
 use Rattle.file_tree.specs.declared.call.Effect.TheVariants as effect
 use Rattle.file_tree.specs.Causes.{Rose}
@@ -11,7 +10,7 @@ use Rattle.file_tree.specs.Images.{LeavesOnly}
 use Rattle.file_tree.specs.Seen.{Seen, Past, Happened, map_now, settles_of}
 use Rattle.file_tree.specs.Trees.{TreeMap}
 use Rattle.file_tree.proofs.ImageLaws.{image_now}
-use Rattle.job_types.specs.Settings.{Settings, IsWithin}
+use Rattle.job_types.specs.Settings.{HasKey, Settings, IsWithin}
 use Rattle.journal_core.specs.declared.event.Phase.TheVariants.{Closed}
 use Rattle.journal_core.specs.Table.{CoreState}
 use Rattle.work_journal.specs.Rounds.{rounds_of}
@@ -95,7 +94,7 @@ module _ (start : TreeMap) (root : List ℕ) (s : Settings) (v : JudgeView) (fai
         few-by now then_ rounds le = omega (arith, le)
     settles-by (entered.by_journal g) = journaled-settles start root s v fails judge in_flight old new u result g
 
-    mild-by : has_nul s.seed ≡ false → Entered start root s v fails edit_fails split_fails judge maps within in_flight old new u result → IfErr result (λ e. IsTrue (is_mild_end e))
+    mild-by : HasKey s → Entered start root s v fails edit_fails split_fails judge maps within in_flight old new u result → IfErr result (λ e. IsTrue (is_mild_end e))
     mild-by seed (entered.unbegun b e mild is) = subst (λ (r : Result (List ℕ) RunErr). IfErr r (λ e. IsTrue (is_mild_end e))) (sym is) (mild seed)
     mild-by seed (entered.by_journal g) = journaled-mild start root s v fails judge in_flight old new u result g
 
@@ -115,11 +114,11 @@ module _ (start : TreeMap) (root : List ℕ) (s : Settings) (v : JudgeView) (fai
       pub ran-settles : SettlesFew start root s v fails in_flight old.past new.past
       ran-settles = settles-by way
 
-      pub ran-mild : has_nul s.seed ≡ false → IfErr result (λ e. IsTrue (is_mild_end e))
+      pub ran-mild : HasKey s → IfErr result (λ e. IsTrue (is_mild_end e))
       ran-mild seed = mild-by seed way
 
       -- and where nothing is opposed to the run, it ends for want of memory alone
-      pub ran-completes : s.max_file ≤ file_limit → has_nul s.seed ≡ false → IsUnopposed start root s v fails → (Rose old.faults new.faults → ⊥)
+      pub ran-completes : s.max_file ≤ file_limit → HasKey s → IsUnopposed start root s v fails → (Rose old.faults new.faults → ⊥)
           → IfErr result (λ e. run_status e ≡ 13)
       ran-completes limit seed unopposed calm =
           err-both result (RunEnds root (work_folder root) s v fails edit_fails split_fails old new) (λ e. IsTrue (is_mild_end e)) (λ e. run_status e ≡ 13)

@@ -5,11 +5,10 @@ ghost use Rattle.std.specs.FinMap as fin;
 ghost use Rattle.std.specs.Prelude.{◌≡◌, ◌⊎◌, ◌<◌, ◌≤◌, ℕ, List, true, false, map, Some, IfOk, IfErr, IsTrue};
 ghost use Rattle.std.specs.String.{string_bytes};
 ghost use Rattle.dw_base.specs.Paths.{IsPathMap};
-ghost use Rattle.dw_base.specs.Texts.{has_nul};
 ghost use Rattle.file_tree.specs.Causes.{Rose};
 ghost use Rattle.file_tree.specs.Seen.{map_now, now_of};
 ghost use Rattle.file_tree.specs.Trees.{TreeMap, is_below};
-ghost use Rattle.job_types.specs.Settings.{IsWithin};
+ghost use Rattle.job_types.specs.Settings.{HasKey, IsWithin};
 ghost use Rattle.journal_core.specs.Table.{CoreState};
 ghost use Rattle.root_plan.specs.Roots.{work_folder};
 ghost use Rattle.root_run.specs.Cores.{ShowsCore, LeadsTo, SettlesFew};
@@ -81,7 +80,7 @@ fn start_run<T: Tree, J: Judge + Drop>(
 fn use_map(maps: &Maps)
     ensures map { IsPathMap maps.now }
 {
-    let _ = &maps.base;
+    let _ = &maps.pairs;
 }
 
 /// And so is what options obey.
@@ -110,7 +109,7 @@ pub fn run_root<T: Tree, J: Judge + Drop>(
     ensures done { (start : TreeMap) → IsUnderway start root.now (work_folder root.now) options.now (J.view judge) (J.fails judge) (T.seen tree.old) → IfOk result (λ report. IsDone start root.now (work_folder root.now) options.now (J.view judge) (J.fails judge) report (T.seen tree.new)) }
     ensures steps { (start : TreeMap) → IsUnderway start root.now (work_folder root.now) options.now (J.view judge) (J.fails judge) (T.seen tree.old) → (c : CoreState) → ShowsCore start root.now (work_folder root.now) options.now (J.view judge) (J.fails judge) (map_now (T.seen tree.old).past) c → LeadsTo (work_folder root.now) c (T.seen tree.old).past (T.seen tree.new).past result }
     ensures settles { (start : TreeMap) → IsUnderway start root.now (work_folder root.now) options.now (J.view judge) (J.fails judge) (T.seen tree.old) → SettlesFew start root.now options.now (J.view judge) (J.fails judge) jobs (T.seen tree.old).past (T.seen tree.new).past }
-    ensures mild { has_nul options.now.seed ≡ false → (start : TreeMap) → IsUnderway start root.now (work_folder root.now) options.now (J.view judge) (J.fails judge) (T.seen tree.old) → IfErr result (λ e. IsTrue (is_mild_end e)) }
+    ensures mild { HasKey options.now → (start : TreeMap) → IsUnderway start root.now (work_folder root.now) options.now (J.view judge) (J.fails judge) (T.seen tree.old) → IfErr result (λ e. IsTrue (is_mild_end e)) }
     // why there is no report, and which exit status is due
     ensures ends { IfErr result (RunEnds root.now (work_folder root.now) options.now (J.view judge) (J.fails judge) (J.edit_fails judge) (J.split_fails judge) (T.seen tree.old) (T.seen tree.new)) }
     ensures due { (t : TreeMap) → now_of (T.seen tree.old) ≡ Some t → RunDue root.now (work_folder root.now) options.now (J.view judge) (J.fails judge) t (status_of result) ⊎ RunCut root.now (work_folder root.now) options.now (J.view judge) (J.fails judge) t (status_of result) }
@@ -119,7 +118,7 @@ pub fn run_root<T: Tree, J: Judge + Drop>(
     ensures kept { IfErr result (λ e. IsTrue (leaves_tree (run_status e)) → IsSame (T.seen tree.old) (T.seen tree.new)) }
     ensures refused { (t : TreeMap) → now_of (T.seen tree.old) ≡ Some t → IfErr result (λ e. run_status e ≡ 3 → options.now.skip ≡ true → IsResumed root.now (work_folder root.now) options.now t) }
     ensures changed { (t : TreeMap) → now_of (T.seen tree.old) ≡ Some t → IfErr result (λ e. run_status e ≡ 10 → IsResumed root.now (work_folder root.now) options.now t) }
-    ensures completes { has_nul options.now.seed ≡ false → (start : TreeMap) → IsUnderway start root.now (work_folder root.now) options.now (J.view judge) (J.fails judge) (T.seen tree.old) → IsUnopposed start root.now options.now (J.view judge) (J.fails judge) → (Rose (T.seen tree.old).faults (T.seen tree.new).faults → ⊥) → IfErr result (λ e. run_status e ≡ 13) }
+    ensures completes { HasKey options.now → (start : TreeMap) → IsUnderway start root.now (work_folder root.now) options.now (J.view judge) (J.fails judge) (T.seen tree.old) → IsUnopposed start root.now options.now (J.view judge) (J.fails judge) → (Rose (T.seen tree.old).faults (T.seen tree.new).faults → ⊥) → IfErr result (λ e. run_status e ≡ 13) }
     // what stays
     ensures tells { (T.seen tree.new).tells ≡ (T.seen tree.old).tells }
     ensures later { (T.seen tree.old).faults ≤ (T.seen tree.new).faults }

@@ -194,6 +194,7 @@ fn options(alloc: Global) -> Result<Options, Fail> {
         seed,
         skip: false,
         max_file: 10,
+        grow_inline: false,
     })
 }
 

@@ -1,9 +1,10 @@
 -- The fields of a key are read exactly.
-use Rattle.std.proofs.Common.{◌≡◌, ℕ, Bool, false, List, [], ◌∷◌, Option, Ok, refl, arith}
+use Rattle.std.proofs.Common.{◌≡◌, ℕ, Bool, false, List, [], ◌∷◌, length, Option, Ok, refl, arith}
 use Rattle.std.specs.Prelude.{codes}
 use Rattle.std.specs.Fmt.{decimal}
 use Rattle.dw_base.specs.Texts.{has_nul}
-use Rattle.dw_base.specs.Paths.{IsPathMap}
+use Rattle.dw_base.specs.Paths.{first_pair, path_map}
+use Rattle.dw_base.proofs.PathLaws.{IsPathMap-made, first-fit, path_map-first}
 use Rattle.work_texts.specs.declared.key.RunKey.{RunKey}
 use Rattle.work_texts.specs.Fields.{Field, key_fields, flag_field}
 use Rattle.work_texts.specs.Rules.{IsKey, text_limit}
@@ -29,7 +30,7 @@ flag_spelling = choice_spelling (codes "0") (codes "1") refl refl refl
 
 -- the steps that are left behind each field
 abbrev k5 : List ℕ → List ℕ → Bool → List ℕ → Bool → ℕ → List ℕ → Reading RunKey
-k5 base dest build_id seed skip max_file bytes = Ok (record { base = base; dest = dest; build_id = build_id; seed = seed; skip = skip; max_file = max_file }, bytes)
+k5 base dest build_id seed skip max_file bytes = Ok (record { maps = path_map base dest; build_id = build_id; seed = seed; skip = skip; max_file = max_file }, bytes)
 
 abbrev k4 : List ℕ → List ℕ → Bool → List ℕ → Bool → List ℕ → Reading RunKey
 k4 base dest build_id seed skip bytes = value_at (number_in 1 text_limit) bytes >>= λ a. k5 base dest build_id seed skip a.0 a.1
@@ -48,10 +49,10 @@ k0 base bytes = value_at side_in bytes >>= λ a. k1 base a.0 a.1
 
 -- the keys that fit what was read so far
 abbrev f0 : List ℕ → RunKey → Type 0
-f0 base k = IsKey k × (k.base ≡ base)
+f0 base k = IsKey k × ((first_pair k.maps).base ≡ base)
 
 abbrev f1 : List ℕ → List ℕ → RunKey → Type 0
-f1 base dest k = f0 base k × (k.dest ≡ dest)
+f1 base dest k = f0 base k × ((first_pair k.maps).dest ≡ dest)
 
 abbrev f2 : List ℕ → List ℕ → Bool → RunKey → Type 0
 f2 base dest build_id k = f1 base dest k × (k.build_id ≡ build_id)
@@ -66,25 +67,37 @@ abbrev f5 : List ℕ → List ℕ → Bool → List ℕ → Bool → ℕ → Run
 f5 base dest build_id seed skip max_file k = f4 base dest build_id seed skip k × (k.max_file ≡ max_file)
 
 same_key : (k : RunKey) (base dest : List ℕ) (build_id : Bool) (seed : List ℕ) (skip : Bool) (max_file : ℕ)
-    → f5 base dest build_id seed skip max_file k → k ≡ record { base = base; dest = dest; build_id = build_id; seed = seed; skip = skip; max_file = max_file }
+    → f5 base dest build_id seed skip max_file k → k ≡ record { maps = path_map base dest; build_id = build_id; seed = seed; skip = skip; max_file = max_file }
 same_key k base dest build_id seed skip max_file f =
-    let a : k.base ≡ base = f.0.0.0.0.0.1 in
-    let b : k.dest ≡ dest = f.0.0.0.0.1 in
+    let key : IsKey k = f.0.0.0.0.0.0 in
+    let a : k.maps ≡ path_map base dest = path_map-first k.maps base dest key.map key.one f.0.0.0.0.0.1 f.0.0.0.0.1 in
     let c : k.build_id ≡ build_id = f.0.0.0.1 in
     let d : k.seed ≡ seed = f.0.0.1 in
     let e : k.skip ≡ skip = f.0.1 in
     let g : k.max_file ≡ max_file = f.1 in
-    let made : RunKey = record { base = k.base; dest = k.dest; build_id = k.build_id; seed = k.seed; skip = k.skip; max_file = k.max_file } in
-    let all : made ≡ record { base = base; dest = dest; build_id = build_id; seed = seed; skip = skip; max_file = max_file } = rw (a, b, c, d, e, g) refl in
+    let made : RunKey = record { maps = k.maps; build_id = k.build_id; seed = k.seed; skip = k.skip; max_file = k.max_file } in
+    let all : made ≡ record { maps = path_map base dest; build_id = build_id; seed = seed; skip = skip; max_file = max_file } = rw (a, c, d, e, g) refl in
     all
+
+-- the map of two sides has one pair, with these sides
+made_one : (base dest : List ℕ) → length (path_map base dest).pairs ≡ 1
+unfolding path_map
+made_one base dest = refl
+
+made_base : (base dest : List ℕ) → IsSide base → (first_pair (path_map base dest)).base ≡ base
+unfolding path_map
+made_base base dest b = b.cut
+
+made_dest : (base dest : List ℕ) → IsSide dest → (first_pair (path_map base dest)).dest ≡ dest
+unfolding path_map
+made_dest base dest d = d.cut
 
 r5 : (base dest : List ℕ) (build_id : Bool) (seed : List ℕ) (skip : Bool) (max_file : ℕ) → IsSide base → IsSide dest → has_nul seed ≡ false → IsWithin 1 text_limit max_file
     → IsReader (λ _. []) (f5 base dest build_id seed skip max_file) (k5 base dest build_id seed skip max_file)
 r5 base dest build_id seed skip max_file b d s m =
-    let made : RunKey = record { base = base; dest = dest; build_id = build_id; seed = seed; skip = skip; max_file = max_file } in
-    let map : IsPathMap (record { base = base; dest = dest }) = record { base = b.is; dest = d.is; base_cut = b.cut; dest_cut = d.cut } in
-    let key : IsKey made = record { map = map; seed = s; low = m.above; high = m.below } in
-    nothing_reader (f5 base dest build_id seed skip max_file) made ((((((key, refl), refl), refl), refl), refl), refl) (λ k f. same_key k base dest build_id seed skip max_file f)
+    let made : RunKey = record { maps = path_map base dest; build_id = build_id; seed = seed; skip = skip; max_file = max_file } in
+    let key : IsKey made = record { map = IsPathMap-made base dest b.is d.is; one = made_one base dest; seed = s; low = m.above; high = m.below } in
+    nothing_reader (f5 base dest build_id seed skip max_file) made ((((((key, made_base base dest b), made_dest base dest d), refl), refl), refl), refl) (λ k f. same_key k base dest build_id seed skip max_file f)
 
 r4 : (base dest : List ℕ) (build_id : Bool) (seed : List ℕ) (skip : Bool) → IsSide base → IsSide dest → has_nul seed ≡ false
     → IsReader (λ k. decimal k.max_file ∷ []) (f4 base dest build_id seed skip) (k4 base dest build_id seed skip)
@@ -112,13 +125,13 @@ r1 base dest b d =
     (λ k f. tt) (λ a m. r2 base dest a b d)
 
 r0 : (base : List ℕ) → IsSide base
-    → IsReader (λ k. k.dest ∷ flag_field k.build_id ∷ k.seed ∷ flag_field k.skip ∷ decimal k.max_file ∷ []) (f0 base) (k0 base)
+    → IsReader (λ k. (first_pair k.maps).dest ∷ flag_field k.build_id ∷ k.seed ∷ flag_field k.skip ∷ decimal k.max_file ∷ []) (f0 base) (k0 base)
 r0 base b =
-    then_value side_in (λ f. f) IsSide side_spelling (λ k. k.dest) (λ k. flag_field k.build_id ∷ k.seed ∷ flag_field k.skip ∷ decimal k.max_file ∷ []) (f0 base) (k1 base)
-    (λ k f. let key : IsKey k = f.0 in record { is = key.map.dest; cut = key.map.dest_cut }) (λ a m. r1 base a b m)
+    then_value side_in (λ f. f) IsSide side_spelling (λ k. (first_pair k.maps).dest) (λ k. flag_field k.build_id ∷ k.seed ∷ flag_field k.skip ∷ decimal k.max_file ∷ []) (f0 base) (k1 base)
+    (λ k f. let key : IsKey k = f.0 in record { is = (first-fit k.maps key.map).dest; cut = (first-fit k.maps key.map).dest_cut }) (λ a m. r1 base a b m)
 
 pub key_reader : IsReader key_fields IsKey key_at
 unfolding key_at
 key_reader =
-    then_value side_in (λ f. f) IsSide side_spelling (λ k. k.base) (λ k. k.dest ∷ flag_field k.build_id ∷ k.seed ∷ flag_field k.skip ∷ decimal k.max_file ∷ []) IsKey k0
-    (λ k key. record { is = key.map.base; cut = key.map.base_cut }) (λ a m. r0 a m)
+    then_value side_in (λ f. f) IsSide side_spelling (λ k. (first_pair k.maps).base) (λ k. (first_pair k.maps).dest ∷ flag_field k.build_id ∷ k.seed ∷ flag_field k.skip ∷ decimal k.max_file ∷ []) IsKey k0
+    (λ k key. record { is = (first-fit k.maps key.map).base; cut = (first-fit k.maps key.map).base_cut }) (λ a m. r0 a m)

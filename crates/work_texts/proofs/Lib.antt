@@ -15,5 +15,6 @@ pub mod Loops
 pub mod WholeLaws
 pub mod WriteRules
 pub mod SizeLaws
+pub mod PairLaws
 pub mod KeyRules
 pub mod OnePlace

@@ -4,6 +4,7 @@ use Rattle.std.specs.Prelude.{ℕ, Bool, if◌then◌else◌, List, [], ◌∷�
 use Rattle.std.specs.List.{flat_map}
 use Rattle.std.specs.Fmt.{decimal}
 use Rattle.hex.specs.Hex.{encode_lower}
+use Rattle.dw_base.specs.Paths.{MapPair, first_pair}
 use Rattle.dw_base.specs.Texts.{laid_texts}
 use Rattle.work_texts.specs.declared.key.RunKey.{RunKey}
 use Rattle.work_texts.specs.declared.plan.JobLine.{JobLine}
@@ -25,9 +26,16 @@ flag_field on = if on then codes "1" else codes "0"
 abbrev pub kind_field : Bool → Field
 kind_field split = if split then codes "S" else codes "E"
 
--- the six fields of a key; numbers are decimal, with no leading zero
+-- the six fields of a key, whose map has one pair; numbers are decimal, with no leading zero
 abbrev pub key_fields : RunKey → List Field
-key_fields k = k.base ∷ k.dest ∷ flag_field k.build_id ∷ k.seed ∷ flag_field k.skip ∷ decimal k.max_file ∷ []
+key_fields k = (first_pair k.maps).base ∷ (first_pair k.maps).dest ∷ flag_field k.build_id ∷ k.seed ∷ flag_field k.skip ∷ decimal k.max_file ∷ []
+
+-- the fields of a pair of a map, and those of some pairs
+abbrev pub side_fields : MapPair → List Field
+side_fields p = p.base ∷ p.dest ∷ []
+
+abbrev pub pair_fields : List MapPair → List Field
+pair_fields ps = flat_map side_fields ps
 
 -- the five fields of a job; digest and id are lower-case hexadecimal digits
 abbrev pub job_fields : JobLine → List Field

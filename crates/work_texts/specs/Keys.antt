@@ -1,21 +1,30 @@
--- Two keys: the first of their six fields that differs, counted from 0.
-use Rattle.std.specs.Prelude.{ℕ, ◌≡◌, ◌≢◌, ◌<◌, [], get_or}
+-- Two keys: the first of their seven parts that differs, counted from 0.
+use Rattle.std.specs.Prelude.{ℕ, ◌≡◌, ◌≢◌, ◌<◌, List, [], ◌∷◌, ◌++◌, drop, get_or, map}
+use Rattle.dw_base.specs.Paths.{MapPair}
 use Rattle.work_texts.specs.declared.key.RunKey.{RunKey}
 use Rattle.work_texts.specs.declared.journal_err.JournalErr.{JournalErr}
 use Rattle.work_texts.specs.declared.journal_err.JournalErr.TheVariants as err
-use Rattle.work_texts.specs.Fields.{Field, key_fields}
+use Rattle.work_texts.specs.Fields.{Field, key_fields, pair_fields, text_of}
 
--- a field of a key, as it is written
-abbrev pub key_field : RunKey → ℕ → Field
-key_field k n = get_or (key_fields k) n []
+-- the pairs of a key's map behind the first
+abbrev pub more_pairs : RunKey → List MapPair
+more_pairs k = drop 1 k.maps.pairs
 
--- the field differs, and each before it is the same
+-- the parts of a key: each of its six fields, and the fields of those pairs
+abbrev pub key_part : RunKey → ℕ → List Field
+key_part k n = get_or (map (λ f. f ∷ []) (key_fields k) ++ pair_fields (more_pairs k) ∷ []) n []
+
+-- a part as it is written: a field alone, and the text of those pairs
+abbrev pub key_value : RunKey → ℕ → Field
+key_value k n = get_or (key_fields k ++ text_of (pair_fields (more_pairs k)) ∷ []) n []
+
+-- the part differs, and each before it is the same
 pub record DiffersAt (kept given : RunKey) (n : ℕ) : Type 0 where
-  pub within : n < 6
-  pub here : key_field kept n ≢ key_field given n
-  pub before : (i : ℕ) → i < n → key_field kept i ≡ key_field given i
+  pub within : n < 7
+  pub here : key_part kept n ≢ key_part given n
+  pub before : (i : ℕ) → i < n → key_part kept i ≡ key_part given i
 
--- the answer that names these two values of a field, or want of memory
+-- the answer that names these two values of a part, or want of memory
 abbrev pub IsOtherRun : ℕ → Field → Field → JournalErr → Type 0
 IsOtherRun n a b (err.OtherRun field kept given) = (field ≡ n) × (kept ≡ a) × (given ≡ b)
 IsOtherRun n a b err.NoMemory = Unit {0}
@@ -26,4 +35,4 @@ IsOtherRun n a b err.Tree = ⊥
 
 -- why a kept key isn't the one that was given
 abbrev pub KeyBlames : RunKey → RunKey → JournalErr → Type 0
-KeyBlames kept given e = (n : ℕ) × DiffersAt kept given n × IsOtherRun n (key_field kept n) (key_field given n) e
+KeyBlames kept given e = (n : ℕ) × DiffersAt kept given n × IsOtherRun n (key_value kept n) (key_value given n) e

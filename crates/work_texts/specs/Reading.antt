@@ -6,7 +6,7 @@ use Rattle.std.specs.Str.Parse.{digits_value}
 use Rattle.std.specs.List.{starts_with, list_all}
 use Rattle.hex.specs.declared.error.FromHexError.{FromHexError}
 use Rattle.hex.specs.Hex.{encode_lower, decode_of, decode_sized}
-use Rattle.dw_base.specs.Paths.{is_prefix, without_end_slashes}
+use Rattle.dw_base.specs.Paths.{is_prefix, without_end_slashes, path_map}
 use Rattle.dw_base.specs.Texts.{has_nul, text, same_text}
 use Rattle.work_texts.specs.declared.key.RunKey.{RunKey}
 use Rattle.work_texts.specs.declared.plan.JobLine.{JobLine}
@@ -108,7 +108,7 @@ key_at bytes = do
   seed ← value_at text_in build_id.1
   skip ← value_at (choice_in (codes "0") (codes "1")) seed.1
   max_file ← value_at (number_in 1 text_limit) skip.1
-  Ok (record { base = base.0; dest = dest.0; build_id = build_id.0; seed = seed.0; skip = skip.0; max_file = max_file.0 }, max_file.1)
+  Ok (record { maps = path_map base.0 dest.0; build_id = build_id.0; seed = seed.0; skip = skip.0; max_file = max_file.0 }, max_file.1)
 
 -- a job behind one with this path
 unfoldable pub job_at : Option (List ℕ) → List ℕ → Reading JobLine

@@ -18,9 +18,10 @@ use Rattle.work_texts.specs.Fields.{plan_fields, finished_fields, text_of}
 abbrev pub text_limit : ℕ
 text_limit = 2 ^ 30
 
--- a key: base and dest are those of a prefix map, the seed is a text, and max-file is within its limit
+-- a key: its prefix map is one of one pair, the seed is a text, and max-file is within its limit
 pub record IsKey (k : RunKey) : Type 0 where
-  pub map : IsPathMap (record { base = k.base; dest = k.dest })
+  pub map : IsPathMap k.maps
+  pub one : length k.maps.pairs ≡ 1
   pub seed : has_nul k.seed ≡ false
   pub low : 1 ≤ k.max_file
   pub high : k.max_file ≤ text_limit

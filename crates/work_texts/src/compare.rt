@@ -3,28 +3,30 @@
 //! Read first: `specs/Keys.antt`.
 ghost use Rattle.std.specs.Prelude.{◌≡◌, ◌↔◌, IsTrue, IsOk, IfErr, IfOk, OnOk};
 ghost use Rattle.std.specs.Fmt.{decimal};
+ghost use Rattle.work_texts.specs.Fields.{pair_fields, text_of};
 ghost use Rattle.work_texts.specs.Keys.{IsOtherRun, KeyBlames};
 
 use crate::journal_err::JournalErr;
 use crate::key::RunKey;
-use crate::writing::flag;
+use crate::writing::{flag, pairs_text};
+use dw_paths::MapPair;
 use file_tree::Blob;
 use std::alloc::{AllocError, Global};
 
 /// Whether the kept key is the given one. Else the answer is `OtherRun` with the number of the first
-/// field that differs (0 base, 1 dest, 2 build-id, 3 seed, 4 skip, 5 max-file) and both its texts, or
-/// want of memory.
+/// part that differs (0 base of the first pair, 1 its destination, 2 build-id, 3 seed, 4 skip, 5 max-file,
+/// 6 the pairs behind the first) and both its texts, or want of memory.
 #[tactic(auto, using(crate::proofs::KeyRules::key_rules))]
 pub fn check_key(alloc: Global, kept: &RunKey, given: &RunKey) -> Result<(), JournalErr>
     ensures same { OnOk result (kept.now ≡ given.now) }
     ensures ok { kept.now ≡ given.now → IsOk result }
     ensures blame { IfErr result (λ e. KeyBlames kept.now given.now e) }
 {
-    let (ours, theirs) = (kept.base.as_slice(), given.base.as_slice());
+    let (ours, theirs) = (kept.maps.base(), given.maps.base());
     if !is_same(ours, theirs) {
         return Err(other_run(alloc, 0, ours, theirs));
     }
-    let (ours, theirs) = (kept.dest.as_slice(), given.dest.as_slice());
+    let (ours, theirs) = (kept.maps.dest(), given.maps.dest());
     if !is_same(ours, theirs) {
         return Err(other_run(alloc, 1, ours, theirs));
     }
@@ -41,6 +43,10 @@ pub fn check_key(alloc: Global, kept: &RunKey, given: &RunKey) -> Result<(), Jou
     if kept.max_file != given.max_file {
         return Err(other_limit(alloc, kept.max_file, given.max_file));
     }
+    let (ours, theirs) = (kept.maps.more(), given.maps.more());
+    if !are_same(ours, theirs) {
+        return Err(other_pairs(alloc, ours, theirs));
+    }
     Ok(())
 }
 
@@ -49,6 +55,52 @@ fn is_same(a: &[u8], b: &[u8]) -> bool
     ensures value { IsTrue result ↔ (a.now ≡ b.now) }
 {
     a == b
+}
+
+/// Whether two pairs have the same base and destination.
+#[tactic(auto, using(crate::proofs::PairLaws::one_rules))]
+fn is_one(a: &MapPair, b: &MapPair) -> bool
+    ensures value { IsTrue result ↔ (a.now ≡ b.now) }
+{
+    if !is_same(&a.base, &b.base) {
+        return false;
+    }
+    is_same(&a.dest, &b.dest)
+}
+
+/// Whether two lists have the same pairs.
+#[tactic(auto, using(crate::proofs::PairLaws::pair_rules))]
+fn are_same(a: &[MapPair], b: &[MapPair]) -> bool
+    ensures value { IsTrue result ↔ (a.now ≡ b.now) }
+{
+    if a.len() != b.len() {
+        return false;
+    }
+    let mut at = 0;
+    'pairs: while at < a.len() {
+        if !is_one(&a[at], &b[at]) {
+            return false;
+        }
+        at += 1;
+    }
+    true
+}
+
+/// The answer that the pairs behind the first differ.
+fn other_pairs(alloc: Global, kept: &[MapPair], given: &[MapPair]) -> JournalErr
+    ensures value { IsOtherRun 6 (text_of (pair_fields kept.now)) (text_of (pair_fields given.now)) result }
+{
+    let Ok(kept) = pairs_text(alloc, kept) else {
+        return JournalErr::NoMemory;
+    };
+    let Ok(given) = pairs_text(alloc, given) else {
+        return JournalErr::NoMemory;
+    };
+    JournalErr::OtherRun {
+        field: 6,
+        kept,
+        given,
+    }
 }
 
 /// The answer that this field differs.

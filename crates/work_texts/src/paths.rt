@@ -1,7 +1,7 @@
 //! Paths as fields: the sides of a prefix map, paths of jobs, names of sources (this project's profile).
 //!
 //! Read first: `specs/Rules.antt`, `specs/Reading.antt`.
-ghost use Rattle.std.specs.Prelude.{◌≡◌, not, true, false, MatchOption, map};
+ghost use Rattle.std.specs.Prelude.{◌≡◌, not, true, false, IfOk, IsTrue, MatchOption, map};
 ghost use Rattle.std.specs.Str.{is_utf8};
 ghost use Rattle.dw_base.specs.Paths.{is_prefix, without_end_slashes};
 ghost use Rattle.dw_base.specs.Texts.{same_text};
@@ -21,6 +21,7 @@ use std::cmp::Ordering;
 #[tactic(auto, unfolding(crate::specs::Reading::value_at))]
 pub(crate) fn side(alloc: Global, bytes: &[u8]) -> Result<(Blob, &[u8]), Stop>
     ensures value { Gives (λ r. (r.0, r.1.now)) result (value_at side_in bytes.now) }
+    ensures fit { IfOk result (λ r. IsTrue (is_prefix r.0)) }
 {
     let (text, rest) = field(bytes)?;
     if !is_prefix(text) || ends_in_slash(text) {

@@ -1,7 +1,8 @@
 //! The texts of the work folder, read field by field (this project's profile).
 //!
 //! Read first: `specs/Reading.antt`.
-ghost use Rattle.std.specs.Prelude.{◌≡◌, ◌≤◌, None, map};
+ghost use Rattle.std.specs.Prelude.{◌≡◌, ◌≤◌, IfOk, IsTrue, None, map};
+ghost use Rattle.dw_base.specs.Paths.{is_prefix, path_map};
 ghost use Rattle.work_texts.specs.Lists.{bytes_of};
 ghost use Rattle.work_texts.specs.Rules.{path_of, number_limit};
 ghost use Rattle.work_texts.specs.Reading.{Gives, key_at, job_at, source_at, many_at, last_text, itself, plan_at, finished_at};
@@ -13,6 +14,8 @@ use crate::numbers::number;
 use crate::paths::{path, side, source};
 use crate::plan::{FinishedData, JobLine, Jobs, PlanData, PlannedSources};
 use crate::stop::Stop;
+use dw_base::NoMemory;
+use dw_paths::Maps;
 use file_tree::Blob;
 use std::alloc::Global;
 
@@ -22,6 +25,18 @@ pub const TEXT_LIMIT: u64 = 1 << 30;
 /// The most jobs, and the most sources.
 const MOST: u64 = 0xffff_ffff;
 
+/// The map of a base and a destination.
+fn map_of(alloc: Global, base: &[u8], dest: &[u8]) -> Result<Maps, NoMemory>
+    requires base { IsTrue (is_prefix base.now) }
+    requires dest { IsTrue (is_prefix dest.now) }
+    ensures value { IfOk result (λ m. m ≡ path_map base.now dest.now) }
+{
+    match Maps::new(alloc, base, dest)? {
+        Some(maps) => Ok(maps),
+        None => unreachable!(),
+    }
+}
+
 /// The fields of a key.
 #[tactic(auto, unfolding(crate::specs::Reading::key_at))]
 fn key(alloc: Global, bytes: &[u8]) -> Result<(RunKey, &[u8]), Stop>
@@ -29,13 +44,13 @@ fn key(alloc: Global, bytes: &[u8]) -> Result<(RunKey, &[u8]), Stop>
 {
     let (base, rest) = side(alloc, bytes)?;
     let (dest, rest) = side(alloc, rest)?;
+    let maps = map_of(alloc, base.as_slice(), dest.as_slice())?;
     let (build_id, rest) = choice(rest, b"0", b"1")?;
     let (seed, rest) = any_text(alloc, rest)?;
     let (skip, rest) = choice(rest, b"0", b"1")?;
     let (max_file, rest) = number(rest, 1, TEXT_LIMIT)?;
     let key = RunKey {
-        base,
-        dest,
+        maps,
         build_id,
         seed,
         skip,

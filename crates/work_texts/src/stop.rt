@@ -2,6 +2,7 @@
 ghost use Rattle.std.specs.Prelude.{◌≡◌};
 ghost use Rattle.work_texts.specs.declared.stop.Stop.TheVariants.{NoMemory as no_memory};
 
+use dw_base::NoMemory;
 use std::alloc::{AllocError, AllocFailed};
 
 /// Why the reading of a text ends.
@@ -17,6 +18,14 @@ impl From<AllocError> for Stop {
     ghost from_gives = { λ _ e. e ≡ no_memory };
 
     fn from(_e: AllocError) -> Stop {
+        Stop::NoMemory
+    }
+}
+
+impl From<NoMemory> for Stop {
+    ghost from_gives = { λ _ e. e ≡ no_memory };
+
+    fn from(_e: NoMemory) -> Stop {
         Stop::NoMemory
     }
 }

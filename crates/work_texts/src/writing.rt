@@ -6,11 +6,13 @@ ghost use Rattle.std.specs.List.{flat_map};
 ghost use Rattle.work_texts.specs.Lists.{bytes_of};
 ghost use Rattle.std.specs.Fmt.{decimal};
 ghost use Rattle.hex.specs.Hex.{encode_lower};
-ghost use Rattle.work_texts.specs.Fields.{text_of, flag_field, key_fields, job_fields, plan_fields, finished_fields};
+ghost use Rattle.work_texts.specs.Fields.{text_of, flag_field, key_fields, pair_fields, side_fields, job_fields, plan_fields, finished_fields};
 
 use crate::key::RunKey;
 use crate::plan::{JobLine, PlanData};
 use dw_base::NoMemory;
+use dw_paths::MapPair;
+use file_tree::Blob;
 use std::alloc::{AllocError, Global};
 
 /// Appends a field and its NUL.
@@ -52,13 +54,43 @@ pub(crate) fn flag(on: bool) -> &'static [u8]
 fn put_key(alloc: Global, out: &mut Vec<u8>, key: &RunKey) -> Result<(), AllocError>
     ensures value { OnOk result (out.new.items ≡ out.old.items ++ text_of (key_fields key.now)) }
 {
-    put_field(out, key.base.as_slice())?;
-    put_field(out, key.dest.as_slice())?;
+    put_field(out, key.maps.base())?;
+    put_field(out, key.maps.dest())?;
     put_field(out, flag(key.build_id))?;
     put_field(out, key.seed.as_slice())?;
     put_field(out, flag(key.skip))?;
     put_number(alloc, out, key.max_file)?;
     Ok(())
+}
+
+/// Appends a pair of a map: its base and its destination.
+#[tactic(auto, using(crate::proofs::WriteRules::write_rules))]
+fn put_pair(out: &mut Vec<u8>, pair: &MapPair) -> Result<(), AllocError>
+    ensures value { OnOk result (out.new.items ≡ out.old.items ++ text_of (side_fields pair.now)) }
+{
+    put_field(out, &pair.base)?;
+    put_field(out, &pair.dest)?;
+    Ok(())
+}
+
+/// Appends pairs of a map.
+#[tactic(auto, using(crate::proofs::WriteRules::loop_rules))]
+fn put_pairs(out: &mut Vec<u8>, pairs: &[MapPair]) -> Result<(), AllocError>
+    ensures value { OnOk result (out.new.items ≡ out.old.items ++ text_of (pair_fields pairs.now)) }
+{
+    for pair in pairs {
+        put_pair(out, pair)?;
+    }
+    Ok(())
+}
+
+/// The text of pairs of a map.
+pub(crate) fn pairs_text(alloc: Global, pairs: &[MapPair]) -> Result<Blob, AllocError>
+    ensures value { IfOk result (λ text. text ≡ text_of (pair_fields pairs.now)) }
+{
+    let mut out = Vec::new(alloc);
+    put_pairs(&mut out, pairs)?;
+    Ok(Blob::new(out))
 }
 
 /// Appends a job.
