@@ -1,7 +1,7 @@
 """What each argument of deilmuko is, for tools that run it: an option, its value, or a path."""
 
 # The options whose value may be the next argument.
-VALUED = {'--base-dir', '--dest-dir', '--seed', '--list-file', '--max-file', '--jobs'}
+VALUED = {'--base-dir', '--dest-dir', '--more-maps', '--seed', '--list-file', '--max-file', '--jobs'}
 
 
 def parts(words):

@@ -32,7 +32,7 @@ fold_valued (n ∷ ns) rest rows =
     ap (λ v. fold with_default v (map valued_rule ns ++ rest)) (same_if (has_row n rows) rows) ∙ fold_valued ns rest rows
 
 abbrev off_flags : List Row → List Row
-off_flags rows = with_default (with_default rows (flag_rule (codes "build-id"))) (flag_rule (codes "skip-refused"))
+off_flags rows = with_default (with_default (with_default rows (flag_rule (codes "build-id"))) (flag_rule (codes "skip-refused"))) (flag_rule (codes "grow-inline"))
 
 with_defaults : (rows : List Row) → fold with_default rows rules ≡ off_flags rows
 unfolding rules
@@ -66,10 +66,13 @@ abbrev off_if : Text → Text → Option Row
 off_if name id = if bytes_eq name id then Some (off_row name) else None
 
 found_end : (id : Text) (rows : List Row)
-    → found id (off_flags rows) ≡ or_first (or_first (found id rows) (off_if (codes "build-id") id)) (off_if (codes "skip-refused") id)
+    → found id (off_flags rows)
+    ≡ or_first (or_first (or_first (found id rows) (off_if (codes "build-id") id)) (off_if (codes "skip-refused") id)) (off_if (codes "grow-inline") id)
 found_end id rows =
-    found_off id (codes "skip-refused") (with_default rows (flag_rule (codes "build-id")))
-    ∙ ap (λ o. or_first o (off_if (codes "skip-refused") id)) (found_off id (codes "build-id") rows)
+    found_off id (codes "grow-inline") (with_default (with_default rows (flag_rule (codes "build-id"))) (flag_rule (codes "skip-refused")))
+    ∙ ap (λ o. or_first o (off_if (codes "grow-inline") id))
+    (found_off id (codes "skip-refused") (with_default rows (flag_rule (codes "build-id")))
+    ∙ ap (λ o. or_first o (off_if (codes "skip-refused") id)) (found_off id (codes "build-id") rows))
 
 -- ---- the command line that is read of the rows
 
@@ -83,10 +86,12 @@ rows_given : (id : Text) → bytes_eq (codes "path") id ≡ false → (ps : List
 rows_given id other ps rows p = ap (found id) (sym p.leaves) ∙ found_given id other ps [] p.passes
 
 value_read : (id : Text) → bytes_eq (codes "path") id ≡ false → is_in valued_options id ≡ true → off_if (codes "build-id") id ≡ None
-    → off_if (codes "skip-refused") id ≡ None → (ps : List Part) (rows : List Row) → Passed ps rows → first_of id (off_flags rows) ≡ value_of id ps
-value_read id other known build skip ps rows p =
+    → off_if (codes "skip-refused") id ≡ None → off_if (codes "grow-inline") id ≡ None
+    → (ps : List Part) (rows : List Row) → Passed ps rows → first_of id (off_flags rows) ≡ value_of id ps
+value_read id other known build skip grow ps rows p =
     ap first_text (
-    found_end id rows ∙ ap (λ o. or_first (or_first (found id rows) (off_if (codes "build-id") id)) o) skip
+    found_end id rows ∙ ap (λ o. or_first (or_first (or_first (found id rows) (off_if (codes "build-id") id)) (off_if (codes "skip-refused") id)) o) grow
+    ∙ or_first-none _ ∙ ap (λ o. or_first (or_first (found id rows) (off_if (codes "build-id") id)) o) skip
     ∙ or_first-none _ ∙ ap (or_first (found id rows)) build ∙ or_first-none (found id rows) ∙ rows_given id other ps rows p
     )
     ∙ value_given id known ps p.typed
@@ -98,7 +103,7 @@ is_true_of false = refl
 build_read : (ps : List Part) (rows : List Row) → Passed ps rows → is_true_text (first_of (codes "build-id") (off_flags rows)) ≡ is_given (codes "build-id") ps
 build_read ps rows p =
     ap is_true_text (
-    ap first_text (found_end (codes "build-id") rows ∙ or_first-none _ ∙ ap (λ o. or_first o (Some (off_row (codes "build-id")))) (rows_given (codes "build-id") refl ps rows p))
+    ap first_text (found_end (codes "build-id") rows ∙ or_first-none _ ∙ or_first-none _ ∙ ap (λ o. or_first o (Some (off_row (codes "build-id")))) (rows_given (codes "build-id") refl ps rows p))
     ∙ flag_given (codes "build-id") (off_row (codes "build-id")) refl ps p.typed
     )
     ∙ is_true_of (is_given (codes "build-id") ps)
@@ -107,29 +112,43 @@ skip_read : (ps : List Part) (rows : List Row) → Passed ps rows → is_true_te
 skip_read ps rows p =
     ap is_true_text (
     ap first_text (
-    found_end (codes "skip-refused") rows ∙ ap (λ o. or_first o (Some (off_row (codes "skip-refused")))) (or_first-none (found (codes "skip-refused") rows))
+    found_end (codes "skip-refused") rows ∙ or_first-none _ ∙ ap (λ o. or_first o (Some (off_row (codes "skip-refused")))) (or_first-none (found (codes "skip-refused") rows))
     ∙ ap (λ o. or_first o (Some (off_row (codes "skip-refused")))) (rows_given (codes "skip-refused") refl ps rows p)
     )
     ∙ flag_given (codes "skip-refused") (off_row (codes "skip-refused")) refl ps p.typed
     )
     ∙ is_true_of (is_given (codes "skip-refused") ps)
 
+grow_read : (ps : List Part) (rows : List Row) → Passed ps rows → is_true_text (first_of (codes "grow-inline") (off_flags rows)) ≡ is_given (codes "grow-inline") ps
+grow_read ps rows p =
+    ap is_true_text (
+    ap first_text (
+    found_end (codes "grow-inline") rows
+    ∙ ap (λ o. or_first o (Some (off_row (codes "grow-inline")))) (or_first-none (or_first (found (codes "grow-inline") rows) None) ∙ or_first-none (found (codes "grow-inline") rows))
+    ∙ ap (λ o. or_first o (Some (off_row (codes "grow-inline")))) (rows_given (codes "grow-inline") refl ps rows p)
+    )
+    ∙ flag_given (codes "grow-inline") (off_row (codes "grow-inline")) refl ps p.typed
+    )
+    ∙ is_true_of (is_given (codes "grow-inline") ps)
+
 paths_read : (ps : List Part) (rows : List Row) → Passed ps rows → path_values (off_flags rows) ≡ paths_of ps
 paths_read ps rows p =
-    ap (λ o. unwrap_or (option_map (λ (r : Row). r.values) o) []) (found_end (codes "path") rows ∙ or_first-none _ ∙ or_first-none (found (codes "path") rows))
+    ap (λ o. unwrap_or (option_map (λ (r : Row). r.values) o) []) (found_end (codes "path") rows ∙ or_first-none _ ∙ or_first-none _ ∙ or_first-none (found (codes "path") rows))
     ∙ ap path_values (sym p.leaves) ∙ paths_given ps [] p.typed p.passes
 
 line_read : (ps : List Part) (rows : List Row) → Passed ps rows → line_of_rows (off_flags rows) ≡ line_of_parts ps
 line_read ps rows p = λ i. record {
   paths = paths_read ps rows p i;
-  base_dir = value_read (codes "base-dir") refl refl refl refl ps rows p i;
-  dest_dir = value_read (codes "dest-dir") refl refl refl refl ps rows p i;
+  base_dir = value_read (codes "base-dir") refl refl refl refl refl ps rows p i;
+  dest_dir = value_read (codes "dest-dir") refl refl refl refl refl ps rows p i;
   build_id = build_read ps rows p i;
-  seed = value_read (codes "seed") refl refl refl refl ps rows p i;
-  list_file = value_read (codes "list-file") refl refl refl refl ps rows p i;
-  max_file = value_read (codes "max-file") refl refl refl refl ps rows p i;
-  jobs = value_read (codes "jobs") refl refl refl refl ps rows p i;
+  seed = value_read (codes "seed") refl refl refl refl refl ps rows p i;
+  list_file = value_read (codes "list-file") refl refl refl refl refl ps rows p i;
+  max_file = value_read (codes "max-file") refl refl refl refl refl ps rows p i;
+  jobs = value_read (codes "jobs") refl refl refl refl refl ps rows p i;
+  more_maps = value_read (codes "more-maps") refl refl refl refl refl ps rows p i;
   skip_refused = skip_read ps rows p i;
+  grow_inline = grow_read ps rows p i;
 }
 
 -- ---- all that the parser looks at

@@ -128,14 +128,16 @@ not_path names n none known =
 -- no flag takes a value
 flag_or_value : (n : Text) → is_in flags n ≡ true → is_in valued_options n ≡ true → true ≡ false
 flag_or_value n flag known =
-    elim (bytes_eq (codes "build-id") n) as (λ t. bytes_eq (codes "build-id") n ≡ t → (if t then true else is_in (codes "skip-refused" ∷ []) n) ≡ true → true ≡ false) [
-      | true ↦ λ e f. let is : false ≡ true = ap (is_in valued_options) ((bytes_eq-Decides (codes "build-id") n).0 e) ∙ known in sym is
-      | false ↦ λ e f.
-          elim (bytes_eq (codes "skip-refused") n) as (λ t. bytes_eq (codes "skip-refused") n ≡ t → (if t then true else false) ≡ true → true ≡ false) [
-            | true ↦ λ g h. let is : false ≡ true = ap (is_in valued_options) ((bytes_eq-Decides (codes "skip-refused") n).0 g) ∙ known in sym is
-            | false ↦ λ g h. sym h
-          ] refl f
-    ] refl flag
+    by_name (codes "build-id") (codes "skip-refused" ∷ codes "grow-inline" ∷ []) refl
+    (by_name (codes "skip-refused") (codes "grow-inline" ∷ []) refl (by_name (codes "grow-inline") [] refl (λ h. sym h))) flag
+  where
+    by_name : (name : Text) (names : List Text) → is_in valued_options name ≡ false → (is_in names n ≡ true → true ≡ false)
+        → (if bytes_eq name n then true else is_in names n) ≡ true → true ≡ false
+    by_name name names other rest =
+        elim (bytes_eq name n) as (λ t. bytes_eq name n ≡ t → (if t then true else is_in names n) ≡ true → true ≡ false) [
+          | true ↦ λ e f. let is : false ≡ true = sym other ∙ (ap (is_in valued_options) ((bytes_eq-Decides name n).0 e) ∙ known) in sym is
+          | false ↦ λ e f. rest f
+        ] refl
 
 -- ---- which parts pass
 

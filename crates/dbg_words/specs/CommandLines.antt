@@ -19,10 +19,11 @@ valued_options =
     ∷ codes "list-file"
     ∷ codes "max-file"
     ∷ codes "jobs"
+    ∷ codes "more-maps"
     ∷ []
 
 abbrev pub flags : List (List ℕ)
-flags = codes "build-id" ∷ codes "skip-refused" ∷ []
+flags = codes "build-id" ∷ codes "skip-refused" ∷ codes "grow-inline" ∷ []
 
 -- what a word looks like, by its dashes
 pub data Look : Type 0 where
@@ -125,7 +126,9 @@ pub record CommandLine : Type 0 where
   pub list_file : Option (List ℕ)
   pub max_file : Option (List ℕ)
   pub jobs : Option (List ℕ)
+  pub more_maps : Option (List ℕ)
   pub skip_refused : Bool
+  pub grow_inline : Bool
 
 abbrev pub line_of_parts : List Part → CommandLine
 line_of_parts ps = record {
@@ -137,7 +140,9 @@ line_of_parts ps = record {
   list_file = value_of (codes "list-file") ps;
   max_file = value_of (codes "max-file") ps;
   jobs = value_of (codes "jobs") ps;
+  more_maps = value_of (codes "more-maps") ps;
   skip_refused = is_given (codes "skip-refused") ps;
+  grow_inline = is_given (codes "grow-inline") ps;
 }
 
 abbrev pub line_if_fit : List Part → Option CommandLine

@@ -3,4 +3,5 @@ pub mod PathWords
 pub mod Decimals
 pub mod Dashes
 pub mod Matches
+pub mod MapWords
 pub mod Words

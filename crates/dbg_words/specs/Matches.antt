@@ -31,12 +31,15 @@ abbrev pub options_app : App
 options_app =
     with_rule
     (with_rule
+    (with_rule
     (with_rule edit_options_app (valued_arg (codes "list-file")))
     (valued_arg (codes "max-file")))
-    (valued_arg (codes "jobs"))
+    (valued_arg (codes "jobs")))
+    (valued_arg (codes "more-maps"))
 
 abbrev pub program_app : App
-program_app = with_rule (with_rule (with_rule options_app (flag_arg (codes "build-id"))) (flag_arg (codes "skip-refused"))) path_arg
+program_app =
+    with_rule (with_rule (with_rule (with_rule options_app (flag_arg (codes "build-id"))) (flag_arg (codes "skip-refused"))) (flag_arg (codes "grow-inline"))) path_arg
 
 -- a flag is set where its text says so
 abbrev pub is_true_text : Option (List ℕ) → Bool
@@ -54,7 +57,9 @@ line_of_rows rows = record {
   list_file = first_of (codes "list-file") rows;
   max_file = first_of (codes "max-file") rows;
   jobs = first_of (codes "jobs") rows;
+  more_maps = first_of (codes "more-maps") rows;
   skip_refused = is_true_text (first_of (codes "skip-refused") rows);
+  grow_inline = is_true_text (first_of (codes "grow-inline") rows);
 }
 
 -- what the parser finds in words, of which the first is passed over, where nothing fails

@@ -5,9 +5,12 @@ ghost use Rattle.dw_base.specs.Texts.{has_nul};
 ghost use Rattle.dbg_words.specs.Words.{command, command_named, texts};
 
 use crate::line::{Line, read_line};
-use crate::named::{edit_of, exercise_of, run_of, show_of, split_of, unstrip_of};
+use crate::named::{
+    check_of, edit_of, exercise_of, gather_of, run_of, show_of, split_of, unstrip_of,
+};
 use dw_base::NoMemory;
-use file_tree::Text;
+use dw_paths::Maps;
+use file_tree::{Blob, Text};
 use job_types::Options;
 use std::alloc::Global;
 
@@ -45,6 +48,22 @@ pub enum Command {
         stripped: Text,
         debug: Text,
         output: Text,
+    },
+    /// Whether the stripped file at `stripped` and its debug file at `debug` mean what the file at `input` means,
+    /// with each source path mapped.
+    Check {
+        input: Text,
+        stripped: Text,
+        debug: Text,
+        maps: Maps,
+    },
+    /// The sources that a run over `root` has listed are copied from the folder `from` into the root, below `dest`;
+    /// `jobs` of them are in work at a time.
+    Gather {
+        root: Text,
+        from: Text,
+        dest: Blob,
+        jobs: u8,
     },
     /// A file is made of a seed, with so many units, rewritten, and counted.
     Exercise {
@@ -91,6 +110,12 @@ fn command_named(alloc: Global, name: &str, line: &Line<'_>) -> Result<Option<Co
     }
     if name == "unstrip" {
         return unstrip_of(alloc, line);
+    }
+    if name == "check" {
+        return check_of(alloc, line);
+    }
+    if name == "gather" {
+        return gather_of(alloc, line);
     }
     if name == "exercise" {
         return Ok(exercise_of(line));

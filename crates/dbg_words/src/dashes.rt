@@ -16,6 +16,7 @@ fn is_valued(name: &[u8]) -> bool
         || b"list-file".as_slice() == name
         || b"max-file".as_slice() == name
         || b"jobs".as_slice() == name
+        || b"more-maps".as_slice() == name
 }
 
 /// What stands behind a dash in front.

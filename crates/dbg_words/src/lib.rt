@@ -19,6 +19,7 @@ mod command;
 mod dashes;
 mod decimals;
 mod line;
+mod map_words;
 mod matches;
 mod named;
 mod path_words;

@@ -28,8 +28,12 @@ pub struct Line<'a> {
     pub max_file: Option<&'a str>,
     /// The value of `--jobs`.
     pub jobs: Option<&'a str>,
+    /// The value of `--more-maps`.
+    pub more_maps: Option<&'a str>,
     /// Whether `--skip-refused` is given.
     pub skip_refused: bool,
+    /// Whether `--grow-inline` is given.
+    pub grow_inline: bool,
 }
 
 impl<'a> Model for Line<'a> {
@@ -44,7 +48,9 @@ impl<'a> Model for Line<'a> {
       list_file = option_map (λ word. word.now) l.list_file;
       max_file = option_map (λ word. word.now) l.max_file;
       jobs = option_map (λ word. word.now) l.jobs;
+      more_maps = option_map (λ word. word.now) l.more_maps;
       skip_refused = l.skip_refused;
+      grow_inline = l.grow_inline;
     } };
 }
 

@@ -58,7 +58,8 @@ fn options<'a>(alloc: Global) -> Result<Command<'a>, AllocError>
     let command = edit_options(alloc)?
         .arg(valued(alloc, "list-file"))?
         .arg(valued(alloc, "max-file"))?
-        .arg(valued(alloc, "jobs"))?;
+        .arg(valued(alloc, "jobs"))?
+        .arg(valued(alloc, "more-maps"))?;
     Ok(command)
 }
 
@@ -69,6 +70,7 @@ fn program<'a>(alloc: Global) -> Result<Command<'a>, AllocError>
     let command = options(alloc)?
         .arg(flag(alloc, "build-id"))?
         .arg(flag(alloc, "skip-refused"))?
+        .arg(flag(alloc, "grow-inline"))?
         .arg(paths(alloc))?;
     Ok(command)
 }
@@ -115,7 +117,9 @@ fn line_of<'a>(alloc: Global, matches: &ArgMatches<'a>) -> Result<Line<'a>, Allo
         list_file: value_of(matches, "list-file"),
         max_file: value_of(matches, "max-file"),
         jobs: value_of(matches, "jobs"),
+        more_maps: value_of(matches, "more-maps"),
         skip_refused: is_set(matches, "skip-refused"),
+        grow_inline: is_set(matches, "grow-inline"),
     })
 }
 

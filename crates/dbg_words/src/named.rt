@@ -1,15 +1,17 @@
 //! Each command, of the command line behind its name.
-ghost use Rattle.std.specs.Prelude.{◌≡◌, IfOk, option_map, map};
-ghost use Rattle.dbg_words.specs.Words.{edit_listed, edit_named, edit_of, edit_paths, exercise_named, exercise_of, is_bare, list_path, run_below, run_named, run_of, show_named, show_of, show_one, show_two, split_named, split_of, split_paths, two_of, unstrip_named, unstrip_of, unstrip_paths};
+ghost use Rattle.std.specs.Prelude.{◌≡◌, ◌||◌, not, codes, IfOk, option_map, map};
+ghost use Rattle.dw_base.specs.Paths.{lies_under};
+ghost use Rattle.dbg_words.specs.Words.{are_apart, check_mapped, check_named, check_of, check_paths, edit_listed, edit_named, edit_of, edit_paths, exercise_named, exercise_of, gather_into, gather_named, gather_of, gather_paths, has_dest_alone, has_no_job, is_bare, is_target, list_path, run_below, run_named, run_of, show_named, show_of, show_one, show_two, split_named, split_of, split_paths, target_named, target_of, two_of, unstrip_named, unstrip_of, unstrip_paths};
 
 use crate::command::Command;
 use crate::decimals::number_within;
 use crate::line::Line;
 use crate::path_words::{other_path, path_named, two_paths};
-use crate::settings::{number_or, settings_of};
+use crate::settings::{maps_of, number_or, settings_of};
 use crate::several::{one_of, three_of, two_of};
 use dw_base::NoMemory;
-use file_tree::Text;
+use dw_paths::{is_plain, is_prefix, lies_under, without_slashes};
+use file_tree::{Blob, Text};
 use std::alloc::Global;
 
 /// Whether no option is given.
@@ -21,6 +23,7 @@ fn is_bare(line: &Line<'_>) -> bool
             || line.max_file.is_some()
             || line.jobs.is_some()
             || line.skip_refused)
+        && !(line.more_maps.is_some() || line.grow_inline)
 }
 
 /// The path of a list, beside two paths, where it is given: `None` where the word names no other path.
@@ -174,7 +177,7 @@ fn run_named(alloc: Global, line: &Line<'_>, word: &str) -> Result<Option<Comman
 pub fn run_of(alloc: Global, line: &Line<'_>) -> Result<Option<Command>, NoMemory>
     ensures value { IfOk result (λ c. c ≡ run_of line.now) }
 {
-    if line.list_file.is_some() {
+    if line.list_file.is_some() || line.more_maps.is_some() || line.grow_inline {
         return Ok(None);
     }
     match one_of(&line.paths) {
@@ -270,6 +273,201 @@ pub fn unstrip_of(alloc: Global, line: &Line<'_>) -> Result<Option<Command>, NoM
     match three_of(&line.paths) {
         None => Ok(None),
         Some(words) => unstrip_named(alloc, words),
+    }
+}
+
+/// Whether no option is given but those that make a map.
+fn has_no_job(line: &Line<'_>) -> bool
+    ensures value { result ≡ has_no_job line.now }
+{
+    !(line.build_id || line.seed.is_some() || line.list_file.is_some() || line.max_file.is_some())
+        && !(line.jobs.is_some() || line.skip_refused || line.grow_inline)
+}
+
+/// A check of three paths.
+fn check_mapped(
+    alloc: Global,
+    line: &Line<'_>,
+    paths: (Text, Text),
+    debug: Text,
+) -> Result<Option<Command>, NoMemory>
+    ensures value { IfOk result (λ c. c ≡ check_mapped line.now paths debug) }
+{
+    let Some(maps) = maps_of(alloc, line)? else {
+        return Ok(None);
+    };
+    let (input, stripped) = paths;
+    Ok(Some(Command::Check {
+        input,
+        stripped,
+        debug,
+        maps,
+    }))
+}
+
+/// A check of two paths, and a third.
+fn check_paths(
+    alloc: Global,
+    line: &Line<'_>,
+    word: &str,
+    paths: (Text, Text),
+) -> Result<Option<Command>, NoMemory>
+    ensures value { IfOk result (λ c. c ≡ check_paths line.now word.now paths) }
+{
+    match other_path(alloc, &paths.0, &paths.1, word)? {
+        None => Ok(None),
+        Some(debug) => check_mapped(alloc, line, paths, debug),
+    }
+}
+
+/// A check of three words.
+fn check_named(
+    alloc: Global,
+    line: &Line<'_>,
+    words: (&str, &str, &str),
+) -> Result<Option<Command>, NoMemory>
+    ensures value { IfOk result (λ c. c ≡ check_named line.now (words.entry.0.now, words.entry.1.now, words.entry.2.now)) }
+{
+    match two_paths(alloc, words.0, words.1)? {
+        None => Ok(None),
+        Some(paths) => check_paths(alloc, line, words.2, paths),
+    }
+}
+
+/// `check INPUT STRIPPED DEBUG`, with a base, a destination, and further pairs.
+#[tactic(auto, unfolding(crate::specs::Words::check_of))]
+pub fn check_of(alloc: Global, line: &Line<'_>) -> Result<Option<Command>, NoMemory>
+    ensures value { IfOk result (λ c. c ≡ check_of line.now) }
+{
+    if !has_no_job(line) {
+        return Ok(None);
+    }
+    match three_of(&line.paths) {
+        None => Ok(None),
+        Some(words) => check_named(alloc, line, words),
+    }
+}
+
+/// Whether no option is given but a destination, and how many are in work at a time.
+fn has_dest_alone(line: &Line<'_>) -> bool
+    ensures value { result ≡ has_dest_alone line.now }
+{
+    !(line.base_dir.is_some() || line.more_maps.is_some() || line.build_id || line.seed.is_some())
+        && !(line.list_file.is_some()
+            || line.max_file.is_some()
+            || line.skip_refused
+            || line.grow_inline)
+}
+
+/// Whether a path, which is a destination without its first slash, lies in no work folder.
+fn is_outside(path: &[u8]) -> bool
+    ensures value { result ≡ not (lies_under (codes ".dbgsrc") path.now || lies_under (codes ".dbgwork") path.now) }
+{
+    !(lies_under(b".dbgsrc", path) || lies_under(b".dbgwork", path))
+}
+
+/// Whether a destination may be one below a root: without its first slash it is plain, and it doesn't lie in
+/// a work folder.
+#[tactic(auto, unfolding(crate::specs::Words::is_target))]
+fn is_target(dest: &[u8]) -> bool
+    ensures value { result ≡ is_target dest.now }
+{
+    match dest {
+        [_, path @ ..] => is_plain(path) && is_outside(path),
+        [] => is_plain(b"") && is_outside(b""),
+    }
+}
+
+/// The destination that a word names, without the slashes at its end.
+fn target_named(alloc: Global, word: &[u8]) -> Result<Option<Blob>, NoMemory>
+    ensures value { IfOk result (λ o. o ≡ target_named word.now) }
+{
+    let dest = without_slashes(word);
+    if !is_prefix(word) {
+        return Ok(None);
+    }
+    if !is_target(dest) {
+        return Ok(None);
+    }
+    let dest = Blob::from_slice(alloc, dest)?;
+    Ok(Some(dest))
+}
+
+/// The same of a word that may be given.
+fn target_of(alloc: Global, word: Option<&str>) -> Result<Option<Blob>, NoMemory>
+    ensures value { IfOk result (λ o. o ≡ target_of (option_map (λ w. w.now) word.entry)) }
+{
+    match word {
+        None => Ok(None),
+        Some(word) => target_named(alloc, word.as_bytes()),
+    }
+}
+
+/// Whether neither path lies below the other.
+fn are_apart(paths: &(Text, Text)) -> bool
+    ensures value { result ≡ are_apart paths.now }
+{
+    let root = paths.0.as_str().as_bytes();
+    let from = paths.1.as_str().as_bytes();
+    !(lies_under(root, from) || lies_under(from, root))
+}
+
+/// Sources gathered below a destination.
+fn gather_into(line: &Line<'_>, paths: (Text, Text), dest: Blob) -> Option<Command>
+    ensures value { result ≡ gather_into line.now paths dest }
+{
+    let jobs = number_or(1, 64, 1, line.jobs)?;
+    let (root, from) = paths;
+    Some(Command::Gather {
+        root,
+        from,
+        dest,
+        jobs: jobs as u8,
+    })
+}
+
+/// Sources gathered from one path into another.
+fn gather_paths(
+    alloc: Global,
+    line: &Line<'_>,
+    paths: (Text, Text),
+) -> Result<Option<Command>, NoMemory>
+    ensures value { IfOk result (λ c. c ≡ gather_paths line.now paths) }
+{
+    if !are_apart(&paths) {
+        return Ok(None);
+    }
+    match target_of(alloc, line.dest_dir)? {
+        None => Ok(None),
+        Some(dest) => Ok(gather_into(line, paths, dest)),
+    }
+}
+
+/// Sources gathered, of two words.
+fn gather_named(
+    alloc: Global,
+    line: &Line<'_>,
+    words: (&str, &str),
+) -> Result<Option<Command>, NoMemory>
+    ensures value { IfOk result (λ c. c ≡ gather_named line.now (words.entry.0.now, words.entry.1.now)) }
+{
+    match two_paths(alloc, words.0, words.1)? {
+        None => Ok(None),
+        Some(paths) => gather_paths(alloc, line, paths),
+    }
+}
+
+/// `gather ROOT SOURCE`, with a destination, and how many are in work at a time.
+#[tactic(auto, unfolding(crate::specs::Words::gather_of))]
+pub fn gather_of(alloc: Global, line: &Line<'_>) -> Result<Option<Command>, NoMemory>
+    ensures value { IfOk result (λ c. c ≡ gather_of line.now) }
+{
+    if !has_dest_alone(line) {
+        return Ok(None);
+    }
+    match two_of(&line.paths) {
+        None => Ok(None),
+        Some(words) => gather_named(alloc, line, words),
     }
 }
 

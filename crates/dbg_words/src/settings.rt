@@ -1,9 +1,10 @@
 //! What is wanted of files, as the options say it.
 ghost use Rattle.std.specs.Prelude.{◌≡◌, ◌≤◌, IfOk, IfSome, option_map};
-ghost use Rattle.dbg_words.specs.Words.{maps_named, number_or, settings_mapped, settings_of};
+ghost use Rattle.dbg_words.specs.Words.{maps_named, maps_of, number_or, settings_mapped, settings_of};
 
 use crate::decimals::number_within;
 use crate::line::Line;
+use crate::map_words::with_more;
 use dw_base::NoMemory;
 use dw_paths::Maps;
 use file_tree::Blob;
@@ -21,6 +22,16 @@ fn maps_named(
     match (base, dest) {
         (Some(base), Some(dest)) => Maps::new(alloc, base.as_bytes(), dest.as_bytes()),
         _ => Ok(None),
+    }
+}
+
+/// The same with further pairs, where they are given and may be added.
+pub fn maps_of(alloc: Global, line: &Line<'_>) -> Result<Option<Maps>, NoMemory>
+    ensures value { IfOk result (λ o. o ≡ maps_of line.now) }
+{
+    match maps_named(alloc, line.base_dir, line.dest_dir)? {
+        None => Ok(None),
+        Some(maps) => with_more(alloc, maps, line.more_maps),
     }
 }
 
@@ -49,6 +60,7 @@ fn settings_mapped(alloc: Global, line: &Line<'_>, maps: Maps) -> Result<Option<
         seed,
         skip: line.skip_refused,
         max_file,
+        grow_inline: line.grow_inline,
     }))
 }
 
@@ -56,7 +68,7 @@ fn settings_mapped(alloc: Global, line: &Line<'_>, maps: Maps) -> Result<Option<
 pub fn settings_of(alloc: Global, line: &Line<'_>) -> Result<Option<Options>, NoMemory>
     ensures value { IfOk result (λ o. o ≡ settings_of line.now) }
 {
-    match maps_named(alloc, line.base_dir, line.dest_dir)? {
+    match maps_of(alloc, line)? {
         None => Ok(None),
         Some(maps) => settings_mapped(alloc, line, maps),
     }

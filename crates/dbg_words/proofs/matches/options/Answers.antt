@@ -7,4 +7,5 @@ pub returns : goal.returns
 returns c =
     let one = c.in_ok-arg.ensures.shape c.valued.ensures.local ∙ ap₂ with_rule c.in_ok-edit_options.ensures.app c.valued.ensures.rule in
     let two = c.in_ok-arg-2.ensures.shape c.valued-2.ensures.local ∙ ap₂ with_rule one c.valued-2.ensures.rule in
-    record { app = c.in_ok-command.ensures.shape c.valued-3.ensures.local ∙ ap₂ with_rule two c.valued-3.ensures.rule }
+    let three = c.in_ok-arg-3.ensures.shape c.valued-3.ensures.local ∙ ap₂ with_rule two c.valued-3.ensures.rule in
+    record { app = c.in_ok-command.ensures.shape c.valued-4.ensures.local ∙ ap₂ with_rule three c.valued-4.ensures.rule }
