@@ -30,6 +30,7 @@ fn a_file_without_a_note_is_edited_and_gets_no_id(rt: HostRuntime) -> Result<(),
         seed: Blob::new(Vec::new(alloc)),
         skip: false,
         max_file: MOST_FILE,
+        grow_inline: false,
     };
     let file = built_file(alloc)?;
     assert!(rt; file.len() as u64 <= OUTPUT_LIMIT);

@@ -21,6 +21,7 @@ fn options_with(alloc: Global, build_id: bool) -> Result<Options, Fail> {
         seed: Blob::new(Vec::new(alloc)),
         skip: false,
         max_file: MOST_FILE,
+        grow_inline: false,
     })
 }
 

@@ -13,9 +13,9 @@ use Rattle.dbg_words.specs.CommandLines.Look.{plain, ending, optional, short}
 use Rattle.dbg_words.specs.CommandLines.Part.{path, value, flag}
 use Rattle.dbg_words.specs.PathWords.{cleaned, components, is_kept, is_path_word, is_rooted, kept_components, path_named}
 use Rattle.dbg_words.specs.Decimals.{number_within}
-use Rattle.dbg_words.specs.Words.{command, command_named, edit_listed, edit_named, edit_of, edit_paths, exercise_named, exercise_of, exercise_seeded, is_bare, list_path, number_or, one_of, other_path, run_below, run_named, run_of, run_settled, settings_of, show_named, show_of, show_one, split_named, split_of, split_paths, three_of, two_of, two_paths, unless_among, unstrip_named, unstrip_of, unstrip_paths}
+use Rattle.dbg_words.specs.Words.{command, command_named, edit_listed, edit_named, edit_of, edit_paths, exercise_named, exercise_of, exercise_seeded, is_bare, list_path, number_or, one_of, other_path, run_below, run_named, run_of, run_settled, settings_of, show_named, show_of, show_one, split_named, split_of, split_paths, three_of, two_of, two_paths, unless_among, unstrip_named, unstrip_of, unstrip_paths, are_apart, check_mapped, check_named, check_of, check_paths, gather_into, gather_named, gather_of, gather_paths, has_dest_alone, has_no_job, maps_of, target_of}
 use Rattle.dbg_words.specs.declared.command.Command.{Command}
-use Rattle.dbg_words.specs.declared.command.Command.TheVariants.{Edit, Split, Run, Show, Unstrip, Exercise}
+use Rattle.dbg_words.specs.declared.command.Command.TheVariants.{Edit, Split, Run, Show, Unstrip, Check, Gather, Exercise}
 use Rattle.dbg_run.specs.Built.{built, if_built, is_built}
 use Rattle.dbg_run.specs.Shows.{base_name}
 use Rattle.dbg_run.proofs.BuiltLaws.{All, all_if, all_map, all_then, any}
@@ -217,7 +217,7 @@ edit-free l =
 run-free : (l : CommandLine) → All DebugBare (run_of l)
 unfolding run_of
 run-free l =
-    all_if DebugBare (is_some l.list_file) None (option_and_then (run_named l) (one_of l.paths)) tt
+    all_if DebugBare (is_some l.list_file || is_some l.more_maps || l.grow_inline) None (option_and_then (run_named l) (one_of l.paths)) tt
     (all_then (λ a. ⊤) DebugBare (run_named l) (one_of l.paths) (any (one_of l.paths)) (λ w _.
     all_then (λ a. ⊤) DebugBare (run_below l) (path_named w) (any (path_named w)) (λ root _.
     all_then (λ a. ⊤) DebugBare (run_settled l root) (settings_of l) (any (settings_of l)) (λ o _.
@@ -240,6 +240,25 @@ unstrip-free l =
     all_then (λ a. ⊤) DebugBare (unstrip_paths w.2) (two_paths (w.0, w.1)) (any (two_paths (w.0, w.1))) (λ p _.
     all_map (λ a. ⊤) DebugBare (λ output. Unstrip p.0 p.1 output) (other_path p.0 p.1 w.2) (any (other_path p.0 p.1 w.2)) (λ output _. tt)))) tt
 
+check-free : (l : CommandLine) → All DebugBare (check_of l)
+unfolding check_of
+check-free l =
+    all_if DebugBare (has_no_job l) (option_and_then (check_named l) (three_of l.paths)) None
+    (all_then (λ a. ⊤) DebugBare (check_named l) (three_of l.paths) (any (three_of l.paths)) (λ w _.
+    all_then (λ a. ⊤) DebugBare (check_paths l w.2) (two_paths (w.0, w.1)) (any (two_paths (w.0, w.1))) (λ p _.
+    all_then (λ a. ⊤) DebugBare (check_mapped l p) (other_path p.0 p.1 w.2) (any (other_path p.0 p.1 w.2)) (λ debug _.
+    all_map (λ a. ⊤) DebugBare (λ maps. Check p.0 p.1 debug maps) (maps_of l) (any (maps_of l)) (λ maps _. tt))))) tt
+
+gather-free : (l : CommandLine) → All DebugBare (gather_of l)
+unfolding gather_of
+gather-free l =
+    all_if DebugBare (has_dest_alone l) (option_and_then (gather_named l) (two_of l.paths)) None
+    (all_then (λ a. ⊤) DebugBare (gather_named l) (two_of l.paths) (any (two_of l.paths)) (λ w _.
+    all_then (λ a. ⊤) DebugBare (gather_paths l) (two_paths w) (any (two_paths w)) (λ p _.
+    all_if DebugBare (are_apart p) (option_and_then (gather_into l p) (target_of l.dest_dir)) None
+    (all_then (λ a. ⊤) DebugBare (gather_into l p) (target_of l.dest_dir) (any (target_of l.dest_dir)) (λ dest _.
+    all_map (λ a. ⊤) DebugBare (λ jobs. Gather p.0 p.1 dest jobs) (number_or 1 64 1 l.jobs) (any (number_or 1 64 1 l.jobs)) (λ jobs _. tt))) tt))) tt
+
 exercise-free : (l : CommandLine) → All DebugBare (exercise_of l)
 unfolding exercise_of
 exercise-free l =
@@ -256,7 +275,9 @@ named-free name l bs =
     (all_if DebugBare (same_text name (codes "run")) (run_of l) _ (run-free l)
     (all_if DebugBare (same_text name (codes "show")) (show_of l) _ (show-free l)
     (all_if DebugBare (same_text name (codes "unstrip")) (unstrip_of l) _ (unstrip-free l)
-    (all_if DebugBare (same_text name (codes "exercise")) (exercise_of l) None (exercise-free l) tt)))))
+    (all_if DebugBare (same_text name (codes "check")) (check_of l) _ (check-free l)
+    (all_if DebugBare (same_text name (codes "gather")) (gather_of l) _ (gather-free l)
+    (all_if DebugBare (same_text name (codes "exercise")) (exercise_of l) None (exercise-free l) tt)))))))
 
 command-bare : (words : List (List ℕ)) → All DebugBare (command words)
 unfolding command

@@ -8,10 +8,10 @@ use Rattle.dw_base.specs.Texts.{has_nul, same_text}
 use Rattle.job_types.specs.Settings.{Settings}
 use Rattle.dbg_words.specs.CommandLines.{CommandLine, command_line}
 use Rattle.dbg_words.specs.declared.command.Command.{Command}
-use Rattle.dbg_words.specs.declared.command.Command.TheVariants.{Edit, Split, Run, Show, Unstrip, Exercise}
+use Rattle.dbg_words.specs.declared.command.Command.TheVariants.{Edit, Split, Run, Show, Unstrip, Check, Gather, Exercise}
 use Rattle.dbg_words.specs.Decimals.{number_within}
 use Rattle.dbg_words.specs.PathWords.{path_named}
-use Rattle.dbg_words.specs.Words.{command, command_named, edit_listed, edit_named, edit_of, edit_paths, exercise_named, exercise_of, exercise_seeded, list_path, number_or, one_of, other_path, run_below, run_named, run_of, run_settled, settings_of, show_named, show_of, show_one, split_named, split_of, split_paths, two_of, two_paths, unless_among, three_of, is_bare, unstrip_named, unstrip_of, unstrip_paths}
+use Rattle.dbg_words.specs.Words.{command, command_named, edit_listed, edit_named, edit_of, edit_paths, exercise_named, exercise_of, exercise_seeded, list_path, number_or, one_of, other_path, run_below, run_named, run_of, run_settled, settings_of, show_named, show_of, show_one, split_named, split_of, split_paths, two_of, two_paths, unless_among, three_of, is_bare, unstrip_named, unstrip_of, unstrip_paths, are_apart, check_mapped, check_named, check_of, check_paths, gather_into, gather_named, gather_of, gather_paths, has_dest_alone, has_no_job, maps_of, target_of}
 use Rattle.dbg_run.specs.Built.{built, if_built, is_built}
 
 -- a command that is none of these isn't carried out
@@ -38,6 +38,8 @@ only_these (Run root o jobs) k true e is edit split show unstrip run = let same 
 only_these (Show file debug) k true e is edit split show unstrip run = let same : k ≡ Show file debug = cc in show file debug same
 only_these (Unstrip stripped debug output) k true e is edit split show unstrip run =
     let same : k ≡ Unstrip stripped debug output = cc in unstrip stripped debug output same
+only_these (Check input stripped debug maps) k true e is edit split show unstrip run = cc
+only_these (Gather root from dest jobs) k true e is edit split show unstrip run = cc
 only_these (Exercise seed units) k true e is edit split show unstrip run = cc
 
 built_from : (o : Option Command) (k : Command) → Some k ≡ option_and_then if_built o → NoEdit k → NoSplit k → NoShow k → NoUnstrip k → NoRun k → ⊥
@@ -115,7 +117,7 @@ split_apart l =
 run_apart : (l : CommandLine) → All IsApart (run_of l)
 unfolding run_of
 run_apart l =
-    all_if IsApart (is_some l.list_file) None (option_and_then (run_named l) (one_of l.paths)) tt
+    all_if IsApart (is_some l.list_file || is_some l.more_maps || l.grow_inline) None (option_and_then (run_named l) (one_of l.paths)) tt
     (all_then (λ a. ⊤) IsApart (run_named l) (one_of l.paths) (any (one_of l.paths)) (λ w _.
     all_then (λ a. ⊤) IsApart (run_below l) (path_named w) (any (path_named w)) (λ root _.
     all_then (λ a. ⊤) IsApart (run_settled l root) (settings_of l) (any (settings_of l)) (λ o _.
@@ -138,6 +140,25 @@ unstrip_apart l =
     all_then (λ a. ⊤) IsApart (unstrip_paths w.2) (two_paths (w.0, w.1)) (any (two_paths (w.0, w.1))) (λ p _.
     all_map (λ a. ⊤) IsApart (λ output. Unstrip p.0 p.1 output) (other_path p.0 p.1 w.2) (any (other_path p.0 p.1 w.2)) (λ output _. tt)))) tt
 
+check_apart : (l : CommandLine) → All IsApart (check_of l)
+unfolding check_of
+check_apart l =
+    all_if IsApart (has_no_job l) (option_and_then (check_named l) (three_of l.paths)) None
+    (all_then (λ a. ⊤) IsApart (check_named l) (three_of l.paths) (any (three_of l.paths)) (λ w _.
+    all_then (λ a. ⊤) IsApart (check_paths l w.2) (two_paths (w.0, w.1)) (any (two_paths (w.0, w.1))) (λ p _.
+    all_then (λ a. ⊤) IsApart (check_mapped l p) (other_path p.0 p.1 w.2) (any (other_path p.0 p.1 w.2)) (λ debug _.
+    all_map (λ a. ⊤) IsApart (λ maps. Check p.0 p.1 debug maps) (maps_of l) (any (maps_of l)) (λ maps _. tt))))) tt
+
+gather_apart : (l : CommandLine) → All IsApart (gather_of l)
+unfolding gather_of
+gather_apart l =
+    all_if IsApart (has_dest_alone l) (option_and_then (gather_named l) (two_of l.paths)) None
+    (all_then (λ a. ⊤) IsApart (gather_named l) (two_of l.paths) (any (two_of l.paths)) (λ w _.
+    all_then (λ a. ⊤) IsApart (gather_paths l) (two_paths w) (any (two_paths w)) (λ p _.
+    all_if IsApart (are_apart p) (option_and_then (gather_into l p) (target_of l.dest_dir)) None
+    (all_then (λ a. ⊤) IsApart (gather_into l p) (target_of l.dest_dir) (any (target_of l.dest_dir)) (λ dest _.
+    all_map (λ a. ⊤) IsApart (λ jobs. Gather p.0 p.1 dest jobs) (number_or 1 64 1 l.jobs) (any (number_or 1 64 1 l.jobs)) (λ jobs _. tt))) tt))) tt
+
 exercise_apart : (l : CommandLine) → All IsApart (exercise_of l)
 unfolding exercise_of
 exercise_apart l =
@@ -154,7 +175,9 @@ named_apart name l =
     (all_if IsApart (same_text name (codes "run")) (run_of l) _ (run_apart l)
     (all_if IsApart (same_text name (codes "show")) (show_of l) _ (show_apart l)
     (all_if IsApart (same_text name (codes "unstrip")) (unstrip_of l) _ (unstrip_apart l)
-    (all_if IsApart (same_text name (codes "exercise")) (exercise_of l) None (exercise_apart l) tt)))))
+    (all_if IsApart (same_text name (codes "check")) (check_of l) _ (check_apart l)
+    (all_if IsApart (same_text name (codes "gather")) (gather_of l) _ (gather_apart l)
+    (all_if IsApart (same_text name (codes "exercise")) (exercise_of l) None (exercise_apart l) tt)))))))
 
 command_apart : (words : List (List ℕ)) → All IsApart (command words)
 unfolding command

@@ -24,7 +24,7 @@ use Rattle.dbg_ends.specs.Ends.{status_of}
 use Rattle.dbg_ends.specs.Told.{Told, Ended}
 use Rattle.dbg_ends.specs.Told.{Told as told}
 use Rattle.dbg_words.specs.declared.command.Command.{Command}
-use Rattle.dbg_words.specs.declared.command.Command.TheVariants.{Edit, Split, Run, Show, Unstrip, Exercise}
+use Rattle.dbg_words.specs.declared.command.Command.TheVariants.{Edit, Split, Run, Show, Unstrip, Check, Gather, Exercise}
 use Rattle.job_types.specs.Settings.{Settings, most_file}
 use Rattle.dbg_run.specs.Built.{built}
 use Rattle.dbg_run.specs.Edits.{EditEnds, EditDue, ListedEnds, ListedDue}
@@ -50,6 +50,8 @@ cuts_memory (Some (Split input stripped debug)) t n is = cut.no_memory is
 cuts_memory (Some (Run root o jobs)) t n is = inl (run_cut.no_memory is)
 cuts_memory (Some (Show file debug)) t n is = inl (cut.no_memory is)
 cuts_memory (Some (Unstrip stripped debug output)) t n is = cut.no_memory is
+cuts_memory (Some (Check input stripped debug maps)) t n is = cut.no_memory is
+cuts_memory (Some (Gather root from dest jobs)) t n is = cut.no_memory is
 cuts_memory (Some (Exercise seed units)) t n is = cut.no_memory is
 
 -- of two numbers, one where P holds and one elsewhere, only one can be
@@ -320,6 +322,8 @@ kept_memory (Some (Split input stripped debug)) kept = refusal_memory kept
 kept_memory (Some (Run root o jobs)) kept = unplanned_memory kept
 kept_memory (Some (Show file debug)) kept = refusal_memory kept
 kept_memory (Some (Unstrip stripped debug output)) kept = refusal_memory kept
+kept_memory (Some (Check input stripped debug maps)) kept = refusal_memory kept
+kept_memory (Some (Gather root from dest jobs)) kept = refusal_memory kept
 kept_memory (Some (Exercise seed units)) kept = refusal_memory kept
 
 pub kept_told : (c : Option Command) (answer status : ℕ) → (answer ≡ status) ⊎ (answer ≡ 13) → KeptBy c answer → KeptBy c status

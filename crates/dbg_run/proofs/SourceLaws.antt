@@ -36,9 +36,9 @@ names_done names i out le e =
 
 pub ruleset text_rules = (name_more, names_done)
 
-pub listed : (m : PathMap) (b c text : List ℕ) (names : List (List ℕ)) → c ≡ b → AreSources (file_data c) m.base names → text ≡ laid_texts names → IsListText m b text
+pub listed : (m : PathMap) (b c text : List ℕ) (names : List (List ℕ)) → c ≡ b → AreSources (file_data c) m names → text ≡ laid_texts names → IsListText m b text
 listed m b c text names same are is =
-    record { names = names; sources = subst (λ (x : List ℕ). AreSources (file_data x) m.base names) same are; is = is }
+    record { names = names; sources = subst (λ (x : List ℕ). AreSources (file_data x) m names) same are; is = is }
 
 -- line tables of the same bytes
 pub tables_same : (b c : List ℕ) (ts : List LineTable) → c ≡ b → TablesFound (view_of b) ts → TablesFound (view_of c) ts

@@ -1,12 +1,12 @@
 -- The commands that are carried out. Words that are another command end as those that are none.
-use Rattle.std.specs.Prelude.{Bool, true, false, if◌then◌else◌, ℕ, List, Option, Some, None, option_and_then}
+use Rattle.std.specs.Prelude.{Bool, true, false, not, if◌then◌else◌, ℕ, List, Option, Some, None, option_and_then}
 use Rattle.dbg_words.specs.declared.command.Command.{Command}
 use Rattle.dbg_words.specs.declared.command.Command.TheVariants.{Edit, Split, Run, Show, Unstrip}
 use Rattle.dbg_words.specs.Words.{command}
 
--- what is carried out: an edit, a split, a run over a build root, a showing, and a joining
+-- what is carried out: an edit, but for one that moves paths which would grow; a split, a run over a build root, a showing, and a joining
 abbrev pub is_built : Command → Bool
-is_built (Edit input output o list) = true
+is_built (Edit input output o list) = not o.grow_inline
 is_built (Split input stripped debug) = true
 is_built (Run root o jobs) = true
 is_built (Show file debug) = true

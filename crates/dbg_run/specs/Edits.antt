@@ -78,11 +78,11 @@ pub record EditUnopposed (s : Settings) (what there : Found) : Type 0 where
 
 -- ### With a list of sources
 
--- the text of a list: the names of the sources below the map's base that the debug data of a file name, before they are mapped,
+-- the text of a list: the names of the sources below the map's bases that the debug data of a file name, before they are mapped,
 -- each ended by a NUL
 pub record IsListText (m : PathMap) (b text : List ℕ) : Type 0 where
   pub names : List (List ℕ)
-  pub sources : AreSources (file_data b) m.base names
+  pub sources : AreSources (file_data b) m names
   pub is : text ≡ laid_texts names
 
 -- the mode of a list: its owner may write it, and all may read it

@@ -5,14 +5,23 @@ ghost use Rattle.dbg_run.specs.Built.{built, is_built};
 
 use dbg_words::Command;
 use dw_base::NoMemory;
+use job_types::Options;
 use std::alloc::Global;
 
-/// Whether the command is carried out: an edit, a split, a run over a build root, a showing, or a joining.
+/// Whether paths that would grow are to be moved.
+fn moves_paths(options: &Options) -> bool
+    ensures value { result ≡ options.now.grow_inline }
+{
+    options.grow_inline
+}
+
+/// Whether the command is carried out: an edit that moves no path which would grow, a split, a run over a build root, a
+/// showing, or a joining.
 fn is_built(command: &Command) -> bool
     ensures value { result ≡ is_built command.now }
 {
     match command {
-        Command::Edit { .. } => true,
+        Command::Edit { options, .. } => !moves_paths(options),
         Command::Split { .. } => true,
         Command::Run { .. } => true,
         Command::Show { .. } => true,

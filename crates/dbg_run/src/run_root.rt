@@ -1,9 +1,9 @@
 //! The command `run`: the files of a build root are edited, and split where they are programs or shared objects.
-ghost use Rattle.std.specs.Prelude.{◌≡◌, ◌≢◌, ◌⊎◌, ◌<◌, ◌≤◌, false};
+ghost use Rattle.std.specs.Prelude.{◌≡◌, ◌≢◌, ◌⊎◌, ◌<◌, ◌≤◌};
 ghost use Rattle.std.specs.Option.{ForSome};
-ghost use Rattle.dw_base.specs.Texts.{has_nul};
 ghost use Rattle.file_tree.specs.Causes.{Rose};
 ghost use Rattle.file_tree.specs.Seen.{now_of};
+ghost use Rattle.job_types.specs.Settings.{HasKey};
 ghost use Rattle.dbg_ends.specs.Due.{IsUnplanned};
 ghost use Rattle.dbg_ends.specs.Ends.{status_of};
 ghost use Rattle.dbg_run.specs.Roots.{IsReported, OnlyBelow, ReportEnds, RootCut, RootDone, RootDue, RootEnds, RootRan, RootStarts, journal_end, plan_end, run_end};
@@ -68,7 +68,7 @@ fn root_answer<T: Tree>(
 ) -> Result<Blob, RunErr>
     requires some { 0 < jobs }
     requires most { jobs ≤ 64 }
-    requires plain { has_nul options.now.seed ≡ false }
+    requires key { HasKey options.now }
     ensures ran { RootRan root.now options.now jobs (T.seen tree.old) (T.seen tree.new) result }
 {
     let judge = FileJudge::new(options);
@@ -97,7 +97,7 @@ fn root_end<T: Tree, O: Sink>(
 ) -> End
     requires some { 0 < jobs }
     requires most { jobs ≤ 64 }
-    requires plain { has_nul options.now.seed ≡ false }
+    requires key { HasKey options.now }
     ensures ends { RootEnds root options.now (T.seen tree.old) (T.seen tree.new) (O.heard out.old) (O.heard out.new) result }
     ensures starts { RootStarts root options.now jobs (T.seen tree.old) (T.seen tree.new) (O.heard out.old) (O.heard out.new) (status_of result) }
     ensures fault { status_of result ≡ 6 → Rose (T.seen tree.old).faults (T.seen tree.new).faults }
@@ -121,7 +121,7 @@ pub fn run_over<T: Tree, O: Sink>(
 ) -> End
     requires some { 0 < jobs }
     requires most { jobs ≤ 64 }
-    requires plain { has_nul options.now.seed ≡ false }
+    requires key { HasKey options.now }
     ensures ends { RootEnds root options.now (T.seen tree.old) (T.seen tree.new) (O.heard out.old) (O.heard out.new) result }
     ensures starts { RootStarts root options.now jobs (T.seen tree.old) (T.seen tree.new) (O.heard out.old) (O.heard out.new) (status_of result) }
     ensures done { 0 ≡ status_of result → RootDone root options.now (T.seen tree.old) (T.seen tree.new) (O.heard out.old) (O.heard out.new) }

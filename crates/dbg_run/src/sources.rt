@@ -36,7 +36,7 @@ fn names_text(alloc: Global, names: &[Vec<u8>]) -> Result<Vec<u8>, AllocError>
     Ok(text)
 }
 
-/// The list of the sources of a file that is edited, by its line tables: their names below the map's base, each ended
+/// The list of the sources of a file that is edited, by its line tables: their names below the map's bases, each ended
 /// by a NUL. Want of memory alone is in the way.
 #[tactic(auto, using(crate::proofs::SourceLaws::list_rules))]
 pub(crate) fn list_text(

@@ -58,7 +58,7 @@ pub run_over-requires : goal.run_over-requires
 run_over-requires g c =
     let fit = run-words-fit (texts c.args.words.now) c.in-Run.root c.in-Run.options c.in-Run.jobs
     (sym c.in-Ok.ensures.command ∙ c.in-Some.is ∙ ap (λ (k : Command). Some k) c.in-Run.is) in
-    record { some = fit.0; most = fit.1; plain = fit.2 }
+    record { some = fit.0; most = fit.1; key = fit.2 }
 
 pub returns-in-Run-clause-ends : goal.returns-in-Run-clause-ends
 returns-in-Run-clause-ends g c =

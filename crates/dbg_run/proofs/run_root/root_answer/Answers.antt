@@ -15,13 +15,13 @@ returns g c =
         done = ran.done;
         steps = ran.steps;
         settles = ran.settles;
-        mild = ran.mild c.requires.plain;
+        mild = ran.mild c.requires.key;
         refused = ran.refused;
         ends = ran.ends;
         fault = ran.fault;
         due = ran.due;
         exact = ran.exact;
-        completes = ran.completes c.requires.plain;
+        completes = ran.completes c.requires.key;
         below = only_below c.args.root.now (g.T.Tree.seen c.args.tree.now) (g.T.Tree.seen c.run_root.new.tree) ran.tells ran.below;
         tells = ran.tells;
       });
