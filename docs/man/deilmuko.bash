@@ -8,13 +8,14 @@ _deilmuko() {
     case $before in
     --base-dir) mapfile -t COMPREPLY < <(compgen -d -- "$word"); return ;;
     --dest-dir) mapfile -t COMPREPLY < <(compgen -d -- "$word"); return ;;
+    --more-maps) return ;;
     --seed) return ;;
     --list-file) mapfile -t COMPREPLY < <(compgen -f -- "$word"); return ;;
     --max-file) return ;;
     --jobs) return ;;
     esac
     case ${COMP_WORDS[1]} in
-    edit) options='--base-dir --dest-dir --build-id --seed --list-file --max-file' ;;
+    edit) options='--base-dir --dest-dir --more-maps --build-id --seed --list-file --max-file' ;;
     run) options='--base-dir --dest-dir --build-id --seed --jobs --skip-refused --max-file' ;;
     esac
     case $word in
