@@ -15,7 +15,7 @@ same-turned : (m n : ℕ) → (m == n) ≡ (n == m)
 same-turned m n = grind arith
 
 -- how far the first abbreviation of a code stands behind the front
-abbrev or_len : List Abbreviation → ℕ → ℕ
+abbrev pub or_len : List Abbreviation → ℕ → ℕ
 or_len list code = position_or_len (λ a. code == a.code) list
 
 -- the same place among the codes
@@ -71,18 +71,18 @@ get_pushed (x ∷ xs) a zero b e = inl (record { there = e; inside = omega arith
 get_pushed (x ∷ xs) a (suc i) b e = further x xs a i b (get_pushed xs a i b e)
 
 -- from a place to the index, and back
-index-from : (list : List Abbreviation) (code i : ℕ) → or_len list code ≡ i → i < length list → index_of_code list code ≡ Some i
+pub index-from : (list : List Abbreviation) (code i : ℕ) → or_len list code ≡ i → i < length list → index_of_code list code ≡ Some i
 index-from list code i e lt = rw (e, lt-ltb i (length list) lt) refl
 
 some-cases : (test : Bool) (n i : ℕ) → cond test (Some n) None ≡ Some i → (test ≡ true) × (n ≡ i)
 some-cases true n i e = (refl, cc)
 some-cases false n i e = cc
 
-none-cases : (test : Bool) (n : ℕ) → cond test (Some n) None ≡ None → test ≡ false
+pub none-cases : (test : Bool) (n : ℕ) → cond test (Some n) None ≡ None → test ≡ false
 none-cases true n e = cc
 none-cases false n e = refl
 
-or_len-from : (list : List Abbreviation) (code i : ℕ) → index_of_code list code ≡ Some i → or_len list code ≡ i
+pub or_len-from : (list : List Abbreviation) (code i : ℕ) → index_of_code list code ≡ Some i → or_len list code ≡ i
 or_len-from list code i e = (some-cases (nat_lt (or_len list code) (length list)) (or_len list code) i e).1
 
 -- an empty list has its codes

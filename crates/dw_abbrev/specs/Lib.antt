@@ -1,2 +1,6 @@
 pub mod Spelled
 pub mod Coded
+pub mod QuietSpecs
+pub mod Rests
+pub mod Fronts
+pub mod Kept

@@ -1,12 +1,15 @@
 //! The attributes of an abbreviation, which contracts see as a list (DWARF 5, 7.5.3).
 //!
-//! The size of an entry's values is found once for its abbreviation, where all forms say it.
+//! The size of an entry's values is found once for its abbreviation, where all forms say it; so is how many attributes stand up to the
+//! last that may say something of texts, line tables or macros.
 
-ghost use Rattle.std.specs.Prelude.{◌≡◌, ◌^◌, ◌≤◌, ℕ, List, Some, length, IfNone, IfSome, IsTrue};
+ghost use Rattle.std.specs.Prelude.{◌≡◌, ◌^◌, ◌≤◌, ℕ, List, Some, drop, length, IfNone, IfSome, IsTrue};
 ghost use Rattle.dw_base.specs.UnitHeaders.{is_address_size};
 ghost use Rattle.dw_base.specs.declared.values.Spec.{Spec as SpecOf};
+ghost use Rattle.dw_abbrev.specs.QuietSpecs.{AllQuiet, HasFront};
 ghost use Rattle.dw_forms.specs.Fixed.{HasNoSize, IsSizeOf, values_size};
 
+use crate::quiet::quiet_from;
 use dw_base::{Params, Spec};
 use dw_forms::FixedSize;
 use std::marker::Model;
@@ -17,6 +20,8 @@ pub struct Specs {
     specs: Vec<Spec>,
     /// How many bytes their values take together, where their forms say it.
     size: Option<FixedSize>,
+    /// How many there are up to the last that isn't quiet.
+    front: usize,
 }
 
 impl Model for Specs {
@@ -24,7 +29,7 @@ impl Model for Specs {
 
     ghost view = { λ s. s.specs.items };
 
-    ghost invariant = { λ s. IfSome s.size (IsSizeOf s.specs.items) × IfNone s.size (HasNoSize s.specs.items) };
+    ghost invariant = { λ s. IfSome s.size (IsSizeOf s.specs.items) × IfNone s.size (HasNoSize s.specs.items) × (s.front ≤ length s.specs.items) × AllQuiet (drop s.front s.specs.items) };
 }
 
 impl Specs {
@@ -33,7 +38,8 @@ impl Specs {
         ensures value { result ≡ specs.items }
     {
         let size = FixedSize::of(&specs);
-        Specs { specs, size }
+        let front = quiet_from(&specs);
+        Specs { specs, size, front }
     }
 
     /// The attributes, as a vector.
@@ -49,6 +55,15 @@ impl Specs {
         ensures value { result.now ≡ self.now }
     {
         self.specs.as_slice()
+    }
+
+    /// The attributes up to the last that may say something of texts, line tables or macros in other entries than a unit's first.
+    #[tactic(auto, using(crate::proofs::QuietSpecLaws::front_rules))]
+    pub fn front(&self) -> &[Spec]
+        ensures front { HasFront self.now result.now }
+    {
+        let (front, _) = self.specs.split_at(self.front);
+        front
     }
 
     /// How many bytes their values take in a unit of these parameters. `None` exactly where a form doesn't

@@ -4,6 +4,7 @@
 //! abbreviations in order; it is refused only where a number passes the section's end, a flag for
 //! children is neither 0 nor 1, a pair has one zero, or a code stands twice. What is found
 //! for a code is its abbreviation: at its number where codes count from 1, else by its hash.
+//! Tables that are kept share what they have in common at their ends.
 //! It does not promise: anything of tags, names and forms, any number is taken; how long a search is.
 //! Read first: `dw_base/specs/AbbreviationTables.antt`, then `dw_base/specs/AbbreviationFails.antt`.
 //!
@@ -22,6 +23,12 @@
 
 mod abbrev;
 mod attributes;
+mod front;
+mod keeping;
+mod opened;
+mod quiet;
+mod rest;
+mod run;
 mod spelled;
 mod stopped;
 mod table;
@@ -29,4 +36,6 @@ mod table;
 pub use abbrev::Abbrev;
 pub use attributes::Specs;
 pub use dw_base::{Fault, Kind, NoMemory, Refusal, Spec};
+pub use keeping::{KeptTable, tables_at};
+pub use quiet::is_text_form;
 pub use table::AbbrevTable;

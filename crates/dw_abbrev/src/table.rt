@@ -1,100 +1,64 @@
 //! A table of abbreviations (DWARF 5, 7.5.3), and the abbreviation of a code.
+//!
+//! A table has its abbreviations for itself, but where many overlap: then those at its end may be the rest of others that were read once.
 
-ghost use Rattle.std.specs.Prelude.{◌≡◌, ◌≢◌, ◌+◌, ◌<◌, ◌≤◌, ◌++◌, ◌∷◌, [], List, Some, length, map, option_copied, IfSome, IfOk, IfErr, OnOk};
-ghost use Rattle.dw_base.specs.AbbreviationTables.{Abbreviation, abbreviation_of, Declares, IsTable};
-ghost use Rattle.dw_base.specs.AbbreviationFails.{AbbreviationFails, DeclarationFails};
-ghost use Rattle.dw_base.specs.Lebs.{uleb_at};
+ghost use Rattle.std.specs.Prelude.{◌≡◌, ◌^◌, ◌++◌, ◌<◌, List, get_or, length, option_copied, IfSome, IfOk, IfErr, OnOk};
+ghost use Rattle.dw_base.specs.AbbreviationTables.{Abbreviation, abbreviation_of, IsTable};
+ghost use Rattle.dw_base.specs.AbbreviationFails.{AbbreviationFails};
 ghost use Rattle.dw_base.specs.Refusals.{Blames};
 ghost use Rattle.dw_base.specs.declared.fault.Refusal.{Refusal as RefusalOf};
-ghost use Rattle.dw_abbrev.specs.Coded.{index_of_code, IsCoded};
-ghost use Rattle.dw_abbrev.specs.Spelled.{DeclaresOne, StopsFor, TableFails};
+ghost use Rattle.dw_abbrev.specs.Coded.{index_of_code};
+ghost use Rattle.dw_abbrev.specs.Rests.{or_empty};
+ghost use Rattle.dw_abbrev.specs.Spelled.{StopsFor, TableFails};
 
 use crate::abbrev::Abbrev;
-use crate::spelled::abbrev_at;
+use crate::rest::Rest;
+use crate::run::{Run, run_at};
 use crate::stopped::Stopped;
-use dw_base::{Fault, Kind, Refusal, Spec, uleb_at};
-use indexmap::IndexSet;
+use dw_base::{Fault, Kind, Refusal};
 use std::alloc::Global;
 use std::marker::Model;
 
 /// A table of abbreviations, in the order in which they stand.
 #[derive(Drop)]
 pub struct AbbrevTable {
-    /// The abbreviations.
-    list: Vec<Abbrev>,
-    /// Their codes, in the same order.
-    codes: IndexSet<u64>,
+    /// Those that it doesn't share.
+    own: Run,
+    /// Those behind, which it shares with another table.
+    rest: Option<Rest>,
 }
 
 impl Model for AbbrevTable {
     ghost Value = { List Abbreviation };
 
-    ghost view = { λ t. t.list.items };
-
-    ghost invariant = { λ t. IsCoded t.codes.keys t.list.items };
+    ghost view = { λ t. t.own ++ or_empty t.rest };
 }
 
-/// Appends the abbreviation whose code was read at a place, and gives the place behind it. Stopped only
-/// where none stands there, its code is one of the list, or for want of memory. Attributes are read into `scratch`.
-#[tactic(auto, using(crate::proofs::Rows::declare_rows, crate::proofs::CodedLaws::coded_laws))]
-fn declare(
-    alloc: Global,
-    bytes: &[u8],
-    at: u64,
-    code: u64,
-    size: u64,
-    list: &mut Vec<Abbrev>,
-    codes: &mut IndexSet<u64>,
-    scratch: &mut Vec<Spec>,
-) -> Result<u64, Stopped>
-    requires code { uleb_at bytes.now at ≡ Some (code, size) }
-    requires inside { at + size ≤ length bytes.now }
-    requires declares { code ≢ 0 }
-    requires coded { IsCoded codes.old.keys list.old.items }
-    ensures found { IfOk result (DeclaresOne bytes.now at list.old.items list.new.items) }
-    ensures coded { OnOk result (IsCoded codes.new.keys list.new.items) }
-    ensures further { IfOk result (λ next. at < next) }
-    ensures within { IfOk result (λ next. next ≤ length bytes.now) }
-    ensures stopped { IfErr result (StopsFor (DeclarationFails bytes.now list.old.items at)) }
+/// The table of these abbreviations.
+pub(crate) fn whole(own: Run) -> AbbrevTable
+    ensures value { result ≡ own }
 {
-    let (_, added) = codes.insert_full(code)?;
-    if !added {
-        return Err(Stopped::Unspelled);
-    }
-    let (abbrev, next) = abbrev_at(alloc, bytes, at, code, size, scratch)?;
-    list.push(abbrev)?;
-    Ok(next)
+    AbbrevTable { own, rest: None }
 }
 
-/// The table at a place. Stopped only where something else than an abbreviation or the end stands behind
-/// some of them, or for want of memory.
-#[tactic(auto, using(crate::proofs::Rows::table_rows, crate::proofs::CodedLaws::coded_start))]
+/// The table of these abbreviations, and of those of a rest behind them.
+pub(crate) fn joined(own: Run, rest: Rest) -> AbbrevTable
+    ensures value { result ≡ own ++ rest }
+{
+    AbbrevTable {
+        own,
+        rest: Some(rest),
+    }
+}
+
+/// The table at a place. Stopped only where something else than an abbreviation or the end stands behind some of them, or for want
+/// of memory.
 fn table_at(alloc: Global, bytes: &[u8], at: u64) -> Result<AbbrevTable, Stopped>
     ensures table { IfOk result (IsTable bytes.now at) }
     ensures stopped { IfErr result (StopsFor (TableFails bytes.now at)) }
 {
-    let mut list = Vec::new(alloc);
-    let mut codes = IndexSet::new(alloc);
-    let mut scratch = Vec::new(alloc);
-    let mut place = at;
-    'table: loop {
-        let Some((code, size)) = uleb_at(bytes, place) else {
-            return Err(Stopped::Unspelled);
-        };
-        if code == 0 {
-            return Ok(AbbrevTable { list, codes });
-        }
-        place = declare(
-            alloc,
-            bytes,
-            place,
-            code,
-            size,
-            &mut list,
-            &mut codes,
-            &mut scratch,
-        )?;
-    }
+    let run = run_at(alloc, bytes, at)?;
+    Ok(whole(run))
 }
 
 /// The fault of the table at a place.
@@ -107,6 +71,52 @@ fn fault_of(bytes: &[u8], section: u32, at: u64, stopped: Stopped) -> Fault
         Stopped::Unspelled => Fault::Refused(Refusal::at(Kind::Abbreviation, section, at)),
         Stopped::NoMemory => Fault::NoMemory,
     }
+}
+
+/// Where the abbreviation of a code stands in a rest, if there is one.
+fn rest_index(rest: &Option<Rest>, code: u64) -> Option<usize>
+    ensures value { result ≡ index_of_code (or_empty rest.now) code }
+    ensures few { IfSome result (λ i. i < 2 ^ 63) }
+{
+    match rest {
+        Some(rest) => rest.index_of(code),
+        None => None,
+    }
+}
+
+/// How many abbreviations a rest has, if there is one.
+fn rest_len(rest: &Option<Rest>) -> usize
+    ensures value { result ≡ length (or_empty rest.now) }
+    ensures few { result < 2 ^ 63 }
+{
+    match rest {
+        Some(rest) => rest.len(),
+        None => 0,
+    }
+}
+
+/// The abbreviation of a number in a rest.
+#[tactic(auto, using(crate::proofs::JoinLaws::rest_at_rules))]
+fn rest_at(rest: &Option<Rest>, index: usize) -> &Abbrev
+    requires inside { index < length (or_empty rest.now) }
+    ensures value { result.now ≡ get_or (or_empty rest.now) index result.now }
+{
+    match rest {
+        Some(rest) => rest.at(index),
+        None => unreachable!(),
+    }
+}
+
+/// The abbreviation of a number among these and those of a rest behind them.
+#[tactic(auto, using(crate::proofs::JoinLaws::at_rules))]
+fn joined_at<'t>(own: &'t [Abbrev], rest: &'t Option<Rest>, index: usize) -> &'t Abbrev
+    requires inside { index < length (own.now ++ or_empty rest.now) }
+    ensures value { result.now ≡ get_or (own.now ++ or_empty rest.now) index result.now }
+{
+    if index < own.len() {
+        return &own[index];
+    }
+    rest_at(rest, index - own.len())
 }
 
 impl AbbrevTable {
@@ -124,29 +134,35 @@ impl AbbrevTable {
         }
     }
 
-    /// The abbreviations, in the order in which they stand.
-    pub fn abbrevs(&self) -> &[Abbrev]
-        ensures value { result.now ≡ self.now }
+    /// How many abbreviations there are.
+    pub fn len(&self) -> usize
+        ensures value { result ≡ length self.now }
     {
-        &self.list
+        self.own.as_slice().len() + rest_len(&self.rest)
+    }
+
+    /// The abbreviation of a number, from 0 on, in the order in which they stand.
+    pub fn abbrev(&self, index: usize) -> &Abbrev
+        requires inside { index < length self.now }
+        ensures value { result.now ≡ get_or self.now index result.now }
+    {
+        joined_at(self.own.as_slice(), &self.rest, index)
     }
 
     /// Where the abbreviation of a code stands among them, from 0 on. `None` exactly where the table
-    /// hasn't the code. The first look goes to the place that it has where codes count from 1.
-    #[tactic(auto, using(crate::proofs::CodedLaws::index_laws))]
+    /// hasn't the code.
+    #[tactic(auto, using(crate::proofs::JoinLaws::index_rules))]
     pub fn index_of(&self, code: u64) -> Option<usize>
         ensures value { result ≡ index_of_code self.now code }
         ensures within { IfSome result (λ i. i < length self.now) }
     {
-        if code != 0 {
-            let index = code as usize - 1;
-            if let Some(abbrev) = self.list.get(index) {
-                if abbrev.code == code {
-                    return Some(index);
-                }
-            }
+        if let Some(index) = self.own.index_of(code) {
+            return Some(index);
         }
-        self.codes.get_index_of(&code)
+        let Some(index) = rest_index(&self.rest, code) else {
+            return None;
+        };
+        Some(self.own.as_slice().len() + index)
     }
 
     /// The abbreviation of a code. `None` exactly where the table hasn't the code.
@@ -155,7 +171,7 @@ impl AbbrevTable {
         ensures value { option_copied result ≡ abbreviation_of self.now code }
     {
         match self.index_of(code) {
-            Some(index) => Some(&self.list[index]),
+            Some(index) => Some(self.abbrev(index)),
             None => None,
         }
     }

@@ -1,7 +1,7 @@
 -- The code stands already, or it is one more.
 use Rattle.dw_abbrev.proofs.CodedLaws.{added-false, coded_pushed}
 use Rattle.dw_abbrev.proofs.Rows.{twice_here}
-use Rattle.dw_abbrev.proofs.table.declare.Goals as goal
+use Rattle.dw_abbrev.proofs.run.declare.Goals as goal
 
 pub returns-then-not-added-clause-stopped : goal.returns-then-not-added-clause-stopped
 returns-then-not-added-clause-stopped c =

@@ -1,7 +1,7 @@
 use Rattle.std.proofs.Common.{◌-◌, length}
 use Rattle.dw_base.specs.AbbreviationTables.{Declares}
 use Rattle.dw_abbrev.specs.Coded.{IsCoded}
-use Rattle.dw_abbrev.proofs.table.table_at.Given as goal
+use Rattle.dw_abbrev.proofs.run.run_at.Given as goal
 
 -- the abbreviations so far stand from the first place up to this one
 abbrev pub invariant-table : goal.invariant-table

@@ -1,7 +1,7 @@
 -- What stands behind the abbreviations so far refuses the table.
 use Rattle.std.proofs.lemmas.Result.{err_from_is_err_and}
 use Rattle.dw_abbrev.proofs.Rows.{table_stops}
-use Rattle.dw_abbrev.proofs.table.table_at.Goals as goal
+use Rattle.dw_abbrev.proofs.run.run_at.Goals as goal
 
 pub returns-in_err-place-clause-stopped : goal.returns-in_err-place-clause-stopped
 returns-in_err-place-clause-stopped c =
