@@ -21,6 +21,7 @@ use Rattle.dw_entries.specs.HeaderRows.{HeadersRefuse}
 use Rattle.dw_entries.specs.SectionOrder.{AreSections}
 use Rattle.dw_entries.specs.ViewUnits.{IsUnitSection, unit_base, unit_section_at}
 use Rattle.dw_entries.proofs.SectionListLaws.{sections-next, sections-whole}
+use Rattle.dw_entries.proofs.SharedLaws.{popped-left, popped-table}
 use Rattle.dw_entries.proofs.UnitSectionLaws.{is-of-view}
 use Rattle.dw_find.specs.ReadData.{DataRefuses, units}
 use Rattle.dw_find.specs.UnitTexts.{UnitsRefuse}
@@ -100,6 +101,8 @@ known-more d before now old new at number t k n e is more = record { each = λ o
         once : (x y : ℕ) → Some x ≡ Some y → x ≡ y
         once x y e = cc
     by_offset o m false test f = table-kept d old new o m (grows-one old new t e) (k.each o m f)
+
+pub ruleset add_laws = (popped-table, popped-left, grows-none, grows-twice)
 
 pub ruleset number_laws = (known-there, table-new, known-more, grows-none, grows-one)
 
@@ -182,7 +185,7 @@ table-own d tables at own number same t = subst (λ (n : ℕ). HasTableAt d tabl
 
 pub ruleset unit_laws = (other-row, table-own)
 
-pub ruleset section_laws = (units-row)
+pub ruleset section_laws = (units-row, grows-twice)
 
 -- all sections
 pub sections-start : (d : DebugData) (tables : List (List Abbreviation)) → ListsAll d tables [] []

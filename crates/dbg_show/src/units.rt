@@ -4,7 +4,9 @@
 
 ghost use Rattle.std.specs.Prelude.{◌≡◌, ◌++◌, ◌∷◌, [], length, nat_eq, IfErr, IfOk, OnOk};
 ghost use Rattle.std.specs.HashMap.{get};
+ghost use Rattle.dw_abbrev.specs.Kept.{AllKept};
 ghost use Rattle.dw_base.specs.AbbreviationFails.{AbbreviationFails};
+ghost use Rattle.dw_base.specs.AbbreviationTables.{IsTable};
 ghost use Rattle.dw_base.specs.EntryValues.{HasUnit};
 ghost use Rattle.dw_base.specs.Refusals.{Blames};
 ghost use Rattle.dw_base.specs.UnitHeaders.{AreUnits};
@@ -15,9 +17,9 @@ ghost use Rattle.dbg_show.specs.UnitLists.{Adds, AddsSection, AllShort, AreKnown
 ghost use Rattle.dw_base.specs.declared.debug_sections.DebugSection.TheVariants.{Info};
 
 use crate::listed_unit::ListedUnit;
-use dw_abbrev::AbbrevTable;
-use dw_base::{Fault, UnitHeader};
-use dw_entries::{abbreviations_at, table_offset, unit_headers, unit_sections};
+use dw_abbrev::{AbbrevTable, KeptTable};
+use dw_base::{Fault, NoMemory, UnitHeader};
+use dw_entries::{abbreviations_at, table_offset, unit_headers, unit_sections, unit_tables};
 use dw_view::View;
 use std::alloc::{AllocError, Global};
 use std::collections::HashMap;
@@ -69,6 +71,63 @@ fn table_number(
     let number = push_table(tables, table)?;
     keep_number(numbers, at, number)?;
     Ok(number)
+}
+
+/// Puts a table behind others, and keeps its number by its offset.
+#[tactic(auto, using(crate::proofs::UnitListLaws::number_laws))]
+fn add_table(
+    view: &View,
+    at: u64,
+    table: AbbrevTable,
+    numbers: &mut HashMap<u64, u64>,
+    tables: &mut Vec<AbbrevTable>,
+) -> Result<(), AllocError>
+    requires table { IsTable (debug_data view.now).base.abbrevs.bytes at table }
+    requires known { AreKnown (debug_data view.now) (λ at. get nat_eq numbers.old at) tables.old.items }
+    ensures known { OnOk result (AreKnown (debug_data view.now) (λ at. get nat_eq numbers.new at) tables.new.items) }
+    ensures grows { OnOk result (Grows tables.old.items tables.new.items) }
+{
+    let number = push_table(tables, table)?;
+    keep_number(numbers, at, number)?;
+    Ok(())
+}
+
+/// Puts tables behind others, and keeps their numbers.
+#[tactic(auto, using(crate::proofs::UnitListLaws::add_laws))]
+fn add_tables(
+    view: &View,
+    mut kept: Vec<KeptTable>,
+    numbers: &mut HashMap<u64, u64>,
+    tables: &mut Vec<AbbrevTable>,
+) -> Result<(), AllocError>
+    requires kept { AllKept (debug_data view.now).base.abbrevs.bytes kept.items }
+    requires known { AreKnown (debug_data view.now) (λ at. get nat_eq numbers.old at) tables.old.items }
+    ensures known { OnOk result (AreKnown (debug_data view.now) (λ at. get nat_eq numbers.new at) tables.new.items) }
+    ensures grows { OnOk result (Grows tables.old.items tables.new.items) }
+{
+    while let Some(one) = kept.pop() {
+        let KeptTable { at, table } = one;
+        add_table(view, at, table, numbers, tables)?;
+    }
+    Ok(())
+}
+
+/// Reads the tables of units of which none has a number yet, as far as they can be read, so that those that end alike share it.
+#[tactic(auto, using(crate::proofs::UnitListLaws::push_laws))]
+fn share_tables(
+    alloc: Global,
+    view: &View,
+    headers: &[UnitHeader],
+    numbers: &mut HashMap<u64, u64>,
+    tables: &mut Vec<AbbrevTable>,
+) -> Result<(), NoMemory>
+    requires known { AreKnown (debug_data view.now) (λ at. get nat_eq numbers.old at) tables.old.items }
+    ensures known { OnOk result (AreKnown (debug_data view.now) (λ at. get nat_eq numbers.new at) tables.new.items) }
+    ensures grows { OnOk result (Grows tables.old.items tables.new.items) }
+{
+    let kept = unit_tables(alloc, view, headers, numbers)?;
+    add_tables(view, kept, numbers, tables)?;
+    Ok(())
 }
 
 /// The number of the table of abbreviations of a unit.
@@ -164,6 +223,7 @@ fn push_section(
     ensures refused { IfErr result (Blames (DataRefuses view.now)) }
 {
     let headers = unit_headers(alloc, view, section)?;
+    share_tables(alloc, view, headers.as_slice(), numbers, tables)?;
     push_headers(
         alloc,
         view,
@@ -172,7 +232,8 @@ fn push_section(
         numbers,
         tables,
         units,
-    )
+    )?;
+    Ok(())
 }
 
 /// Reads all units of a view and their tables of abbreviations. Refused where one can't be read, at its place.

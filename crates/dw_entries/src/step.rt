@@ -98,7 +98,7 @@ fn listed(table: &AbbrevTable, code: u64) -> Option<(usize, &Abbrev)>
     let Some(index) = table.index_of(code) else {
         return None;
     };
-    Some((index, &table.abbrevs()[index]))
+    Some((index, table.abbrev(index)))
 }
 
 /// The entry whose code was read at a place.

@@ -1,10 +1,8 @@
 -- Laws of a pass over the units of a section, with the tables of abbreviations that they share.
 use Rattle.std.proofs.Common.{Bool, true, false, ◌≡◌, ℕ, suc, ◌+◌, ◌<◌, ◌≤◌, ◌==◌, if◌then◌else◌, List, [], ◌∷◌, ◌++◌, length, take, drop, get_or, Option, Some, Result, refl, sym, ap, ◌∙◌, subst, arith, append_assoc, append-nil, take-suc}
-use Rattle.std.proofs.lemmas.Bool.Decides.{nat_tests}
 use Rattle.std.proofs.lemmas.List.{drop_all}
 use Rattle.dw_base.specs.AbbreviationFails.{AbbreviationFails}
 use Rattle.dw_base.specs.AbbreviationTables.{Abbreviation, IsTable}
-use Rattle.dw_base.specs.DebugData.{DebugData}
 use Rattle.dw_base.specs.EntryScans.{EntryFails}
 use Rattle.dw_base.specs.EntryValues.{HasUnit, bytes_up_to}
 use Rattle.dw_base.specs.FileViews.{View, view_cells}
@@ -28,22 +26,6 @@ use Rattle.dw_fields.specs.UnitPasses.{AreTables, OnePassed, UnitsFrom, UnitsPas
 use Rattle.dw_fields.specs.declared.marks.Marks.{Marks}
 use Rattle.dw_fields.proofs.WalkLaws.{goes-more, goes-none}
 use Rattle.dw_fields.proofs.ListItemLaws.{front-at}
-
-pub one-shared : (d : DebugData) (old new : ℕ → Option (List Abbreviation)) (at : ℕ) (own : List Abbreviation) → AreTables d old → IsTable d.base.abbrevs.bytes at own
-    → ((o : ℕ) → new o ≡ (if o == at then Some own else old o)) → AreTables d new
-one-shared d old new at own are is more = record { each = λ (o : ℕ) (t : List Abbreviation) e. by_offset o t (o == at) refl (sym (more o) ∙ e) }
-  where
-    by_offset : (o : ℕ) (t : List Abbreviation) (b : Bool) → (o == at) ≡ b → (if b then Some own else old o) ≡ Some t → IsTable d.base.abbrevs.bytes o t
-    by_offset o t true test e =
-        let same : o ≡ at = grind (arith, nat_tests) in
-        let is_own : own ≡ t = once own t e in
-        subst (λ (n : ℕ). IsTable d.base.abbrevs.bytes n t) (sym same) (subst (IsTable d.base.abbrevs.bytes at) is_own is)
-      where
-        once : (x y : List Abbreviation) → Some x ≡ Some y → x ≡ y
-        once x y e = cc
-    by_offset o t false test e = are.each o t e
-
-pub ruleset table_rules = (one-shared)
 
 -- that of a unit
 pub unit-table : (v : View) (h : UnitHeader) (shared : ℕ → Option (List Abbreviation)) (at : ℕ) (own : List Abbreviation) → h.elsewhere ≡ false → at ≡ h.abbrevs

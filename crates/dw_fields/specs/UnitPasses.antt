@@ -1,6 +1,7 @@
 -- A pass over the fields of a unit's entries, while they are scanned.
-use Rattle.std.specs.Prelude.{false, ◌≡◌, ℕ, ⊤, List, [], ◌∷◌, length, take, drop, Option, Some, Result}
-use Rattle.dw_base.specs.AbbreviationTables.{Abbreviation, IsTable}
+use Rattle.std.specs.Prelude.{false, ◌≡◌, ℕ, ⊤, List, [], ◌∷◌, length, take, drop, Option, Result}
+use Rattle.dw_abbrev.specs.Kept.{AreKept}
+use Rattle.dw_base.specs.AbbreviationTables.{Abbreviation}
 use Rattle.dw_base.specs.DebugData.{DebugData}
 use Rattle.dw_base.specs.EntryScans.{AreEntries, IsEntry}
 use Rattle.dw_base.specs.EntryValues.{bytes_up_to}
@@ -77,8 +78,8 @@ pub record OnePassed (g : Ground) (base : UnitBase) (z : UnitSection) (h : UnitH
   pub passed : UnitPassed g base z h table p q
 
 -- the tables of abbreviations that are kept by their offsets are those of the debug data
-pub record AreTables (d : DebugData) (shared : ℕ → Option (List Abbreviation)) : Type 0 where
-  pub each : (at : ℕ) (table : List Abbreviation) → shared at ≡ Some table → IsTable d.base.abbrevs.bytes at table
+abbrev pub AreTables : DebugData → (ℕ → Option (List Abbreviation)) → Type 0
+AreTables d shared = AreKept d.base.abbrevs.bytes shared
 
 -- the first unit sections of these numbers have been looked at
 abbrev pub SectionsHold : DebugData → List ℕ → List UnitSection → Type 0

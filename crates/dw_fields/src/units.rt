@@ -2,9 +2,8 @@
 //!
 //! Read first: `specs/UnitPasses.antt`.
 
-ghost use Rattle.std.specs.Prelude.{◌≡◌, ◌≤◌, ◌^◌, true, is_some, nat_eq, length, IfErr, IfOk, OnOk};
+ghost use Rattle.std.specs.Prelude.{◌≡◌, ◌≤◌, ◌^◌, nat_eq, length, IfErr, IfOk, OnOk};
 ghost use Rattle.std.specs.HashMap.{get};
-ghost use Rattle.dw_base.specs.AbbreviationFails.{AbbreviationFails};
 ghost use Rattle.dw_base.specs.EntryScans.{EntryFails};
 ghost use Rattle.dw_base.specs.EntryValues.{HasUnit, bytes_up_to};
 ghost use Rattle.dw_base.specs.FileViews.{section_bytes, view_cells};
@@ -26,7 +25,7 @@ use crate::marks::{Marks, pass_end, pass_offset, pass_start};
 use crate::slots::has_relocations;
 use dw_abbrev::AbbrevTable;
 use dw_base::{Fault, Refusal, UnitHeader, Width};
-use dw_entries::{EntryScan, abbreviations_at, table_offset, unit_headers, unit_sections};
+use dw_entries::{EntryScan, read_table, shared_units, table_offset, unit_sections};
 use dw_view::View;
 use std::alloc::Global;
 use std::collections::HashMap;
@@ -103,27 +102,6 @@ fn pass_one(
     Ok(passed)
 }
 
-/// Reads the table of abbreviations at an offset, if it wasn't read before.
-#[tactic(auto, using(crate::proofs::UnitListLaws::table_rules))]
-fn read_table(
-    alloc: Global,
-    view: &View,
-    at: u64,
-    shared: &mut HashMap<u64, AbbrevTable>,
-) -> Result<(), Fault>
-    requires shared { AreTables (debug_data view.now) (λ at. get nat_eq shared.old at) }
-    ensures shared { OnOk result (AreTables (debug_data view.now) (λ at. get nat_eq shared.new at)) }
-    ensures there { OnOk result (is_some (get nat_eq shared.new at) ≡ true) }
-    ensures refused { IfErr result (Blames (AbbreviationFails (debug_data view.now).base.abbrevs.bytes (debug_data view.now).base.abbrevs.number at)) }
-{
-    if shared.contains_key(&at) {
-        return Ok(());
-    }
-    let table = abbreviations_at(alloc, view, at)?;
-    shared.insert(at, table)?;
-    Ok(())
-}
-
 /// A pass over the fields of all units of a unit section of the view.
 #[tactic(auto, using(crate::proofs::UnitListLaws::list_rules))]
 fn pass_units(
@@ -167,7 +145,7 @@ fn units_in(
     if !has_relocations(view, section) {
         return Ok(());
     }
-    let units = unit_headers(alloc, view, section)?;
+    let units = shared_units(alloc, view, section, shared)?;
     let start = pass_start(view, section);
     let pass = pass_units(alloc, view, section, start, units.as_slice(), shared)?;
     let end = view.bytes(section).len() as u64;

@@ -21,7 +21,7 @@ use Rattle.dw_base.specs.declared.values.ValueClass.TheVariants.{StrOffset}
 use Rattle.dw_entries.specs.Passes.{HasSize}
 use Rattle.dw_find.specs.EntryTexts.{FoundTexts, OffsetRefuses, OneRefuses, Tables, ValueTaken, no_text, offset as offset_refuses, offset_in, relocation, some, with_base, with_paths, with_places}
 use Rattle.dw_find.specs.LaterValues.{IsLater, IsNamed, str_field}
-use Rattle.dw_find.specs.QuietValues.{is_text_form}
+use Rattle.dw_abbrev.specs.QuietSpecs.{is_text_form}
 use Rattle.dw_find.specs.TextPlaces.{TextPlace, class_places, line_places, no_index, said_places, value_places}
 use Rattle.dw_find.specs.SectionFields.{SectionFields}
 use Rattle.dw_find.specs.declared.fields.TextBase.{TextBase}

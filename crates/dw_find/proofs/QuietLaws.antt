@@ -1,10 +1,9 @@
 -- Attributes that say nothing: their values are of no text, and what stands behind the last of the others may be left out.
-use Rattle.std.proofs.Common.{Bool, true, false, ◌≡◌, ◌≢◌, ℕ, zero, suc, ◌+◌, ◌-◌, ◌≤◌, ◌<◌, ◌==◌, not, List, [], ◌∷◌, ◌++◌, length, take, drop, get_or, Option, Some, None, refl, sym, ap, ◌∙◌, subst, arith, append_assoc, append-nil, if◌then◌else◌}
+use Rattle.std.proofs.Common.{Bool, true, false, ◌≡◌, ◌≢◌, ℕ, ◌+◌, ◌-◌, ◌<◌, ◌==◌, not, List, [], ◌∷◌, ◌++◌, length, get_or, Option, Some, None, refl, sym, ap, ◌∙◌, append_assoc, append-nil, if◌then◌else◌}
 use Rattle.std.specs.Prelude.{◌&&◌, ◌||◌}
-use Rattle.std.proofs.Math.Seq.{take-suc, drop-cons}
 use Rattle.std.proofs.lemmas.Bool.{and_parts, eqb-true}
-use Rattle.std.proofs.lemmas.List.{drop_all, take_all, take-append-drop}
 use Rattle.dw_abbrev.specs.Coded.{index_of_code}
+use Rattle.dw_abbrev.specs.QuietSpecs.{AllQuiet, HasFront, is_quiet, is_text_form}
 use Rattle.dw_abbrev.proofs.CodedLaws.{get-here, index-within}
 use Rattle.dw_base.specs.AbbreviationTables.{Abbreviation}
 use Rattle.dw_base.specs.Forms.{ValueKind, number_of, leb_number, signed_leb, block_of, counted, counted_leb, inline_text, text_offset, present, in_abbreviation, form_in_front, supplementary, unlisted, FormRow, form_rows, kind_by, kind_in}
@@ -23,7 +22,7 @@ use Rattle.dw_base.proofs.ClassLaws.{class_of_kind, value-class}
 use Rattle.dw_base.proofs.FormLaws.{value_by-own}
 use Rattle.dw_base.specs.TableStarts.{own_form, is_start_form}
 use Rattle.dw_find.specs.EntryTexts.{Tables, AreTaken, OffsetNames, TakenBehind, ValuesRefuse, fails, value}
-use Rattle.dw_find.specs.QuietValues.{AllQuiet, AreCounts, AreLooked, IsCount, SaysNothing, none_left, quiet_left, is_quiet, is_text_form}
+use Rattle.dw_find.specs.QuietValues.{AreLooked, SaysNothing, none_left, quiet_left}
 use Rattle.dw_find.specs.TextPlaces.{TextPlace, class_places, line_places, said_places, value_places, values_places, of_value}
 use Rattle.dw_meaning.specs.PieceRuns.{value_out}
 
@@ -264,55 +263,6 @@ refuses-left t params bytes section start xs rest r (fails f) = fails (fails-lef
 refuses-left t params bytes section start xs rest r (value before behind x place v is spells at f) =
     value before (behind ++ rest) x place v (longer before behind x xs rest is) spells at f
 
--- the attributes up to the last that isn't quiet
-pub quiet-all : (specs : List Spec) → AllQuiet (drop (length specs) specs)
-quiet-all specs = subst AllQuiet (sym (drop_all (length specs) specs (omega arith))) tt
-
-pub quiet-more : (specs : List Spec) (n : ℕ) (x : Spec) → 0 < n → n ≤ length specs → x ≡ get_or specs (n - 1) x → is_quiet x ≡ true
-    → AllQuiet (drop n specs) → AllQuiet (drop (n - 1) specs)
-quiet-more specs n x some le here quiet all =
-    let next : suc (n - 1) ≡ n = omega (arith, some) in
-    let lt : n - 1 < length specs = omega (arith, some, le) in
-    let front : drop (n - 1) specs ≡ x ∷ drop n specs =
-    drop-cons specs (n - 1) x lt ∙ ap (λ (m : ℕ). get_or specs (n - 1) x ∷ drop m specs) next ∙ ap (λ (y : Spec). y ∷ drop n specs) (sym here) in
-    subst AllQuiet (sym front) (quiet, all)
-
-pub ruleset from_rules = (quiet-all, quiet-more)
-
--- so many for each abbreviation
-pub counts-none : (ls : List Abbreviation) → AreCounts (take 0 ls) []
-counts-none ls = tt
-
-counts-append : (ls : List Abbreviation) (a : Abbreviation) (ns : List ℕ) (n : ℕ) → AreCounts ls ns → IsCount a n → AreCounts (ls ++ a ∷ []) (ns ++ n ∷ [])
-counts-append [] a [] n all one = (one, tt)
-counts-append [] a (m ∷ ns) n all one = absurd all
-counts-append (b ∷ ls) a [] n all one = absurd all
-counts-append (b ∷ ls) a (m ∷ ns) n all one = (all.0, counts-append ls a ns n all.1 one)
-
-pub counts-more : (ls : List Abbreviation) (i : ℕ) (a : Abbreviation) (ns new : List ℕ) (n : ℕ) → i < length ls → a ≡ get_or ls i a → AreCounts (take i ls) ns
-    → IsCount a n → new ≡ ns ++ n ∷ [] → AreCounts (take (i + 1) ls) new
-counts-more ls i a ns new n lt here all one is =
-    let next : i + 1 ≡ suc i = omega arith in
-    let behind : take (i + 1) ls ≡ take i ls ++ a ∷ [] =
-    ap (λ (m : ℕ). take m ls) next ∙ take-suc ls i a lt ∙ ap (λ (y : Abbreviation). take i ls ++ y ∷ []) (sym here) in
-    subst (AreCounts (take (i + 1) ls)) (sym is) (subst (λ (xs : List Abbreviation). AreCounts xs (ns ++ n ∷ [])) (sym behind) (counts-append (take i ls) a ns n all one))
-
-pub counts-end : (ls : List Abbreviation) (i : ℕ) (ns : List ℕ) → length ls ≤ i → AreCounts (take i ls) ns → AreCounts ls ns
-counts-end ls i ns end all = subst (λ (xs : List Abbreviation). AreCounts xs ns) (take_all i ls end) all
-
-pub counts-long : (ls : List Abbreviation) (ns : List ℕ) → AreCounts ls ns → length ls ≡ length ns
-counts-long [] [] all = refl
-counts-long [] (n ∷ ns) all = absurd all
-counts-long (a ∷ ls) [] all = absurd all
-counts-long (a ∷ ls) (n ∷ ns) all = ap suc (counts-long ls ns all.1)
-
-pub counts-at : (ls : List Abbreviation) (ns : List ℕ) (i : ℕ) (a : Abbreviation) (n : ℕ) → AreCounts ls ns → i < length ls → a ≡ get_or ls i a → n ≡ get_or ns i n
-    → IsCount a n
-counts-at [] ns i a n all lt here is = absurd (omega (arith, lt))
-counts-at (b ∷ ls) [] i a n all lt here is = absurd all
-counts-at (b ∷ ls) (m ∷ ns) zero a n all lt here is = subst (λ (x : ℕ). IsCount a x) (sym is) (subst (λ (x : Abbreviation). IsCount x m) (sym here) all.0)
-counts-at (b ∷ ls) (m ∷ ns) (suc i) a n all lt here is = counts-at ls ns i a n all.1 (omega (arith, lt)) here is
-
 -- the attributes of an entry that are looked at, of the abbreviation at the index of its code
 pub look-all : (ls : List Abbreviation) (code number i tag : ℕ) (a : Abbreviation) → index_of_code ls code ≡ Some i → i < length ls → a ≡ get_or ls i a
     → tag ≡ a.tag → AreLooked ls code number tag a.specs
@@ -325,27 +275,18 @@ look-all ls code number i tag a at lt here tag_is = record {
   left = none_left;
 }
 
-pub look-front : (ls : List Abbreviation) (ns : List ℕ) (code number i tag n : ℕ) (a : Abbreviation) (specs : List Spec) → AreCounts ls ns → index_of_code ls code ≡ Some i
-    → i < length ls → a ≡ get_or ls i a → n ≡ get_or ns i n → tag ≡ a.tag → number ≢ 0 → specs ≡ take n a.specs → AreLooked ls code number tag specs
-look-front ls ns code number i tag n a specs all at lt here is tag_is other specs_is =
-    let c : IsCount a n = counts-at ls ns i a n all lt here is in
-    record {
-      abbreviation = a;
-      listed = sym (get-here ls code i a (sym at) lt here);
-      tag_is = tag_is;
-      rest = drop n a.specs;
-      specs_are = sym (ap (λ (xs : List Spec). xs ++ drop n a.specs) specs_is ∙ take-append-drop n a.specs);
-      left = quiet_left other c.quiet;
-    }
-
-pub look-within : (ls : List Abbreviation) (ns : List ℕ) (i n : ℕ) (a : Abbreviation) → AreCounts ls ns → i < length ls → a ≡ get_or ls i a → n ≡ get_or ns i n
-    → n ≤ length a.specs
-look-within ls ns i n a all lt here is = (counts-at ls ns i a n all lt here is).within
-
-pub look-there : (ls : List Abbreviation) (ns : List ℕ) (i : ℕ) → AreCounts ls ns → i < length ls → i < length ns
-look-there ls ns i all lt = omega (arith, counts-long ls ns all, lt)
+pub look-front : (ls : List Abbreviation) (code number i tag : ℕ) (a : Abbreviation) (specs : List Spec) → index_of_code ls code ≡ Some i
+    → i < length ls → a ≡ get_or ls i a → tag ≡ a.tag → number ≢ 0 → HasFront a.specs specs → AreLooked ls code number tag specs
+look-front ls code number i tag a specs at lt here tag_is other front = record {
+  abbreviation = a;
+  listed = sym (get-here ls code i a (sym at) lt here);
+  tag_is = tag_is;
+  rest = front.rest;
+  specs_are = front.specs_are;
+  left = quiet_left other front.quiet;
+}
 
 pub look-inside : (ls : List Abbreviation) (code i : ℕ) → index_of_code ls code ≡ Some i → i < length ls
 look-inside ls code i at = index-within ls code i (sym at)
 
-pub ruleset look_rules = (look-all, look-front, look-within, look-there, look-inside)
+pub ruleset look_rules = (look-all, look-front, look-inside)

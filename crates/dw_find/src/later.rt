@@ -10,8 +10,8 @@ ghost use Rattle.dw_find.specs.EntryTexts.{OneRefuses};
 ghost use Rattle.dw_find.specs.LaterValues.{IsLater, IsNamed};
 
 use crate::found::SectionTexts;
-use crate::scan_table::is_text_form;
 use crate::texts::offset_names;
+use dw_abbrev::is_text_form;
 use dw_base::dwarf_numbers::DW_FORM_strp;
 use dw_base::{Params, Refusal, Spec, UnitHeader, Value, ValueClass, is_start_name};
 use dw_entries::plain_len;

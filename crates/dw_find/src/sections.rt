@@ -2,10 +2,8 @@
 //!
 //! Read first: `specs/UnitTexts.antt`.
 
-ghost use Rattle.std.specs.Prelude.{◌≡◌, ◌<◌, true, is_some, nat_eq, length, IfErr, IfOk, OnOk, None};
+ghost use Rattle.std.specs.Prelude.{◌≡◌, ◌<◌, nat_eq, length, IfErr, IfOk, OnOk, None};
 ghost use Rattle.std.specs.HashMap.{get};
-ghost use Rattle.dw_base.specs.AbbreviationFails.{AbbreviationFails};
-ghost use Rattle.dw_base.specs.AbbreviationTables.{IsTable};
 ghost use Rattle.dw_base.specs.EntryValues.{HasUnit};
 ghost use Rattle.dw_base.specs.FileViews.{section_bytes, view_cells};
 ghost use Rattle.dw_base.specs.Refusals.{Blames};
@@ -21,11 +19,11 @@ ghost use Rattle.dw_find.specs.UnitTexts.{OneTaken, SectionIndexed, UnitsRefuse,
 use crate::field_offsets::section_offset;
 use crate::fields::TextBase;
 use crate::found::{FoundTexts, SectionFields, SectionTexts, TextTables};
-use crate::scan_table::ScanTable;
 use crate::slots::NamedSlots;
 use crate::units::unit_texts;
+use dw_abbrev::AbbrevTable;
 use dw_base::{DebugSection, Fault, Refusal, UnitHeader};
-use dw_entries::{abbreviations_at, table_offset, unit_headers};
+use dw_entries::{read_table, shared_units, table_offset};
 use dw_view::View;
 use std::alloc::Global;
 use std::collections::HashMap;
@@ -38,7 +36,7 @@ pub(crate) fn section_texts(
     view: &View,
     tables: &TextTables,
     section: u32,
-    shared: &mut HashMap<u64, ScanTable>,
+    shared: &mut HashMap<u64, AbbrevTable>,
     slots: &mut NamedSlots,
 ) -> Result<SectionFields, Fault>
     requires there { IsUnitSection view.now section }
@@ -48,7 +46,7 @@ pub(crate) fn section_texts(
     ensures taken { IfOk result (λ u. SectionIndexed (debug_data view.now) (unit_section_at view.now section) u slots.old slots.new) }
     ensures refused { IfErr result (Blames (UnitsRefuse (debug_data view.now))) }
 {
-    let units = unit_headers(alloc, view, section)?;
+    let units = shared_units(alloc, view, section, shared)?;
     units_texts(
         alloc,
         view,
@@ -68,7 +66,7 @@ fn units_texts(
     tables: &TextTables,
     section: u32,
     units: &[UnitHeader],
-    shared: &mut HashMap<u64, ScanTable>,
+    shared: &mut HashMap<u64, AbbrevTable>,
     slots: &mut NamedSlots,
 ) -> Result<SectionFields, Fault>
     requires there { IsUnitSection view.now section }
@@ -96,7 +94,7 @@ fn one_unit(
     view: &View,
     texts: &SectionTexts,
     unit: &UnitHeader,
-    shared: &mut HashMap<u64, ScanTable>,
+    shared: &mut HashMap<u64, AbbrevTable>,
     found: &mut FoundTexts,
     slots: &mut NamedSlots,
 ) -> Result<(), Fault>
@@ -138,36 +136,4 @@ fn base_number(view: &View, section: u32, base: Option<TextBase>) -> Result<Opti
             Ok(Some(number))
         }
     }
-}
-
-/// Reads the table of abbreviations at an offset, if it wasn't read before.
-#[tactic(auto, using(crate::proofs::SharedLaws::read_rules))]
-fn read_table(
-    alloc: Global,
-    view: &View,
-    at: u64,
-    shared: &mut HashMap<u64, ScanTable>,
-) -> Result<(), Fault>
-    requires shared { AreTables (debug_data view.now) (λ at. get nat_eq shared.old at) }
-    ensures shared { OnOk result (AreTables (debug_data view.now) (λ at. get nat_eq shared.new at)) }
-    ensures there { OnOk result (is_some (get nat_eq shared.new at) ≡ true) }
-    ensures refused { IfErr result (Blames (AbbreviationFails (debug_data view.now).base.abbrevs.bytes (debug_data view.now).base.abbrevs.number at)) }
-{
-    if shared.contains_key(&at) {
-        return Ok(());
-    }
-    let table = table_at(alloc, view, at)?;
-    shared.insert(at, table)?;
-    Ok(())
-}
-
-/// The table of abbreviations at an offset of the view's `.debug_abbrev`.
-#[tactic(auto, using(crate::proofs::SharedLaws::table_rules))]
-fn table_at(alloc: Global, view: &View, at: u64) -> Result<ScanTable, Fault>
-    ensures table { IfOk result (λ t. IsTable (debug_data view.now).base.abbrevs.bytes at t) }
-    ensures refused { IfErr result (Blames (AbbreviationFails (debug_data view.now).base.abbrevs.bytes (debug_data view.now).base.abbrevs.number at)) }
-{
-    let abbrevs = abbreviations_at(alloc, view, at)?;
-    let table = ScanTable::new(alloc, abbrevs)?;
-    Ok(table)
 }

@@ -15,8 +15,9 @@ ghost use Rattle.dw_find.specs.TextPlaces.{entry_places};
 ghost use Rattle.dw_find.specs.UnitTexts.{EntryRefuses, EntryTaken, ScanTaken, UnitRefuses, UnitTaken, tables_of};
 
 use crate::found::{FoundTexts, SectionTexts};
-use crate::scan_table::ScanTable;
+use crate::scan_table::look;
 use crate::texts::entry_texts;
+use dw_abbrev::AbbrevTable;
 use dw_base::{Fault, UnitHeader};
 use dw_entries::{Coded, CodedScan};
 use dw_view::View;
@@ -28,7 +29,7 @@ pub(crate) fn unit_texts(
     view: &View,
     texts: &SectionTexts,
     unit: &UnitHeader,
-    table: &ScanTable,
+    table: &AbbrevTable,
     found: &mut FoundTexts,
 ) -> Result<(), Fault>
     requires unit { HasUnit (debug_data view.now) (unit_section_at view.now unit.now.section) unit.now }
@@ -36,7 +37,7 @@ pub(crate) fn unit_texts(
     ensures taken { OnOk result (UnitTaken texts.now (unit_section_at view.now unit.now.section) unit.now table.now found.old found.new) }
     ensures refused { IfErr result (Blames (UnitRefuses texts.now unit.now table.now (bytes_up_to (unit_section_at view.now unit.now.section) unit.now))) }
 {
-    let scan = CodedScan::new(view, unit, table.abbrevs());
+    let scan = CodedScan::new(view, unit, table);
     let bytes = &view.bytes(unit.section)[..unit.end as usize];
     scan_texts(texts, unit, table, bytes, scan, found)
 }
@@ -46,7 +47,7 @@ pub(crate) fn unit_texts(
 fn scan_texts(
     texts: &SectionTexts,
     unit: &UnitHeader,
-    table: &ScanTable,
+    table: &AbbrevTable,
     bytes: &[u8],
     scan: CodedScan,
     found: &mut FoundTexts,
@@ -73,7 +74,7 @@ fn scan_texts(
 fn scanned_texts(
     texts: &SectionTexts,
     unit: &UnitHeader,
-    table: &ScanTable,
+    table: &AbbrevTable,
     bytes: &[u8],
     number: u64,
     entry: &Coded,
@@ -87,6 +88,6 @@ fn scanned_texts(
     ensures taken { OnOk result (EntryTaken texts.now unit.now.params table.now bytes.now entry.now.entry) }
     ensures refused { IfErr result (Blames (EntryRefuses texts.now unit.now.params table.now bytes.now unit.now.section entry.now.entry)) }
 {
-    let (tag, specs) = table.look(entry, number);
+    let (tag, specs) = look(table, entry, number);
     entry_texts(texts, unit, bytes, number, tag, specs, entry.from, found)
 }

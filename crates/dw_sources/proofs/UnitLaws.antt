@@ -1,7 +1,6 @@
 -- The units of a view: their tables of abbreviations, their paths one after another, and their rows.
-use Rattle.std.proofs.Common.{Bool, true, false, ◌≡◌, ℕ, suc, ◌+◌, ◌≤◌, ◌<◌, ◌==◌, if◌then◌else◌, List, [], ◌∷◌, ◌++◌, length, map, take, drop, get_or, cond, Option, Some, None, refl, sym, ap, ◌∙◌, subst, arith, append_assoc, append-nil}
+use Rattle.std.proofs.Common.{Bool, true, false, ◌≡◌, ℕ, suc, ◌+◌, ◌≤◌, ◌<◌, ◌==◌, List, [], ◌∷◌, ◌++◌, length, map, take, drop, get_or, cond, Option, Some, None, refl, sym, ap, ◌∙◌, subst, arith, append_assoc, append-nil}
 use Rattle.std.proofs.Math.Seq.{take-suc, drop-cons}
-use Rattle.std.proofs.lemmas.Bool.Decides.{nat_tests}
 use Rattle.std.proofs.lemmas.List.{drop_all, length-take, take_all}
 use Rattle.dw_base.specs.AbbreviationFails.{AbbreviationFails}
 use Rattle.dw_base.specs.AbbreviationTables.{Abbreviation, IsTable}
@@ -39,20 +38,6 @@ use Rattle.dw_sources.proofs.PathLaws.{paths-append}
 pub none-shared : (d : DebugData) (shared : ℕ → Option (List Abbreviation)) → ((at : ℕ) → shared at ≡ None) → AreShared d shared
 none-shared d shared none = record { each = λ (at : ℕ) (table : List Abbreviation) e. (let gone : None ≡ Some table = sym (none at) ∙ e in absurd cc) }
 
-pub one-shared : (d : DebugData) (old new : ℕ → Option (List Abbreviation)) (at : ℕ) (table : List Abbreviation) → AreShared d old → IsTable d.base.abbrevs.bytes at table
-    → ((o : ℕ) → new o ≡ (if o == at then Some table else old o)) → AreShared d new
-one-shared d old new at table are is more = record { each = λ (o : ℕ) (t : List Abbreviation) e. by_offset o t (o == at) refl (sym (more o) ∙ e) }
-  where
-    by_offset : (o : ℕ) (t : List Abbreviation) (b : Bool) → (o == at) ≡ b → (if b then Some table else old o) ≡ Some t → IsTable d.base.abbrevs.bytes o t
-    by_offset o t true test e =
-        let same : o ≡ at = grind (arith, nat_tests) in
-        let own : table ≡ t = once table t e in
-        subst (λ (n : ℕ). IsTable d.base.abbrevs.bytes n t) (sym same) (subst (IsTable d.base.abbrevs.bytes at) own is)
-      where
-        once : (x y : List Abbreviation) → Some x ≡ Some y → x ≡ y
-        once x y e = cc
-    by_offset o t false test e = are.each o t e
-
 shared-there : (d : DebugData) (shared : ℕ → Option (List Abbreviation)) (at : ℕ) (table : List Abbreviation) → AreShared d shared → Some table ≡ shared at
     → IsTable d.base.abbrevs.bytes at table
 shared-there d shared at table are e = are.each at table (sym e)
@@ -66,8 +51,6 @@ pub own-table : (d : DebugData) (shared : ℕ → Option (List Abbreviation)) (a
 own-table d shared at h table are e same there =
     let t = shared-own d shared at h.abbrevs table are e same in
     record { here = there; is = subst (IsTable d.base.abbrevs.bytes h.abbrevs) (sym (table-found d.base.abbrevs.bytes h.abbrevs table t)) t }
-
-pub ruleset read_rules = (one-shared)
 
 -- a unit's bytes up to its end, and its paths
 pub unit-added : (v : View) (list : List Contribution) (tables : ℕ → Option LineTable) (fronts : List (List ℕ)) (h : UnitHeader) (abbrevs : List Abbreviation) (bs : List ℕ) (root : Root)

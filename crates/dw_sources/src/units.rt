@@ -2,9 +2,8 @@
 //!
 //! Read first: `specs/Sources.antt`.
 
-ghost use Rattle.std.specs.Prelude.{◌≡◌, true, is_some, map, nat_eq, IfErr, OnOk};
+ghost use Rattle.std.specs.Prelude.{◌≡◌, map, nat_eq, IfErr, OnOk};
 ghost use Rattle.std.specs.HashMap.{get};
-ghost use Rattle.dw_base.specs.AbbreviationFails.{AbbreviationFails};
 ghost use Rattle.dw_base.specs.AbbreviationTables.{IsTable};
 ghost use Rattle.dw_base.specs.EntryValues.{HasUnit};
 ghost use Rattle.dw_base.specs.Refusals.{Blames};
@@ -24,33 +23,12 @@ use crate::paths::add_root;
 use crate::roots::root_at;
 use dw_abbrev::AbbrevTable;
 use dw_base::{Fault, NoMemory, UnitHeader};
-use dw_entries::{abbreviations_at, table_offset, unit_headers, unit_sections};
+use dw_entries::{read_table, shared_units, table_offset, unit_sections};
 use dw_lines::LineTable;
 use dw_offsets::ContributionList;
 use dw_view::View;
 use std::alloc::Global;
 use std::collections::HashMap;
-
-/// Reads the table of abbreviations at an offset, if it wasn't read before.
-#[tactic(auto, using(crate::proofs::UnitLaws::read_rules))]
-fn read_table(
-    alloc: Global,
-    view: &View,
-    at: u64,
-    shared: &mut HashMap<u64, AbbrevTable>,
-) -> Result<(), Fault>
-    requires shared { AreShared (debug_data view.now) (λ at. get nat_eq shared.old at) }
-    ensures shared { OnOk result (AreShared (debug_data view.now) (λ at. get nat_eq shared.new at)) }
-    ensures there { OnOk result (is_some (get nat_eq shared.new at) ≡ true) }
-    ensures refused { IfErr result (Blames (AbbreviationFails (debug_data view.now).base.abbrevs.bytes (debug_data view.now).base.abbrevs.number at)) }
-{
-    if shared.contains_key(&at) {
-        return Ok(());
-    }
-    let table = abbreviations_at(alloc, view, at)?;
-    shared.insert(at, table)?;
-    Ok(())
-}
 
 /// Adds the paths of a unit with its table of abbreviations.
 #[tactic(auto, using(crate::proofs::UnitLaws::unit_rules))]
@@ -165,7 +143,7 @@ fn add_section(
     ensures value { OnOk result (AddsSection (debug_data view.now) list.now (λ at. get nat_eq tables.now at) fronts.now (unit_section_at view.now section) (map bytes_of found.old.names.keys) (map bytes_of found.new.names.keys)) }
     ensures refused { IfErr result (Blames (SourcesFail (debug_data view.now))) }
 {
-    let units = unit_headers(alloc, view, section)?;
+    let units = shared_units(alloc, view, section, shared)?;
     add_units(
         alloc,
         view,

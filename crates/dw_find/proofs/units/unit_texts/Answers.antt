@@ -1,10 +1,5 @@
 -- The pass begins with the bytes of the section up to the unit's end.
-use Rattle.std.proofs.Common.{List, ap, ◌∙◌}
-use Rattle.dw_base.specs.AbbreviationTables.{Abbreviation}
-use Rattle.dw_base.specs.EntryValues.{bytes_up_to}
 use Rattle.dw_entries.proofs.HasUnitLaws.{unit-length, unit-starts, first-inside}
-use Rattle.dw_entries.specs.ScanStates.{scan_start}
-use Rattle.dw_entries.specs.ViewUnits.{unit_section_at}
 use Rattle.dw_find.proofs.ScanTextLaws.{unit-there}
 use Rattle.dw_find.proofs.units.unit_texts.Goals as goal
 
@@ -16,9 +11,7 @@ slice_bounds-bytes-end c = unit-length c.args.view.now c.args.unit.now c.bytes.r
 
 pub scan_texts-requires-clause-start : goal.scan_texts-requires-clause-start
 scan_texts-requires-clause-start c =
-    unit-starts c.args.view.now c.args.unit.now c.args.table.now c.bytes.result.now c.new-scan.result c.requires.unit c.bytes.ensures.bytes
-    (c.new-scan.ensures.start
-    ∙ ap (λ (t : List Abbreviation). scan_start c.args.unit.now t (bytes_up_to (unit_section_at c.args.view.now c.args.unit.now.section) c.args.unit.now)) c.abbrevs.ensures.value)
+    unit-starts c.args.view.now c.args.unit.now c.args.table.now c.bytes.result.now c.new-scan.result c.requires.unit c.bytes.ensures.bytes c.new-scan.ensures.start
 
 pub scan_texts-requires-clause-inside : goal.scan_texts-requires-clause-inside
 scan_texts-requires-clause-inside c = first-inside c.args.view.now c.args.unit.now c.bytes.result.now c.requires.unit c.bytes.ensures.bytes
