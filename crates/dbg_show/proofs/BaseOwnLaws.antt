@@ -22,7 +22,7 @@ use Rattle.dbg_show.specs.ShownUnits.{UnitSource, base_number, first_base, shown
 use Rattle.dbg_show.specs.UnitLists.{ListsAll}
 use Rattle.dbg_show.specs.declared.listed_unit.ListedUnit.{ListedUnit}
 use Rattle.dbg_show.proofs.AllRunLaws.{EachNumbered, EachOut, all_out, all_pieces, all-said-out}
-use Rattle.dbg_show.proofs.BaseRunLaws.{base_says, bases_of, bases-all, class_base, no_base, or_base, unit-base, unit-bases}
+use Rattle.dbg_show.proofs.BaseRunLaws.{base_says, bases_of, bases-all, class_base, no_base, or_base, unit-base, unit-bases, value_placed}
 use Rattle.dbg_show.proofs.PlaceRunLaws.{NoPremise, no-premises}
 use Rattle.dbg_show.proofs.UnitFactLaws.{UnitFacts, unit-facts}
 use Rattle.dbg_show.proofs.ValueTextLaws.{IsIn}
@@ -105,17 +105,17 @@ values-skip : (unit k n tag : ℕ) (v : View) (h : UnitHeader) (bytes : List ℕ
 values-skip unit k n tag v h bytes [] place rest other = refl
 values-skip unit k n tag v h bytes (x ∷ xs) place rest other = by_value (value_at h.params x bytes place) (λ p. values-skip unit k n tag v h bytes xs p rest other)
   where
-    by_said : (a : Bool) (o : Option ℕ) (more : List SaidBase) → base_of (more ++ rest) k ≡ base_of rest k
-        → base_of (((if a then said_by unit o else []) ++ more) ++ rest) k ≡ base_of rest k
-    by_said true None more step = step
-    by_said true (Some b) more step = ap (λ (t : Bool). if t then Some b else base_of (more ++ rest) k) (ne_eqb unit k other) ∙ step
-    by_said false o more step = step
+    by_said : (a placed : Bool) (o : Option ℕ) (more : List SaidBase) → base_of (more ++ rest) k ≡ base_of rest k
+        → base_of (((if a then said_by unit placed o else []) ++ more) ++ rest) k ≡ base_of rest k
+    by_said true placed None more step = step
+    by_said true placed (Some b) more step = ap (λ (t : Bool). if t then Some b else base_of (more ++ rest) k) (ne_eqb unit k other) ∙ step
+    by_said false placed o more step = step
 
     by_value : (o : Option Value) → ((p : ℕ) → base_of (values_out (base_says v h bytes unit) h.params bytes n tag xs p ++ rest) k ≡ base_of rest k)
         → base_of (value_out (base_says v h bytes unit) (λ p. values_out (base_says v h bytes unit) h.params bytes n tag xs p) n tag x place o ++ rest) k ≡ base_of rest k
     by_value None step = refl
     by_value (Some y) step =
-        by_said (is_base n x.name) (class_base y.class (base_number v h bytes (own_form x bytes place) y)) (values_out (base_says v h bytes unit) h.params bytes n tag xs (place + y.size))
+        by_said (is_base n x.name) (value_placed v h bytes (own_form x bytes place) y) (class_base y.class (base_number v h bytes (own_form x bytes place) y)) (values_out (base_says v h bytes unit) h.params bytes n tag xs (place + y.size))
         (step (place + y.size))
 
 entries-skip : (unit k n : ℕ) (v : View) (h : UnitHeader) (table : List Abbreviation) (bytes : List ℕ) (es : List Scanned) (rest : List SaidBase) → unit ≢ k

@@ -3,13 +3,13 @@ use Rattle.std.proofs.Common.{Bool, true, false, suc, ◌≡◌, ◌≢◌, ℕ,
 use Rattle.std.specs.Prelude.{◌&&◌, ◌||◌}
 use Rattle.std.proofs.lemmas.Bool.{ne_eqb, eq-eqb}
 use Rattle.dw_base.specs.AbbreviationTables.{Abbreviation, abbreviation_of}
-use Rattle.dw_base.specs.Cells.{Cell, Located, bytes_of, field_of, offset_into, offset_of}
+use Rattle.dw_base.specs.Cells.{Cell, Located, bytes_of, field_of, is_placed, offset_into, offset_of}
 use Rattle.dw_base.specs.FileViews.{View}
 use Rattle.dw_base.specs.Forms.{ValueKind, number_of, leb_number, signed_leb, block_of, counted, counted_leb, inline_text, text_offset, present, in_abbreviation, form_in_front, supplementary, unlisted, kind_in}
 use Rattle.dw_base.specs.Lebs.{uleb_at}
 use Rattle.dw_base.specs.Numbers.{number_at, spelled}
 use Rattle.dw_base.specs.Pieces.{Piece}
-use Rattle.dw_base.specs.TextIndexes.{SaidBase, base_of, base_value, bases_by, bases_in, is_base, said_by}
+use Rattle.dw_base.specs.TextIndexes.{SaidBase, base_of, base_placed, base_said, base_value, bases_by, bases_in, is_base, said_by}
 use Rattle.dw_base.specs.ViewData.{located}
 use Rattle.dw_base.specs.UnitStates.{UnitState, of_chosen, code_value}
 use Rattle.dw_base.specs.Values.{value_of, value_at, counted_value, counted_leb_value, signed_bits}
@@ -38,10 +38,16 @@ use Rattle.dw_meaning.specs.PieceRuns.{all_of, value_out, values_out, listed_out
 abbrev pub class_base : ValueClass → ℕ → Option ℕ
 class_base class n = if is_base_class class then Some n else None
 
+-- a value of a form is a number, or an offset that is one
+abbrev pub value_placed : View → UnitHeader → List ℕ → ℕ → Value → Bool
+value_placed v h bytes form y = if is_start_form form then is_placed (number_field v h.section bytes form y) else true
+
+abbrev pub value_base : View → UnitHeader → List ℕ → ℕ → ℕ → Value → List SaidBase
+value_base v h bytes unit form y = said_by unit (value_placed v h bytes form y) (class_base y.class (base_number v h bytes form y))
+
 -- what a value says, of entry `number`
 abbrev pub base_says : View → UnitHeader → List ℕ → ℕ → ℕ → ℕ → Spec → ℕ → Value → List SaidBase
-base_says v h bytes unit number tag x place y =
-    if is_base number x.name then said_by unit (class_base y.class (base_number v h bytes (own_form x bytes place) y)) else []
+base_says v h bytes unit number tag x place y = if is_base number x.name then value_base v h bytes unit (own_form x bytes place) y else []
 
 abbrev pub no_base : ℕ → ℕ → ℕ → Abbreviation → List SaidBase
 no_base number place depth a = []
@@ -54,7 +60,7 @@ bases-all order z [] = refl
 bases-all order z (x ∷ xs) = ap (λ (t : List SaidBase). bases_by x.state.mode order z x.state x.cells ++ t) (bases-all order z xs)
 
 -- the base that the cells of a value say is that of its class
-start-number : (n : ℕ) (b : Bool) (form offset plain k : ℕ) → (n == 4 || n == 8) ≡ b → is_start_form form ≡ b → plain ≡ k
+start-number : {X : Type 0} (n : ℕ) (b : Bool) (form : ℕ) (offset plain k : X) → (n == 4 || n == 8) ≡ b → is_start_form form ≡ b → plain ≡ k
     → (if n == 4 || n == 8 then offset else plain) ≡ (if is_start_form form then offset else k)
 start-number n true form offset plain k size start e =
     ap (λ (t : Bool). if t then offset else plain) size ∙ sym (ap (λ (t : Bool). if t then offset else k) start)
@@ -159,6 +165,48 @@ kind-base z u cells s order x form_in_front place form v i same at f other is = 
 kind-base z u cells s order x supplementary place form v i same at f other is = absurd cc
 kind-base z u cells s order x unlisted place form v i same at f other is = absurd cc
 
+-- so what they say of a unit is that, with its place
+said-same : (unit : ℕ) (a b : Bool) (x y : Option ℕ) → a ≡ b → x ≡ y → said_by unit a x ≡ said_by unit b y
+said-same unit a b x y p e = ap (λ (t : Bool). said_by unit t x) p ∙ ap (said_by unit b) e
+
+said-none : (unit : ℕ) (a b : Bool) (x y : Option ℕ) → x ≡ None → x ≡ y → said_by unit a x ≡ said_by unit b y
+said-none unit a b x y none e = ap (said_by unit a) none ∙ sym (ap (said_by unit b) (sym e ∙ none))
+
+number-said : (unit : ℕ) (v : View) (h : UnitHeader) (bytes : List ℕ) (order : Order) (z : Located) (class : ValueClass) (n form : ℕ) (y : Value) (p : List Cell) (o : Option ℕ)
+    → FormFacts (number_of class n) form → field_of order p ≡ number_field v h.section bytes form y → base_value order z (number_of class n) p ≡ o
+    → base_said unit order z (number_of class n) p ≡ said_by unit (value_placed v h bytes form y) o
+number-said unit v h bytes order z Number n form y p o f same e =
+    said-same unit (base_placed order (number_of Number n) p) (value_placed v h bytes form y) (base_value order z (number_of Number n) p) o
+    (ap (λ (x : Field). if n == 4 || n == 8 then is_placed x else true) same
+    ∙ start-number n (n == 4 || n == 8) form (is_placed (number_field v h.section bytes form y)) true true refl (sym f.starts) refl) e
+number-said unit v h bytes order z SecOffset n form y p o f same e =
+    said-same unit (base_placed order (number_of SecOffset n) p) (value_placed v h bytes form y) (base_value order z (number_of SecOffset n) p) o
+    (ap is_placed same ∙ sym (ap (λ (t : Bool). if t then is_placed (number_field v h.section bytes form y) else true) (sym f.starts))) e
+number-said unit v h bytes order z class n form y p o f same e = said-none unit _ _ _ o refl e
+
+leb-said : (unit : ℕ) (v : View) (h : UnitHeader) (bytes : List ℕ) (order : Order) (z : Located) (class : ValueClass) (form : ℕ) (y : Value) (p : List Cell) (o : Option ℕ)
+    → FormFacts (leb_number class) form → base_value order z (leb_number class) p ≡ o → base_said unit order z (leb_number class) p ≡ said_by unit (value_placed v h bytes form y) o
+leb-said unit v h bytes order z Number form y p o f e =
+    said-same unit true (value_placed v h bytes form y) (base_value order z (leb_number Number) p) o
+    (sym (ap (λ (t : Bool). if t then is_placed (number_field v h.section bytes form y) else true) (sym f.starts))) e
+leb-said unit v h bytes order z class form y p o f e = said-none unit _ _ _ o refl e
+
+kind-said : (z : Located) (u : ShownUnit) (cells : List Cell) (s : UnitState) (order : Order) (x : Spec) (k : ValueKind) (place form : ℕ) (v : Value) → IsIn cells s u
+    → s.header.params.order ≡ order → z ≡ located u.source.view StrOffsets → FormFacts k form → k ≢ form_in_front
+    → value_of k s.header.params.order (unit_bytes s cells) place x.implicit ≡ Some v
+    → base_said s.unit order z k (take v.size (drop place cells)) ≡ value_base u.source.view u.header u.bytes s.unit form v
+unfolding value_of
+kind-said z u cells s order x (number_of class n) place form v i same at f other is =
+    let r = number-read class s.header.params.order (unit_bytes s cells) place n v is in
+    number-said s.unit u.source.view u.header u.bytes order z class n form v (take v.size (drop place cells)) (class_base v.class (base_number u.source.view u.header u.bytes form v)) f
+    (ap (λ (w : Order). field_of w (take v.size (drop place cells))) (sym same) ∙ own-field u cells s class place n form v i (number-plain class n form f) f.small r)
+    (kind-base z u cells s order x (number_of class n) place form v i same at f other is)
+kind-said z u cells s order x (leb_number class) place form v i same at f other is =
+    leb-said s.unit u.source.view u.header u.bytes order z class form v (take v.size (drop place cells)) (class_base v.class (base_number u.source.view u.header u.bytes form v)) f
+    (kind-base z u cells s order x (leb_number class) place form v i same at f other is)
+kind-said z u cells s order x k place form v i same at f other is =
+    said-none s.unit _ _ _ (class_base v.class (base_number u.source.view u.header u.bytes form v)) refl (kind-base z u cells s order x k place form v i same at f other is)
+
 -- values with the same number and bytes say the same
 number-same : (u : ShownUnit) (form : ℕ) (v w : Value) → w.at ≡ v.at → w.len ≡ v.len → w.number ≡ v.number
     → base_number u.source.view u.header u.bytes form w ≡ base_number u.source.view u.header u.bytes form v
@@ -173,21 +221,23 @@ unit-bases z u cells s order i same at = record {
   nulls = λ place e d p zero_. refl;
   codes = λ place e d a p some listed. refl;
   forms = λ place e d n tag x xs p front.
-      ap (λ (k : ValueKind). if is_base n x.name then said_by s.unit (base_value order z k p) else []) front ∙ none-said (is_base n x.name);
+      ap (λ (k : ValueKind). if is_base n x.name then base_said s.unit order z k p else []) front ∙ none-said (is_base n x.name);
   owns = λ place e d n tag x xs v other is.
-      ap (λ (o : Option ℕ). if is_base n x.name then said_by s.unit o else [])
-      (kind-base z u cells s order x (kind_in s.header.params x.form) place x.form v i same at (form-facts s.header.params x.form (unit-small cells s u i)) other is
-      ∙ ap (λ (f : ℕ). class_base v.class (base_number u.source.view u.header u.bytes f v)) (sym (plain-form s.header.params x u.bytes place other)));
+      ap (λ (bs : List SaidBase). if is_base n x.name then bs else [])
+      (kind-said z u cells s order x (kind_in s.header.params x.form) place x.form v i same at (form-facts s.header.params x.form (unit-small cells s u i)) other is
+      ∙ ap (λ (f : ℕ). value_base u.source.view u.header u.bytes s.unit f v) (sym (plain-form s.header.params x u.bytes place other)));
   chosen = λ place e d n tag x xs v front c.
-      ap (λ (o : Option ℕ). if is_base n x.name then said_by s.unit o else [])
-      (kind-base z u cells s order (of_chosen x c.form) (kind_in s.header.params c.form) (place + c.size) c.form c.value i same at (form-facts s.header.params c.form (unit-small cells s u i)) c.other c.is
-      ∙ ap (λ (t : ValueClass). class_base t (base_number u.source.view u.header u.bytes c.form c.value)) (sym c.class_is)
-      ∙ ap (class_base v.class) (number-same u c.form v c.value (sym c.at_is) (sym c.len_is) (sym c.number_is))
-      ∙ ap (λ (f : ℕ). class_base v.class (base_number u.source.view u.header u.bytes f v))
+      ap (λ (bs : List SaidBase). if is_base n x.name then bs else [])
+      (kind-said z u cells s order (of_chosen x c.form) (kind_in s.header.params c.form) (place + c.size) c.form c.value i same at (form-facts s.header.params c.form (unit-small cells s u i)) c.other c.is
+      ∙ ap (λ (t : ValueClass). said_by s.unit (value_placed u.source.view u.header u.bytes c.form c.value) (class_base t (base_number u.source.view u.header u.bytes c.form c.value))) (sym c.class_is)
+      ∙ said-same s.unit _ _ _ _
+      (ap (λ (f : Field). if is_start_form c.form then is_placed f else true) (field-same u c.form v c.value (sym c.at_is) (sym c.len_is) (sym c.number_is)))
+      (ap (class_base v.class) (number-same u c.form v c.value (sym c.at_is) (sym c.len_is) (sym c.number_is)))
+      ∙ ap (λ (f : ℕ). value_base u.source.view u.header u.bytes s.unit f v)
       (sym (ap (λ (bs : List ℕ). own_form x bs place) (sym i.bytes_are) ∙ chosen-form s.header.params x (unit_bytes s cells) place c.form c.size front c.spells)));
 }
   where
-    none-said : (b : Bool) → (if b then said_by s.unit None else []) ≡ []
+    none-said : (b : Bool) → (if b then said_by s.unit true None else []) ≡ []
     none-said true = refl
     none-said false = refl
 
@@ -201,15 +251,15 @@ values-first : (unit tag : ℕ) (v : View) (h : UnitHeader) (bytes : List ℕ) (
 values-first unit tag v h bytes [] place rest = refl
 values-first unit tag v h bytes (x ∷ xs) place rest = by_value (value_at h.params x bytes place) (λ p. values-first unit tag v h bytes xs p rest)
   where
-    by_says : (y : Value) (k : ℕ) (a b : Bool) → (base_of (values_out (base_says v h bytes unit) h.params bytes 0 tag xs (place + y.size) ++ rest) unit
+    by_says : (y : Value) (k : ℕ) (placed a b : Bool) → (base_of (values_out (base_says v h bytes unit) h.params bytes 0 tag xs (place + y.size) ++ rest) unit
         ≡ or_base (values_base v h bytes xs (place + y.size)) (base_of rest unit))
-        → base_of (((if a then said_by unit (if b then Some k else None) else []) ++ values_out (base_says v h bytes unit) h.params bytes 0 tag xs (place + y.size)) ++ rest) unit
+        → base_of (((if a then said_by unit placed (if b then Some k else None) else []) ++ values_out (base_says v h bytes unit) h.params bytes 0 tag xs (place + y.size)) ++ rest) unit
         ≡ or_base (if a && b then Some k else values_base v h bytes xs (place + y.size)) (base_of rest unit)
-    by_says y k true true step =
+    by_says y k placed true true step =
         ap (λ (t : Bool). if t then Some k else base_of (values_out (base_says v h bytes unit) h.params bytes 0 tag xs (place + y.size) ++ rest) unit) (eq-eqb unit unit refl)
-    by_says y k true false step = step
-    by_says y k false true step = step
-    by_says y k false false step = step
+    by_says y k placed true false step = step
+    by_says y k placed false true step = step
+    by_says y k placed false false step = step
 
     by_value : (o : Option Value)
         → ((p : ℕ) → base_of (values_out (base_says v h bytes unit) h.params bytes 0 tag xs p ++ rest) unit ≡ or_base (values_base v h bytes xs p) (base_of rest unit))
@@ -217,7 +267,7 @@ values-first unit tag v h bytes (x ∷ xs) place rest = by_value (value_at h.par
         ≡ or_base (base_behind (λ p. values_base v h bytes xs p) v h bytes x place o) (base_of rest unit)
     by_value None step = refl
     by_value (Some y) step =
-        by_says y (base_number v h bytes (own_form x bytes place) y) (x.name == DW_AT_str_offsets_base) (is_base_class y.class) (step (place + y.size))
+        by_says y (base_number v h bytes (own_form x bytes place) y) (value_placed v h bytes (own_form x bytes place) y) (x.name == DW_AT_str_offsets_base) (is_base_class y.class) (step (place + y.size))
 
 -- no other entry says one
 values-none : (unit n tag : ℕ) (v : View) (h : UnitHeader) (bytes : List ℕ) (xs : List Spec) (place : ℕ) → values_out (base_says v h bytes unit) h.params bytes (suc n) tag xs place ≡ []
@@ -228,7 +278,7 @@ values-none unit n tag v h bytes (x ∷ xs) place = by_value (value_at h.params 
         → value_out (base_says v h bytes unit) (λ p. values_out (base_says v h bytes unit) h.params bytes (suc n) tag xs p) (suc n) tag x place o ≡ []
     by_value None step = refl
     by_value (Some y) step =
-        ap (λ (b : Bool). (if b && x.name == DW_AT_str_offsets_base then said_by unit (class_base y.class (base_number v h bytes (own_form x bytes place) y)) else [])
+        ap (λ (b : Bool). (if b && x.name == DW_AT_str_offsets_base then value_base v h bytes unit (own_form x bytes place) y else [])
         ++ values_out (base_says v h bytes unit) h.params bytes (suc n) tag xs (place + y.size)) (ne_eqb (suc n) 0 (λ (e : suc n ≡ 0). omega (arith, e)))
         ∙ step (place + y.size)
 

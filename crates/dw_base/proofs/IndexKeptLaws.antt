@@ -18,7 +18,7 @@ use Rattle.dw_base.proofs.UnitEditLaws.{Shift, Becomes, UnitsChanged}
 use Rattle.dw_base.specs.OffsetPieces.{OffsetMode, at_contribution, at_slot, no_offsets, OffsetState}
 use Rattle.dw_base.specs.SectionTexts.{offset_role}
 use Rattle.dw_base.specs.SlotTexts.{begun_by, contributions_in}
-use Rattle.dw_base.specs.TextIndexes.{base_value, is_base, SaidBase, said_by, bases_by, bases_in, index_value, IndexUse, use_by, uses_by, uses_in}
+use Rattle.dw_base.specs.TextIndexes.{base_placed, base_said, base_value, is_base, SaidBase, said_by, bases_by, bases_in, index_value, IndexUse, use_by, uses_by, uses_in}
 use Rattle.dw_base.specs.declared.string_offsets.Contribution.{Contribution}
 use Rattle.dw_base.proofs.OffsetChangeLaws.{OffsetChange}
 use Rattle.dw_base.specs.declared.values.AttributeUse.{AttributeUse}
@@ -59,7 +59,7 @@ no-base number name e = ap (λ (k : ℕ). number == 0 && k == DW_AT_str_offsets_
 
 -- what a value says of the base stays
 abbrev base_by : ValueKind → Order → Located → UnitState → ℕ → ℕ → List Cell → List SaidBase
-base_by k order z s number name p = if is_base number name then said_by s.unit (base_value order z k p) else []
+base_by k order z s number name p = if is_base number name then base_said s.unit order z k p else []
 
 base-kept : (k : ValueKind) (number tag name : ℕ) (c : Shift) (order : Order) (z : Located) (s : UnitState) (p q : List Cell) → Becomes (role_of_kind k (use_of number tag name)) c p q
     → base_by k order z s number name q ≡ base_by k order z s number name p
@@ -72,8 +72,8 @@ base-kept (number_of class n) number tag name c order z s p q h = by_start (is_l
     by_start false e h = ap (base_by (number_of class n) order z s number name) h
     by_start true e h =
         let none : is_base number name ≡ false = no-base number name (line-name number tag name (line-use (use_of number tag name) class n e)) in
-        ap (λ (b : Bool). if b then said_by s.unit (base_value order z (number_of class n) q) else []) none
-        ∙ sym (ap (λ (b : Bool). if b then said_by s.unit (base_value order z (number_of class n) p) else []) none)
+        ap (λ (b : Bool). if b then base_said s.unit order z (number_of class n) q else []) none
+        ∙ sym (ap (λ (b : Bool). if b then base_said s.unit order z (number_of class n) p else []) none)
 base-kept k number tag name c order z s p q h = ap (base_by k order z s number name) h
 
 bases-by : (m : Mode) (c : Shift) (order : Order) (z : Located) (s : UnitState) (p q : List Cell) → Becomes (role_of_mode m s.header.params) c p q
@@ -116,9 +116,9 @@ base-of-piece at_header order z w s p number size = refl
 base-of-piece at_code order z w s p number size = refl
 base-of-piece (at_values n tag []) order z w s p number size = refl
 base-of-piece (at_values n tag (x ∷ xs)) order z w s p number size =
-    ap (λ (o : Option ℕ). if is_base n x.name then said_by s.unit o else []) (base-of (kind_in s.header.params x.form) order z w p number size)
+    ap (λ (o : Option ℕ). if is_base n x.name then said_by s.unit (base_placed order (kind_in s.header.params x.form) p) o else []) (base-of (kind_in s.header.params x.form) order z w p number size)
 base-of-piece (at_chosen n tag start x xs) order z w s p number size =
-    ap (λ (o : Option ℕ). if is_base n x.name then said_by s.unit o else []) (base-of (kind_in s.header.params x.form) order z w p number size)
+    ap (λ (o : Option ℕ). if is_base n x.name then said_by s.unit (base_placed order (kind_in s.header.params x.form) p) o else []) (base-of (kind_in s.header.params x.form) order z w p number size)
 base-of-piece stuck order z w s p number size = refl
 
 -- so bases don't go by the bytes of that section

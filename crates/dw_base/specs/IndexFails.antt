@@ -9,7 +9,7 @@ use Rattle.dw_base.specs.Pieces.{Piece}
 use Rattle.dw_base.specs.Refusals.{at}
 use Rattle.dw_base.specs.SlotTexts.{field_text}
 use Rattle.dw_base.specs.TextChanges.{offset_in}
-use Rattle.dw_base.specs.TextIndexes.{Indexing, IndexUse, slot_of, holds_number}
+use Rattle.dw_base.specs.TextIndexes.{Indexing, IndexUse, placed_of, slot_of, holds_number}
 use Rattle.dw_base.specs.Texts.{ends_in}
 use Rattle.dw_base.specs.declared.debug_sections.DebugSection.TheVariants.{Str}
 use Rattle.dw_base.specs.declared.fault.Kind.TheVariants.{StringOffset, StringTable, SharedIndex}
@@ -17,10 +17,11 @@ use Rattle.dw_base.specs.declared.fault.Refusal.{Refusal}
 use Rattle.dw_base.specs.declared.shared.Width.{Width}
 use Rattle.dw_base.specs.declared.texts.TextSection.TheVariants.{InStr}
 
--- the row of indexes, at the value: its unit has no base, no contribution has that base, or it has no such slot
+-- the row of indexes, at the value: its unit has no base, no contribution has that base, or it has no such slot. Of a base that is a symbol
+-- without a place another row holds.
 pub data IndexFails (g : Indexing) : Refusal → Type 0 where
-  no_slot : (before behind : List IndexUse) (u : IndexUse) → g.uses ≡ before ++ u ∷ behind → slot_of g u.unit u.index ≡ None
-      → IndexFails g (at StringTable u.section u.place)
+  no_slot : (before behind : List IndexUse) (u : IndexUse) → g.uses ≡ before ++ u ∷ behind → placed_of g.bases u.unit ≡ true
+      → slot_of g u.unit u.index ≡ None → IndexFails g (at StringTable u.section u.place)
 
 -- a slot among pieces
 pub record HasSlot (xs : List (Piece OffsetState)) (x : Piece OffsetState) : Type 0 where

@@ -1,7 +1,7 @@
 -- The texts that values name by index (DWARF 5, 7.5.5, class string): a unit's first entry names a base, a value an index, and
 -- both together a slot.
 use Rattle.std.specs.Prelude.{Bool, true, false, ℕ, ◌==◌, ◌&&◌, ◌||◌, if◌then◌else◌, List, [], ◌∷◌, ◌++◌, length, IsTrue, ⊤, Option, Some, None}
-use Rattle.dw_base.specs.Cells.{Cell, Located, bytes_of, offset_of}
+use Rattle.dw_base.specs.Cells.{Cell, Located, bytes_of, field_of, is_placed, offset_of}
 use Rattle.dw_base.specs.Readings.{Readings}
 use Rattle.dw_base.specs.Forms.{ValueKind, number_of, leb_number, kind_in}
 use Rattle.dw_base.specs.Numbers.{spelled}
@@ -22,25 +22,34 @@ base_value order z (number_of SecOffset n) p = Some (offset_of order z p)
 base_value order z (leb_number Number) p = Some (code_value p)
 base_value order z k p = None
 
+-- it is a number, or an offset that is one: a symbol without a place is no offset
+abbrev pub base_placed : Order → ValueKind → List Cell → Bool
+base_placed order (number_of Number n) p = if n == 4 || n == 8 then is_placed (field_of order p) else true
+base_placed order (number_of SecOffset n) p = is_placed (field_of order p)
+base_placed order k p = true
+
 -- an attribute that says the base of its unit (DWARF 5, 3.1.1)
 abbrev pub is_base : ℕ → ℕ → Bool
 is_base number name = number == 0 && name == DW_AT_str_offsets_base
 
--- what says a base: the number of a unit, and the base
+-- what says a base: the number of a unit, the base, and whether it is placed
 pub record SaidBase : Type 0 where
   pub unit : ℕ
   pub base : ℕ
+  pub placed : Bool
 
-abbrev pub said_by : ℕ → Option ℕ → List SaidBase
-said_by unit None = []
-said_by unit (Some n) = record { unit = unit; base = n } ∷ []
+abbrev pub said_by : ℕ → Bool → Option ℕ → List SaidBase
+said_by unit placed None = []
+said_by unit placed (Some n) = record { unit = unit; base = n; placed = placed } ∷ []
+
+-- the base that the cells of a value of a kind say of a unit
+abbrev pub base_said : ℕ → Order → Located → ValueKind → List Cell → List SaidBase
+base_said unit order z k p = said_by unit (base_placed order k p) (base_value order z k p)
 
 -- the base that a piece says
 abbrev pub bases_by : Mode → Order → Located → UnitState → List Cell → List SaidBase
-bases_by (at_values number tag (x ∷ xs)) order z s p =
-    if is_base number x.name then said_by s.unit (base_value order z (kind_in s.header.params x.form) p) else []
-bases_by (at_chosen number tag start x xs) order z s p =
-    if is_base number x.name then said_by s.unit (base_value order z (kind_in s.header.params x.form) p) else []
+bases_by (at_values number tag (x ∷ xs)) order z s p = if is_base number x.name then base_said s.unit order z (kind_in s.header.params x.form) p else []
+bases_by (at_chosen number tag start x xs) order z s p = if is_base number x.name then base_said s.unit order z (kind_in s.header.params x.form) p else []
 bases_by m order z s p = []
 
 abbrev pub bases_in : Order → Located → List (Piece UnitState) → List SaidBase
@@ -51,10 +60,18 @@ abbrev pub all_bases : Order → Located → Readings → List SaidBase
 all_bases order z [] = []
 all_bases order z (r ∷ rs) = bases_in order z r.pieces ++ all_bases order z rs
 
+-- what is asked of the first that says the base of a unit
+abbrev pub first_by : {X : Type 0} → (SaidBase → X) → X → List SaidBase → ℕ → X
+first_by ask none [] unit = none
+first_by ask none (x ∷ xs) unit = if x.unit == unit then ask x else first_by ask none xs unit
+
 -- the base of a unit: where several values say one, the first counts
 abbrev pub base_of : List SaidBase → ℕ → Option ℕ
-base_of [] unit = None
-base_of (x ∷ xs) unit = if x.unit == unit then Some x.base else base_of xs unit
+base_of bs unit = first_by (λ (x : SaidBase). Some x.base) None bs unit
+
+-- and whether it is placed, as one is that no value says
+abbrev pub placed_of : List SaidBase → ℕ → Bool
+placed_of bs unit = first_by (λ (x : SaidBase). x.placed) true bs unit
 
 -- the index that the cells of a value of a kind say
 abbrev pub index_value : Order → ValueKind → List Cell → Option ℕ

@@ -1,7 +1,7 @@
 -- The base of a unit's texts by index: the number that it says, and where a relocation refuses it.
-use Rattle.std.proofs.Common.{◌≡◌, ℕ, ◌+◌, ◌≤◌, List, length, Option, Some, None, refl, sym, ap, ◌∙◌, subst}
+use Rattle.std.proofs.Common.{true, ◌≡◌, ℕ, ◌+◌, ◌≤◌, List, length, Option, Some, None, refl, sym, ap, ◌∙◌, subst}
 use Rattle.dw_base.specs.AbbreviationTables.{Abbreviation}
-use Rattle.dw_base.specs.Cells.{Cell, Located, bytes_of, cells_at, offset_of}
+use Rattle.dw_base.specs.Cells.{Cell, Located, bytes_of, cells_at, field_of, is_placed, offset_of}
 use Rattle.dw_base.specs.DebugData.{DebugData}
 use Rattle.dw_base.specs.EntryValues.{HasUnit, bytes_up_to}
 use Rattle.dw_base.specs.FileViews.{View, section_bytes, view_cells}
@@ -21,7 +21,7 @@ use Rattle.dw_find.specs.EntryTexts.{Tables, FoundTexts, with_base, with_places}
 use Rattle.dw_find.specs.FieldOffsets.{BaseLies, BaseRefuses}
 use Rattle.dw_find.specs.Fields.{IsStartField}
 use Rattle.dw_find.specs.NamedSlots.{Slots, TakesIndexes}
-use Rattle.dw_find.specs.TextPlaces.{base_in, base_source, entries_places, number_said}
+use Rattle.dw_find.specs.TextPlaces.{base_in, base_source, entries_places, number_said, said_placed}
 use Rattle.dw_find.specs.UnitTexts.{ScanTaken, UnitsRefuse, relocation_fails}
 use Rattle.dw_find.specs.declared.fields.TextBase.{TextBase}
 use Rattle.dw_find.specs.declared.fields.TextBase.TheVariants.{Field as BaseField, Number as BaseNumber}
@@ -44,6 +44,17 @@ number-field v cells b f n is read =
     ap Some (read ∙ ap (λ (z : Located). offset_of v.order z (cells_at cells f.at f.size)) (sym (offsets-located v)))
     ∙ ap (number_said (base_source (debug_data v)) cells) (sym is)
 
+pub placed-none : (v : View) (cells : List Cell) (b : Option TextBase) → b ≡ None → said_placed (base_source (debug_data v)) cells b ≡ true
+placed-none v cells b is = ap (said_placed (base_source (debug_data v)) cells) is
+
+pub placed-some : (v : View) (cells : List Cell) (b : Option TextBase) (n : ℕ) → b ≡ Some (BaseNumber n) → said_placed (base_source (debug_data v)) cells b ≡ true
+placed-some v cells b n is = ap (said_placed (base_source (debug_data v)) cells) is
+
+pub placed-field : (v : View) (cells : List Cell) (b : Option TextBase) (f : TextField) → b ≡ Some (BaseField f)
+    → is_placed (field_of v.order (cells_at cells f.at f.size)) ≡ true → said_placed (base_source (debug_data v)) cells b ≡ true
+unfolding debug_data
+placed-field v cells b f is placed = ap (said_placed (base_source (debug_data v)) cells) is ∙ placed
+
 pub field-lies : (info : List ℕ) (b : Option TextBase) (f : TextField) → b ≡ Some (BaseField f) → BaseLies info b → IsStartField info f
 field-lies info b f is lies = subst (BaseLies info) is lies
 
@@ -51,7 +62,7 @@ pub field-refuses : (order : Order) (section : ℕ) (cells : List Cell) (b : Opt
     → OffsetFails order section cells (field_place f.at f.size offset_field) r → BaseRefuses order section cells b r
 field-refuses order section cells b f r is fails = subst (λ (x : Option TextBase). BaseRefuses order section cells x r) (sym is) fails
 
-pub ruleset number_rules = (number-none, number-some, number-field, field-lies, field-refuses)
+pub ruleset number_rules = (number-none, number-some, number-field, placed-none, placed-some, placed-field, field-lies, field-refuses)
 
 -- the section of a unit
 unit-own : (v : View) (h : UnitHeader) → HasUnit (debug_data v) (unit_section_at v h.section) h → IsOfView v h.section (unit_section_at v h.section)
@@ -118,6 +129,11 @@ base-row v h t table old found r u declares none s = by_base found.base refl
         relocation_fails (facts.row r
         (subst (λ (n : ℕ). OffsetFails v.order n (unit_section_at v h.section).contents (field_place f.at f.size offset_field) r) (sym (unit-number v h u))
         (subst (λ (cs : List Cell). OffsetFails v.order h.section cs (field_place f.at f.size offset_field) r) (sym (unit-cells v h u)) fails)))
+
+-- it is placed by its cells,
+pub base-placed : (v : View) (h : UnitHeader) (base : Option TextBase) → HasUnit (debug_data v) (unit_section_at v h.section) h
+    → said_placed (base_source (debug_data v)) (view_cells v h.section) base ≡ true → said_placed (base_source (debug_data v)) (unit_section_at v h.section).contents base ≡ true
+base-placed v h base u placed = ap (λ (cs : List Cell). said_placed (base_source (debug_data v)) cs base) (unit-cells v h u) ∙ placed
 
 -- and its number is that of its cells
 pub base-taken : (v : View) (h : UnitHeader) (base : Option TextBase) (n : Option ℕ) (xs : List TextIndex) (before now : Slots) → HasUnit (debug_data v) (unit_section_at v h.section) h

@@ -1,7 +1,7 @@
 -- What the pieces of units say by index is what their places say, with the number of the unit.
 use Rattle.std.proofs.Common.{Bool, true, false, ◌≡◌, ℕ, ◌+◌, ◌-◌, ◌==◌, ◌||◌, List, [], ◌∷◌, ◌++◌, length, cond, if◌then◌else◌, Option, Some, None, refl, sym, ap, ◌∙◌, arith, append_assoc, append-nil}
 use Rattle.dw_base.specs.AbbreviationTables.{Abbreviation, abbreviation_of}
-use Rattle.dw_base.specs.Cells.{Cell, Located, bytes_of, cells_at, offset_of}
+use Rattle.dw_base.specs.Cells.{Cell, Located, bytes_of, cells_at, field_of, is_placed, offset_of}
 use Rattle.dw_base.specs.DebugData.{begins_by, units_in}
 use Rattle.dw_base.specs.EntryScans.{depth_behind}
 use Rattle.dw_base.specs.Forms.{ValueKind, number_of, leb_number, form_in_front, kind_in}
@@ -9,7 +9,7 @@ use Rattle.dw_base.specs.Numbers.{spelled}
 use Rattle.dw_base.specs.Pieces.{Piece, EachPiece, Leads}
 use Rattle.dw_base.specs.Roles.{Role, fixed, offset, inline_path, line_start, role_of, is_path, use_of}
 use Rattle.dw_base.specs.TableStarts.{macro_value_by, start_form_by}
-use Rattle.dw_base.specs.TextIndexes.{SaidBase, IndexUse, base_value, bases_by, bases_in, index_value, is_base, said_by, use_by, uses_by, uses_in}
+use Rattle.dw_base.specs.TextIndexes.{SaidBase, IndexUse, base_said, bases_by, bases_in, index_value, is_base, use_by, uses_by, uses_in}
 use Rattle.dw_base.specs.UnitHeaders.{UnitBase}
 use Rattle.dw_base.specs.UnitPieces.{unit_grammar}
 use Rattle.dw_base.specs.UnitStates.{Mode, at_header, at_code, at_values, at_chosen, stuck, UnitState, before_unit, in_unit, between, inside, headed, after_header, after_entry, after_code, after_value, code_value, piece_header, past}
@@ -152,17 +152,18 @@ run-uses order cells section unit (x ∷ xs) each =
 
 -- a value that says a base
 base-says : (field : Bool) (g : BaseSource) (cells : List Cell) (unit begin at : ℕ) (p : List Cell) → cells_at cells at (length p) ≡ p
-    → record { unit = unit; base = if field then offset_of g.order g.offsets p else spelled g.order (bytes_of p) 0 (length p) } ∷ []
+    → record { unit = unit; base = if field then offset_of g.order g.offsets p else spelled g.order (bytes_of p) 0 (length p); placed = if field then is_placed (field_of g.order p) else true } ∷ []
     ≡ bases_among g cells unit (said_base field begin at (length p) (spelled g.order (bytes_of p) 0 (length p)))
-base-says true g cells unit begin at p stands = ap (λ (q : List Cell). record { unit = unit; base = offset_of g.order g.offsets q } ∷ []) (sym stands)
+base-says true g cells unit begin at p stands =
+    ap (λ (q : List Cell). record { unit = unit; base = offset_of g.order g.offsets q; placed = is_placed (field_of g.order q) } ∷ []) (sym stands)
 base-says false g cells unit begin at p stands = refl
 
 kind-bases : (k : ValueKind) (path base : Bool) (g : BaseSource) (cells : List Cell) (s : UnitState) (begin at : ℕ) (p : List Cell) → cells_at cells at (length p) ≡ p
-    → (if base then said_by s.unit (base_value g.order g.offsets k p) else []) ≡ bases_among g cells s.unit (indexed_kind k path base g.order begin at (length p) p)
+    → (if base then base_said s.unit g.order g.offsets k p else []) ≡ bases_among g cells s.unit (indexed_kind k path base g.order begin at (length p) p)
 kind-bases (number_of class n) path base g cells s begin at p stands = by_class class base
   where
     by_class : (c : ValueClass) (b : Bool)
-        → (if b then said_by s.unit (base_value g.order g.offsets (number_of c n) p) else [])
+        → (if b then base_said s.unit g.order g.offsets (number_of c n) p else [])
         ≡ bases_among g cells s.unit (indexed_kind (number_of c n) path b g.order begin at (length p) p)
     by_class StrIndex true = refl
     by_class StrIndex false = refl
@@ -175,7 +176,7 @@ kind-bases (number_of class n) path base g cells s begin at p stands = by_class 
 kind-bases (leb_number class) path base g cells s begin at p stands = by_class class base
   where
     by_class : (c : ValueClass) (b : Bool)
-        → (if b then said_by s.unit (base_value g.order g.offsets (leb_number c) p) else [])
+        → (if b then base_said s.unit g.order g.offsets (leb_number c) p else [])
         ≡ bases_among g cells s.unit (indexed_kind (leb_number c) path b g.order begin at (length p) p)
     by_class StrIndex true = refl
     by_class StrIndex false = refl

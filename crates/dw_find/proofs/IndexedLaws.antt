@@ -8,7 +8,7 @@ use Rattle.dw_base.specs.FileViews.{View}
 use Rattle.dw_base.specs.IndexFails.{no_slot}
 use Rattle.dw_base.specs.Readings.{Readings}
 use Rattle.dw_base.specs.Refusals.{Blames, at as refusal_at}
-use Rattle.dw_base.specs.TextIndexes.{SaidBase, IndexUse, Indexing, EachUse, NamesSlot, all_bases, base_of, index_uses, slot_of}
+use Rattle.dw_base.specs.TextIndexes.{SaidBase, IndexUse, Indexing, EachUse, NamesSlot, all_bases, base_of, first_by, index_uses, placed_of, slot_of}
 use Rattle.dw_base.specs.UnitHeaders.{UnitSection}
 use Rattle.dw_base.specs.ViewData.{debug_data}
 use Rattle.dw_base.specs.declared.debug_sections.DebugSection.TheVariants.{Info, StrOffsets}
@@ -25,8 +25,9 @@ use Rattle.dw_offsets.proofs.SlotMarkLaws.{marks-none}
 use Rattle.dw_find.specs.IndexedTexts.{indexing_with, SlotsMarked, TextsIndexed, TextsRefuse, units, index, starts}
 use Rattle.dw_find.specs.LineStarts.{StartsRefuse, reads_none, says_none}
 use Rattle.dw_find.specs.NamedSlots.{Slots, no_slots, name_slot, first_refusal, missing_at, missing_in, units_name, units_missing}
-use Rattle.dw_find.specs.TextPlaces.{TextPlace, BaseSource, Indexed, base_offset, base_source, number_said, unit_number, no_index, no_start, unit_start, unit_base, text_index, UnitSays, SectionSays, base_or, base_in, base_at, bases_among, index_at, indexes_in, use_at, uses_among, numbered_uses, numbered_bases}
+use Rattle.dw_find.specs.TextPlaces.{AllBasesPlaced, TextPlace, BaseSource, Indexed, base_number, base_offset, base_source, number_placed, number_said, said_placed, unit_base_placed, unit_number, no_index, no_start, unit_start, unit_base, text_index, UnitSays, SectionSays, base_or, base_in, base_at, bases_among, index_at, indexes_in, use_at, uses_among, numbered_uses, numbered_bases}
 use Rattle.dw_find.specs.SectionFields.{SectionFields}
+use Rattle.dw_find.specs.declared.fields.TextBase.{TextBase}
 use Rattle.dw_find.specs.UnitTexts.{AllTaken, AllIndexed, UnitsRefuse, relocation_fails, units_taken}
 use Rattle.dw_find.proofs.SectionRunLaws.{PlacedPieces, section-placed, sourced}
 
@@ -77,24 +78,24 @@ said-readings d first (z ∷ zs) (u ∷ us) all =
           ∙ sym (numbered_bases-append (sourced d.base y) first s.section.units (units_taken d zs us all.1));
     }
 
--- the base of a unit: what its own values say, since those of others have other numbers
-abbrev or_base : Option ℕ → Option ℕ → Option ℕ
-or_base None o = o
-or_base (Some n) o = Some n
+-- what is asked of the base of a unit: of what its own values say, since those of others have other numbers
+abbrev base_with : BaseSource → List Cell → ℕ → TextBase → SaidBase
+base_with g cells n b = record { unit = n; base = base_number g cells b; placed = number_placed g cells b }
 
-or_base-none : (o : Option ℕ) → or_base o None ≡ o
-or_base-none None = refl
-or_base-none (Some n) = refl
+abbrev or_base : {X : Type 0} → (SaidBase → X) → BaseSource → List Cell → ℕ → Option TextBase → X → X
+or_base ask g cells n None rest = rest
+or_base ask g cells n (Some b) rest = ask (base_with g cells n b)
 
-own-base : (g : BaseSource) (cells : List Cell) (n : ℕ) (ts : List TextPlace) (rest : List SaidBase)
-    → base_of (bases_among g cells n ts ++ rest) n ≡ or_base (number_said g cells (base_in ts)) (base_of rest n)
-own-base g cells n [] rest = refl
-own-base g cells n (t ∷ ts) rest =
-    ap (λ (xs : List SaidBase). base_of xs n) (append_assoc (base_at g cells n t.at t.len t.says) (bases_among g cells n ts) rest)
-    ∙ by_says t.says (own-base g cells n ts rest)
+own-base : {X : Type 0} (ask : SaidBase → X) (none : X) (g : BaseSource) (cells : List Cell) (n : ℕ) (ts : List TextPlace) (rest : List SaidBase)
+    → first_by ask none (bases_among g cells n ts ++ rest) n ≡ or_base ask g cells n (base_in ts) (first_by ask none rest n)
+own-base ask none g cells n [] rest = refl
+own-base ask none g cells n (t ∷ ts) rest =
+    ap (λ (xs : List SaidBase). first_by ask none xs n) (append_assoc (base_at g cells n t.at t.len t.says) (bases_among g cells n ts) rest)
+    ∙ by_says t.says (own-base ask none g cells n ts rest)
   where
-    by_says : (i : Indexed) → base_of (bases_among g cells n ts ++ rest) n ≡ or_base (number_said g cells (base_in ts)) (base_of rest n)
-        → base_of (base_at g cells n t.at t.len i ++ (bases_among g cells n ts ++ rest)) n ≡ or_base (number_said g cells (base_or t.at t.len i (base_in ts))) (base_of rest n)
+    by_says : (i : Indexed) → first_by ask none (bases_among g cells n ts ++ rest) n ≡ or_base ask g cells n (base_in ts) (first_by ask none rest n)
+        → first_by ask none (base_at g cells n t.at t.len i ++ (bases_among g cells n ts ++ rest)) n
+        ≡ or_base ask g cells n (base_or t.at t.len i (base_in ts)) (first_by ask none rest n)
     by_says no_index e = e
     by_says no_start e = e
     by_says unit_start e = e
@@ -102,15 +103,15 @@ own-base g cells n (t ∷ ts) rest =
     by_says (unit_base b) e = rw (eq-eqb n n refl) refl
     by_says base_offset e = rw (eq-eqb n n refl) refl
 
-other-base : (g : BaseSource) (cells : List Cell) (n m : ℕ) (ts : List TextPlace) (rest : List SaidBase) → n ≢ m
-    → base_of (bases_among g cells n ts ++ rest) m ≡ base_of rest m
-other-base g cells n m [] rest other = refl
-other-base g cells n m (t ∷ ts) rest other =
-    ap (λ (xs : List SaidBase). base_of xs m) (append_assoc (base_at g cells n t.at t.len t.says) (bases_among g cells n ts) rest)
-    ∙ by_says t.says (other-base g cells n m ts rest other)
+other-base : {X : Type 0} (ask : SaidBase → X) (none : X) (g : BaseSource) (cells : List Cell) (n m : ℕ) (ts : List TextPlace) (rest : List SaidBase) → n ≢ m
+    → first_by ask none (bases_among g cells n ts ++ rest) m ≡ first_by ask none rest m
+other-base ask none g cells n m [] rest other = refl
+other-base ask none g cells n m (t ∷ ts) rest other =
+    ap (λ (xs : List SaidBase). first_by ask none xs m) (append_assoc (base_at g cells n t.at t.len t.says) (bases_among g cells n ts) rest)
+    ∙ by_says t.says (other-base ask none g cells n m ts rest other)
   where
-    by_says : (i : Indexed) → base_of (bases_among g cells n ts ++ rest) m ≡ base_of rest m
-        → base_of (base_at g cells n t.at t.len i ++ (bases_among g cells n ts ++ rest)) m ≡ base_of rest m
+    by_says : (i : Indexed) → first_by ask none (bases_among g cells n ts ++ rest) m ≡ first_by ask none rest m
+        → first_by ask none (base_at g cells n t.at t.len i ++ (bases_among g cells n ts ++ rest)) m ≡ first_by ask none rest m
     by_says no_index e = e
     by_says no_start e = e
     by_says unit_start e = e
@@ -118,26 +119,41 @@ other-base g cells n m (t ∷ ts) rest other =
     by_says (unit_base b) e = rw (ne_eqb n m other) e
     by_says base_offset e = rw (ne_eqb n m other) e
 
-no-base : (g : BaseSource) (n m : ℕ) (us : List UnitSays) → m < n → base_of (numbered_bases g n us) m ≡ None
-no-base g n m [] lt = refl
-no-base g n m (u ∷ us) lt =
-    other-base g u.cells n m u.places (numbered_bases g (n + 1) us) (λ e. omega (arith, e, lt)) ∙ no-base g (n + 1) m us (omega (arith, lt))
+no-base : {X : Type 0} (ask : SaidBase → X) (none : X) (g : BaseSource) (n m : ℕ) (us : List UnitSays) → m < n → first_by ask none (numbered_bases g n us) m ≡ none
+no-base ask none g n m [] lt = refl
+no-base ask none g n m (u ∷ us) lt =
+    other-base ask none g u.cells n m u.places (numbered_bases g (n + 1) us) (λ e. omega (arith, e, lt)) ∙ no-base ask none g (n + 1) m us (omega (arith, lt))
 
-first-base : (g : BaseSource) (n : ℕ) (u : UnitSays) (us : List UnitSays) → base_of (numbered_bases g n (u ∷ us)) n ≡ unit_number g u
-first-base g n u us =
-    own-base g u.cells n u.places (numbered_bases g (n + 1) us) ∙ ap (or_base (unit_number g u)) (no-base g (n + 1) n us (omega arith)) ∙ or_base-none (unit_number g u)
+first-base : {X : Type 0} (ask : SaidBase → X) (none : X) (g : BaseSource) (n : ℕ) (u : UnitSays) (us : List UnitSays)
+    → first_by ask none (numbered_bases g n (u ∷ us)) n ≡ or_base ask g u.cells n (base_in u.places) none
+first-base ask none g n u us =
+    own-base ask none g u.cells n u.places (numbered_bases g (n + 1) us) ∙ ap (or_base ask g u.cells n (base_in u.places)) (no-base ask none g (n + 1) n us (omega arith))
 
 -- the bases that values go by are those of these units, from a number on
 record BasesAre (g : BaseSource) (bs : List SaidBase) (n : ℕ) (us : List UnitSays) : Type 0 where
   each : (m : ℕ) → n ≤ m → base_of bs m ≡ base_of (numbered_bases g n us) m
+  placed : (m : ℕ) → n ≤ m → placed_of bs m ≡ placed_of (numbered_bases g n us) m
 
 bases-first : (g : BaseSource) (bs : List SaidBase) (n : ℕ) (u : UnitSays) (us : List UnitSays) → BasesAre g bs n (u ∷ us) → base_of bs n ≡ unit_number g u
-bases-first g bs n u us b = b.each n (omega arith) ∙ first-base g n u us
+bases-first g bs n u us b = b.each n (omega arith) ∙ first-base (λ (x : SaidBase). Some x.base) None g n u us ∙ by_base (base_in u.places)
+  where
+    by_base : (o : Option TextBase) → or_base (λ (x : SaidBase). Some x.base) g u.cells n o None ≡ number_said g u.cells o
+    by_base None = refl
+    by_base (Some t) = refl
+
+placed-first : (g : BaseSource) (bs : List SaidBase) (n : ℕ) (u : UnitSays) (us : List UnitSays) → BasesAre g bs n (u ∷ us) → placed_of bs n ≡ unit_base_placed g u
+placed-first g bs n u us b = b.placed n (omega arith) ∙ first-base (λ (x : SaidBase). x.placed) true g n u us ∙ by_base (base_in u.places)
+  where
+    by_base : (o : Option TextBase) → or_base (λ (x : SaidBase). x.placed) g u.cells n o true ≡ said_placed g u.cells o
+    by_base None = refl
+    by_base (Some t) = refl
 
 bases-rest : (g : BaseSource) (bs : List SaidBase) (n : ℕ) (u : UnitSays) (us : List UnitSays) → BasesAre g bs n (u ∷ us) → BasesAre g bs (n + 1) us
 bases-rest g bs n u us b = record {
   each = λ (m : ℕ) (le : n + 1 ≤ m).
-      b.each m (omega (arith, le)) ∙ other-base g u.cells n m u.places (numbered_bases g (n + 1) us) (λ (e : n ≡ m). omega (arith, e, le));
+      b.each m (omega (arith, le)) ∙ other-base (λ (x : SaidBase). Some x.base) None g u.cells n m u.places (numbered_bases g (n + 1) us) (λ (e : n ≡ m). omega (arith, e, le));
+  placed = λ (m : ℕ) (le : n + 1 ≤ m).
+      b.placed m (omega (arith, le)) ∙ other-base (λ (x : SaidBase). x.placed) true g u.cells n m u.places (numbered_bases g (n + 1) us) (λ (e : n ≡ m). omega (arith, e, le));
 }
 
 -- the slots that the values of a unit name
@@ -223,6 +239,7 @@ record FirstMissing (g : Indexing) (uses : List IndexUse) (r : Refusal) : Type 0
   behind : List IndexUse
   one : IndexUse
   split : uses ≡ before ++ one ∷ behind
+  placed : placed_of g.bases one.unit ≡ true
   none : slot_of g one.unit one.index ≡ None
   is : r ≡ refusal_at StringTable one.section one.place
 
@@ -232,26 +249,27 @@ missing-behind g xs uses r f = record {
   behind = f.behind;
   one = f.one;
   split = ap (λ (ys : List IndexUse). xs ++ ys) f.split ∙ sym (append_assoc xs f.before (f.one ∷ f.behind));
+  placed = f.placed;
   none = f.none;
   is = f.is;
 }
 
-missing-here : (g : Indexing) (uses : List IndexUse) (u : IndexUse) (o : Option ℕ) (r : Refusal) (other : Option Refusal) → use_place g u ≡ o
+missing-here : (g : Indexing) (uses : List IndexUse) (u : IndexUse) (o : Option ℕ) (r : Refusal) (other : Option Refusal) → placed_of g.bases u.unit ≡ true → use_place g u ≡ o
     → first_refusal (missing_at u.section u.place o) other ≡ Some r → (other ≡ Some r → FirstMissing g uses r) → FirstMissing g (u ∷ uses) r
-missing-here g uses u None r other is e next =
-    record { before = []; behind = uses; one = u; split = refl; none = no-slot g u is; is = same (refusal_at StringTable u.section u.place) r e }
+missing-here g uses u None r other placed is e next =
+    record { before = []; behind = uses; one = u; split = refl; placed = placed; none = no-slot g u is; is = same (refusal_at StringTable u.section u.place) r e }
   where
     same : (a b : Refusal) → Some a ≡ Some b → b ≡ a
     same a b e = cc
-missing-here g uses u (Some p) r other is e next = missing-behind g (u ∷ []) uses r (next e)
+missing-here g uses u (Some p) r other placed is e next = missing-behind g (u ∷ []) uses r (next e)
 
-unit-missing : (g : Indexing) (section n : ℕ) (b : Option ℕ) (ts : List TextPlace) (rest : List IndexUse) (r : Refusal) (other : Option Refusal) → base_of g.bases n ≡ b
-    → first_refusal (missing_in section b g.contributions (indexes_in ts)) other ≡ Some r → (other ≡ Some r → FirstMissing g rest r)
+unit-missing : (g : Indexing) (section n : ℕ) (b : Option ℕ) (ts : List TextPlace) (rest : List IndexUse) (r : Refusal) (other : Option Refusal) → placed_of g.bases n ≡ true
+    → base_of g.bases n ≡ b → first_refusal (missing_in section b g.contributions (indexes_in ts)) other ≡ Some r → (other ≡ Some r → FirstMissing g rest r)
     → FirstMissing g (uses_among section n ts ++ rest) r
-unit-missing g section n b [] rest r other is e next = next e
-unit-missing g section n b (t ∷ ts) rest r other is e next =
+unit-missing g section n b [] rest r other placed is e next = next e
+unit-missing g section n b (t ∷ ts) rest r other placed is e next =
     subst (λ (xs : List IndexUse). FirstMissing g xs r) (sym (append_assoc (use_at section n t.at t.says) (uses_among section n ts) rest))
-    (by_says t.says e (λ f. unit-missing g section n b ts rest r other is f next))
+    (by_says t.says e (λ f. unit-missing g section n b ts rest r other placed is f next))
   where
     first-assoc : (a c d : Option Refusal) → first_refusal (first_refusal a c) d ≡ first_refusal a (first_refusal c d)
     first-assoc None c d = refl
@@ -267,18 +285,18 @@ unit-missing g section n b (t ∷ ts) rest r other is e next =
     by_says base_offset e more = more e
     by_says (text_index path x) e more =
         missing-here g (uses_among section n ts ++ rest) (record { section = section; place = t.at; unit = n; path = path; index = x }) (place_by b g.contributions x) r
-        (first_refusal (missing_in section b g.contributions (indexes_in ts)) other) (ap (λ (y : Option ℕ). place_by y g.contributions x) is)
+        (first_refusal (missing_in section b g.contributions (indexes_in ts)) other) placed (ap (λ (y : Option ℕ). place_by y g.contributions x) is)
         (sym (first-assoc (missing_at section t.at (place_by b g.contributions x)) (missing_in section b g.contributions (indexes_in ts)) other) ∙ e) more
 
 none-some : (r : Refusal) → None ≡ Some r → ⊥
 none-some r e = cc
 
-units-missing : (o : BaseSource) (g : Indexing) (n : ℕ) (us : List UnitSays) (r : Refusal) → BasesAre o g.bases n us → units_missing o g.contributions us ≡ Some r
+units-missing : (o : BaseSource) (g : Indexing) (n : ℕ) (us : List UnitSays) (r : Refusal) → BasesAre o g.bases n us → AllBasesPlaced o us → units_missing o g.contributions us ≡ Some r
     → FirstMissing g (numbered_uses n us) r
-units-missing o g n [] r b e = absurd (none-some r e)
-units-missing o g n (u ∷ us) r b e =
-    unit-missing g u.section n (unit_number o u) u.places (numbered_uses (n + 1) us) r (units_missing o g.contributions us) (bases-first o g.bases n u us b) e
-    (λ f. units-missing o g (n + 1) us r (bases-rest o g.bases n u us b) f)
+units-missing o g n [] r b placed e = absurd (none-some r e)
+units-missing o g n (u ∷ us) r b placed e =
+    unit-missing g u.section n (unit_number o u) u.places (numbered_uses (n + 1) us) r (units_missing o g.contributions us)
+    (placed-first o g.bases n u us b ∙ placed.0) (bases-first o g.bases n u us b) e (λ f. units-missing o g (n + 1) us r (bases-rest o g.bases n u us b) placed.1 f)
 
 -- the units of debug data that were read are these pieces, and go by these bases
 record Said (d : DebugData) (list : List Contribution) (said : List UnitSays) (r : Readings) : Type 0 where
@@ -291,7 +309,10 @@ said-by d list us r all reads =
     let f : SaidReadings d 0 (d.found Info) (units_taken d (d.found Info) us all) = said-readings d 0 (d.found Info) us all in
     subst (Said d list (units_taken d (d.found Info) us all)) (readings-one d.base 0 (d.found Info) f.readings r f.reads reads) (record {
       uses = f.uses;
-      bases = record { each = λ (m : ℕ) (le : 0 ≤ m). ap (λ (xs : List SaidBase). base_of xs m) (f.bases (located_cells (d.found StrOffsets))) };
+      bases = record {
+        each = λ (m : ℕ) (le : 0 ≤ m). ap (λ (xs : List SaidBase). base_of xs m) (f.bases (located_cells (d.found StrOffsets)));
+        placed = λ (m : ℕ) (le : 0 ≤ m). ap (λ (xs : List SaidBase). placed_of xs m) (f.bases (located_cells (d.found StrOffsets)));
+      };
     })
 
 -- nothing was marked at first
@@ -329,8 +350,8 @@ missing-row d list n us now r all some =
     let f : SaidReadings d 0 (d.found Info) (units_taken d (d.found Info) us all.taken) = said-readings d 0 (d.found Info) us all.taken in
     let g : Indexing = indexing_with d list f.readings in
     let s : Said d list (units_taken d (d.found Info) us all.taken) f.readings = said-by d list us f.readings all.taken f.reads in
-    let m : FirstMissing g (numbered_uses 0 said) r = units-missing (base_source d) g 0 said r s.bases (sym all.slots.missing ∙ some) in
-    subst (TextsRefuse d list) (sym m.is) (index f.readings f.reads (no_slot m.before m.behind m.one (s.uses ∙ m.split) m.none))
+    let m : FirstMissing g (numbered_uses 0 said) r = units-missing (base_source d) g 0 said r s.bases all.slots.placed (sym all.slots.missing ∙ some) in
+    subst (TextsRefuse d list) (sym m.is) (index f.readings f.reads (no_slot m.before m.behind m.one (s.uses ∙ m.split) m.placed m.none))
 
 -- the same of the debug data of a view
 pub whole-taken : (d : DebugData) (us : List SectionFields) (old now : Slots) → AllIndexed d (d.found Info) us old now → AllTaken d (d.found Info) us

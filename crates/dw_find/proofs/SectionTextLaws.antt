@@ -9,7 +9,7 @@ use Rattle.dw_base.specs.declared.units.UnitHeader.{UnitHeader}
 use Rattle.dw_entries.specs.ViewUnits.{numbered}
 use Rattle.dw_find.specs.EntryTexts.{FoundTexts, with_paths, with_places, no_paths, none_found}
 use Rattle.dw_find.specs.NamedSlots.{Slots, TakesIndexes, TakesUnits}
-use Rattle.dw_find.specs.TextPlaces.{TextPlace, BaseSource, UnitSays, base_in, base_source, number_said, entries_places, indexes_in, UnitsPlaced, none_placed, more_placed, PlacesName, SectionSays}
+use Rattle.dw_find.specs.TextPlaces.{TextPlace, BaseSource, UnitSays, base_in, base_source, number_said, said_placed, entries_places, indexes_in, UnitsPlaced, none_placed, more_placed, PlacesName, SectionSays}
 use Rattle.dw_find.specs.SectionFields.{SectionFields}
 use Rattle.dw_find.specs.declared.fields.TextBase.{TextBase}
 use Rattle.dw_find.specs.declared.fields.TextIndex.{TextIndex}
@@ -118,14 +118,14 @@ units-append d z (x ∷ xs) h all one = (all.0, units-append d z xs h all.1 one)
 
 -- what a unit says by index goes to the slots
 one-says : (g : BaseSource) (h : UnitHeader) (z : UnitSection) (p : SectionFields) (old found : FoundTexts) (here : List TextPlace) (before now : Slots) → h.section ≡ z.number
-    → old ≡ none_found p → found ≡ with_places old here → TakesIndexes h.section (number_said g z.contents found.base) found.indexes before now
+    → old ≡ none_found p → found ≡ with_places old here → said_placed g z.contents found.base ≡ true → TakesIndexes h.section (number_said g z.contents found.base) found.indexes before now
     → TakesUnits g (record { section = z.number; cells = z.contents; places = here } ∷ []) before now
 unfolding with_places
-one-says g h z p old found here before now section start is t =
+one-says g h z p old found here before now section start is placed t =
     let says : found ≡ with_places (none_found p) here = is ∙ ap (λ (x : FoundTexts). with_places x here) start in
     let base : found.base ≡ base_in here = ap (λ (x : FoundTexts). x.base) says in
     let indexes : found.indexes ≡ indexes_in here = ap (λ (x : FoundTexts). x.indexes) says in
-    units-one g (record { section = z.number; cells = z.contents; places = here }) before now
+    units-one g (record { section = z.number; cells = z.contents; places = here }) before now (sym (ap (said_placed g z.contents) base) ∙ placed)
     (subst (λ (n : ℕ). TakesIndexes n (number_said g z.contents (base_in here)) (indexes_in here) before now) section
     (subst (λ (xs : List TextIndex). TakesIndexes h.section (number_said g z.contents (base_in here)) xs before now) indexes
     (subst (λ (b : Option TextBase). TakesIndexes h.section (number_said g z.contents b) found.indexes before now) base t)))
@@ -157,7 +157,7 @@ section-more d z list i old new h first now next_slots lt is section p one =
       found_is =
           one.ends ∙ ap none_found (paths-say before_ old one.found here p.found_is s.found ∙ with_paths-more (no_paths z.number) p.places here);
       slots = units-more (base_source d) p.units (record { section = z.number; cells = z.contents; places = here } ∷ []) first now next_slots p.slots
-          (one-says (base_source d) h z before_ old one.found here now next_slots section p.found_is s.found one.slots);
+          (one-says (base_source d) h z before_ old one.found here now next_slots section p.found_is s.found one.placed one.slots);
       headers = p.headers;
     }
 

@@ -14,7 +14,7 @@ use Rattle.dw_base.specs.declared.string_offsets.Contribution.{Contribution}
 use Rattle.dw_offsets.specs.NamedPlaces.{place_by, is_place, is_kind}
 use Rattle.dw_offsets.specs.SlotMarks.{marked, IsMarked}
 use Rattle.dw_find.specs.NamedSlots.{Slots, LieWithin, names_slot, name_slot, first_refusal, missing_at, missing_in, TakesIndexes, units_name, units_missing, TakesUnits}
-use Rattle.dw_find.specs.TextPlaces.{BaseSource, UnitSays, indexes_in, unit_number}
+use Rattle.dw_find.specs.TextPlaces.{AllBasesPlaced, BaseSource, UnitSays, indexes_in, unit_base_placed, unit_number}
 use Rattle.dw_find.specs.declared.fields.TextIndex.{TextIndex}
 
 -- contributions that can be read lie in their section
@@ -182,10 +182,11 @@ pub ruleset all_rules = (indexes-none, indexes-step, indexes-all)
 
 -- no unit, one unit, and more units
 pub units-none : (g : BaseSource) (s : Slots) → TakesUnits g [] s s
-units-none g s = record { list_is = refl; marks = λ kind place. or-false (marked kind s.marks place); missing = first-none s.missing }
+units-none g s = record { placed = tt; list_is = refl; marks = λ kind place. or-false (marked kind s.marks place); missing = first-none s.missing }
 
-pub units-one : (g : BaseSource) (u : UnitSays) (a b : Slots) → TakesIndexes u.section (unit_number g u) (indexes_in u.places) a b → TakesUnits g (u ∷ []) a b
-units-one g u a b t = record {
+pub units-one : (g : BaseSource) (u : UnitSays) (a b : Slots) → unit_base_placed g u ≡ true → TakesIndexes u.section (unit_number g u) (indexes_in u.places) a b → TakesUnits g (u ∷ []) a b
+units-one g u a b placed t = record {
+  placed = (placed, tt);
   list_is = t.list_is;
   marks = λ (kind : Bool) (place : ℕ).
       t.marks kind place ∙ sym (or-none (marked kind a.marks place) (name_slot kind (unit_number g u) a.list (indexes_in u.places) place));
@@ -205,8 +206,13 @@ units_missing-append g list (u ∷ us) vs =
     ap (first_refusal (missing_in u.section (unit_number g u) list (indexes_in u.places))) (units_missing-append g list us vs)
     ∙ sym (first-assoc (missing_in u.section (unit_number g u) list (indexes_in u.places)) (units_missing g list us) (units_missing g list vs))
 
+placed-append : (g : BaseSource) (us vs : List UnitSays) → AllBasesPlaced g us → AllBasesPlaced g vs → AllBasesPlaced g (us ++ vs)
+placed-append g [] vs all more = more
+placed-append g (u ∷ us) vs all more = (all.0, placed-append g us vs all.1 more)
+
 pub units-more : (g : BaseSource) (us vs : List UnitSays) (a b c : Slots) → TakesUnits g us a b → TakesUnits g vs b c → TakesUnits g (us ++ vs) a c
 units-more g us vs a b c m n = record {
+  placed = placed-append g us vs m.placed n.placed;
   list_is = n.list_is ∙ m.list_is;
   marks = λ (kind : Bool) (place : ℕ).
       n.marks kind place ∙ ap (λ (y : Bool). y || units_name g kind b.list vs place) (m.marks kind place)

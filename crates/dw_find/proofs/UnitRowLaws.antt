@@ -1,5 +1,5 @@
 -- The units of a view: what is known of one, and its rows.
-use Rattle.std.proofs.Common.{false, ◌≡◌, ℕ, ◌+◌, ◌<◌, List, length, get_or, Some, sym, ap, ◌∙◌, subst}
+use Rattle.std.proofs.Common.{true, false, ◌≡◌, ℕ, ◌+◌, ◌<◌, List, length, get_or, Some, sym, ap, ◌∙◌, subst}
 use Rattle.dw_base.specs.AbbreviationFails.{AbbreviationFails}
 use Rattle.dw_base.specs.AbbreviationTables.{Abbreviation, IsTable}
 use Rattle.dw_meaning.specs.DataFails.DataFails.{unit as unit_fails, table as table_fails}
@@ -22,7 +22,7 @@ use Rattle.dw_entries.specs.ViewUnits.{IsUnitSection, numbered, unit_base, unit_
 use Rattle.dw_entries.proofs.UnitSectionLaws.{is-of-view}
 use Rattle.dw_find.specs.EntryTexts.{Tables, TextTables, FoundTexts, none_found}
 use Rattle.dw_find.specs.NamedSlots.{Slots, TakesIndexes}
-use Rattle.dw_find.specs.TextPlaces.{base_source, number_said}
+use Rattle.dw_find.specs.TextPlaces.{base_source, number_said, said_placed}
 use Rattle.dw_find.specs.UnitTexts.{OneTaken, ScanTaken, UnitRefuses, UnitsRefuse, data_fails, header_fails, tables_of, texts_of}
 use Rattle.dw_base.proofs.HeaderOfLaws.{header-of}
 use Rattle.dw_find.proofs.RowLaws.{unit-row}
@@ -72,13 +72,14 @@ one-row d z h t table f u same declares b =
     (subst (λ (x : Tables). Blames (UnitRefuses x h table (bytes_up_to z h)) f) same b)
 
 pub one-taken : (d : DebugData) (z : UnitSection) (h : UnitHeader) (t : Tables) (table : List Abbreviation) (old found new : FoundTexts) (before now : Slots) → t ≡ tables_of d z
-    → IsUnitTable d.base h table → ScanTaken t h table (bytes_up_to z h) old found → TakesIndexes h.section (number_said (base_source d) z.contents found.base) found.indexes before now
-    → new ≡ none_found found.paths → OneTaken d z h old new before now
-one-taken d z h t table old found new before now same declares s slots ends = record {
+    → IsUnitTable d.base h table → ScanTaken t h table (bytes_up_to z h) old found → said_placed (base_source d) z.contents found.base ≡ true
+    → TakesIndexes h.section (number_said (base_source d) z.contents found.base) found.indexes before now → new ≡ none_found found.paths → OneTaken d z h old new before now
+one-taken d z h t table old found new before now same declares s placed slots ends = record {
   table = table;
   declares = declares;
   found = found;
   scan = subst (λ (x : Tables). ScanTaken x h table (bytes_up_to z h) old found) same s;
+  placed = placed;
   slots = slots;
   ends = ends;
 }

@@ -6,7 +6,7 @@ use Rattle.dw_base.specs.declared.fault.Refusal.{Refusal}
 use Rattle.dw_base.specs.declared.string_offsets.Contribution.{Contribution}
 use Rattle.dw_offsets.specs.NamedPlaces.{place_by, is_place, is_kind}
 use Rattle.dw_offsets.specs.SlotMarks.{marked}
-use Rattle.dw_find.specs.TextPlaces.{BaseSource, UnitSays, indexes_in, unit_number}
+use Rattle.dw_find.specs.TextPlaces.{AllBasesPlaced, BaseSource, UnitSays, indexes_in, unit_number}
 use Rattle.dw_find.specs.declared.fields.TextIndex.{TextIndex}
 
 -- the contributions, the marks of the slots that were named, and what refuses the first value that named none
@@ -63,7 +63,9 @@ abbrev pub units_missing : BaseSource → List Contribution → List UnitSays �
 units_missing g list [] = None
 units_missing g list (u ∷ us) = first_refusal (missing_in u.section (unit_number g u) list (indexes_in u.places)) (units_missing g list us)
 
+-- each of which says a base that is placed, if it says one
 pub record TakesUnits (g : BaseSource) (us : List UnitSays) (old new : Slots) : Type 0 where
+  pub placed : AllBasesPlaced g us
   pub list_is : new.list ≡ old.list
   pub marks : (path : Bool) (place : ℕ) → marked path new.marks place ≡ (marked path old.marks place || units_name g path old.list us place)
   pub missing : new.missing ≡ first_refusal old.missing (units_missing g old.list us)

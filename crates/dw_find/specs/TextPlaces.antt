@@ -2,7 +2,7 @@
 -- index (DWARF 5, 7.5.5, class string), or say where line tables and macro units start (DWARF 5, 3.1.1); and what these places say of source paths.
 use Rattle.std.specs.Prelude.{Bool, true, false, ◌≡◌, ℕ, ◌+◌, ◌-◌, ◌==◌, ◌||◌, List, [], ◌∷◌, ◌++◌, IsTrue, ⊤, Option, Some, None, length}
 use Rattle.dw_base.specs.AbbreviationTables.{Abbreviation}
-use Rattle.dw_base.specs.Cells.{Cell, Located, bytes_of, cells_at, located_cells, offset_of}
+use Rattle.dw_base.specs.Cells.{Cell, Located, bytes_of, cells_at, field_of, is_placed, located_cells, offset_of}
 use Rattle.dw_base.specs.DebugData.{DebugData}
 use Rattle.dw_base.specs.EntryScans.{AreEntries}
 use Rattle.dw_base.specs.EntryValues.{bytes_up_to}
@@ -282,9 +282,25 @@ abbrev pub number_said : BaseSource → List Cell → Option TextBase → Option
 number_said g cells None = None
 number_said g cells (Some b) = Some (base_number g cells b)
 
--- that of a unit
+-- it is placed, where it is the field of an offset
+abbrev pub number_placed : BaseSource → List Cell → TextBase → Bool
+number_placed g cells (BaseNumber n) = true
+number_placed g cells (BaseField f) = is_placed (field_of g.order (cells_at cells f.at f.size))
+
+abbrev pub said_placed : BaseSource → List Cell → Option TextBase → Bool
+said_placed g cells None = true
+said_placed g cells (Some b) = number_placed g cells b
+
+-- those of a unit
 abbrev pub unit_number : BaseSource → UnitSays → Option ℕ
 unit_number g u = number_said g u.cells (base_in u.places)
+
+abbrev pub unit_base_placed : BaseSource → UnitSays → Bool
+unit_base_placed g u = said_placed g u.cells (base_in u.places)
+
+abbrev pub AllBasesPlaced : BaseSource → List UnitSays → Type 0
+AllBasesPlaced g [] = ⊤
+AllBasesPlaced g (u ∷ us) = (unit_base_placed g u ≡ true) × AllBasesPlaced g us
 
 -- the same as values by index of the whole file, in the section and the unit of a number
 abbrev pub use_at : ℕ → ℕ → ℕ → Indexed → List IndexUse
@@ -296,8 +312,9 @@ uses_among section unit [] = []
 uses_among section unit (t ∷ ts) = use_at section unit t.at t.says ++ uses_among section unit ts
 
 abbrev pub base_at : BaseSource → List Cell → ℕ → ℕ → ℕ → Indexed → List SaidBase
-base_at g cells unit at len (unit_base n) = record { unit = unit; base = n } ∷ []
-base_at g cells unit at len base_offset = record { unit = unit; base = offset_of g.order g.offsets (cells_at cells at len) } ∷ []
+base_at g cells unit at len (unit_base n) = record { unit = unit; base = n; placed = true } ∷ []
+base_at g cells unit at len base_offset =
+    record { unit = unit; base = offset_of g.order g.offsets (cells_at cells at len); placed = is_placed (field_of g.order (cells_at cells at len)) } ∷ []
 base_at g cells unit at len i = []
 
 abbrev pub bases_among : BaseSource → List Cell → ℕ → List TextPlace → List SaidBase

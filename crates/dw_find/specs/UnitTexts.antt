@@ -1,5 +1,5 @@
 -- What a pass over the entries of a unit, and over the units of a section, finds of texts and paths; and what it refuses.
-use Rattle.std.specs.Prelude.{◌≡◌, ℕ, ◌+◌, List, [], ◌∷◌, ◌++◌, ⊤, Option, Some, None}
+use Rattle.std.specs.Prelude.{true, ◌≡◌, ℕ, ◌+◌, List, [], ◌∷◌, ◌++◌, ⊤, Option, Some, None}
 use Rattle.dw_base.specs.AbbreviationTables.{Abbreviation, abbreviation_of}
 use Rattle.dw_meaning.specs.DataFails.{DataFails, TextFails}
 use Rattle.dw_meaning.specs.RelocationFails.{ValueRelocationFails}
@@ -17,7 +17,7 @@ use Rattle.dw_base.specs.declared.units.Scanned.{Scanned}
 use Rattle.dw_base.specs.declared.units.UnitHeader.{UnitHeader}
 use Rattle.dw_find.specs.EntryTexts.{Tables, TextTables, AreTaken, FoundTexts, ValuesRefuse, with_places, none_found}
 use Rattle.dw_find.specs.NamedSlots.{Slots, TakesIndexes, TakesUnits}
-use Rattle.dw_find.specs.TextPlaces.{UnitSays, base_source, entries_places, number_said, SectionSays}
+use Rattle.dw_find.specs.TextPlaces.{UnitSays, base_source, entries_places, number_said, said_placed, SectionSays}
 use Rattle.dw_find.specs.SectionFields.{SectionFields}
 
 -- the values of an entry, whose code stands at a place, can be taken
@@ -80,6 +80,7 @@ pub record OneTaken (d : DebugData) (z : UnitSection) (h : UnitHeader) (old new 
   pub declares : IsUnitTable d.base h table
   pub found : FoundTexts
   pub scan : ScanTaken (tables_of d z) h table (bytes_up_to z h) old found
+  pub placed : said_placed (base_source d) z.contents found.base ≡ true
   pub slots : TakesIndexes h.section (number_said (base_source d) z.contents found.base) found.indexes before now
   pub ends : new ≡ none_found found.paths
 

@@ -13,7 +13,7 @@ ghost use Rattle.dw_base.specs.ViewData.{debug_data};
 ghost use Rattle.dw_entries.specs.ViewUnits.{IsUnitSection, unit_section_at};
 ghost use Rattle.dw_fields.specs.UnitPasses.{AreTables};
 ghost use Rattle.dw_find.specs.FieldOffsets.{BaseLies, BaseRefuses};
-ghost use Rattle.dw_find.specs.TextPlaces.{base_source, number_said};
+ghost use Rattle.dw_find.specs.TextPlaces.{base_source, number_said, said_placed};
 ghost use Rattle.dw_find.specs.UnitTexts.{OneTaken, SectionIndexed, UnitsRefuse, tables_of, texts_of};
 
 use crate::field_offsets::section_offset;
@@ -126,6 +126,7 @@ fn base_number(view: &View, section: u32, base: Option<TextBase>) -> Result<Opti
     requires there { section < length view.now.sections }
     requires field { BaseLies (section_bytes view.now section) base }
     ensures number { IfOk result (λ n. n ≡ number_said (base_source (debug_data view.now)) (view_cells view.now section) base) }
+    ensures placed { OnOk result (said_placed (base_source (debug_data view.now)) (view_cells view.now section) base ≡ true) }
     ensures refused { IfErr result (BaseRefuses view.now.order section (view_cells view.now section) base) }
 {
     match base {

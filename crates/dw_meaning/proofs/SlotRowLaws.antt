@@ -48,7 +48,7 @@ piece-among P (y ∷ ys) behind x h = piece-among P ys behind x h.1
 
 -- each value by index names a slot
 pub indexes-exclude : (g : Indexing) (r : Refusal) → EachUse (NamesSlot g) g.uses → IndexFails g r → ⊥
-indexes-exclude g r all (no_slot before behind u split none) =
+indexes-exclude g r all (no_slot before behind u split placed none) =
     let here : NamesSlot g u = use-among (NamesSlot g) before behind u (subst (EachUse (NamesSlot g)) split all) in
     let gone : is_slot (slot_of g u.unit u.index) ≡ false = ap is_slot none in
     clash (sym here ∙ gone)

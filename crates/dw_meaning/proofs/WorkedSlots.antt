@@ -158,13 +158,13 @@ pub behind-refused : IndexFails (indexing_of (slot_data (slot_units 8 2) (two_sl
     (at StringTable 1 19)
 unfolding unit_header initial_length_at number_at spelled between after_code kind_in form_rows abbreviations_at uleb_at
     offset_of field_of before_slot slot_of
-behind-refused = no_slot (_ ∷ []) [] _ refl refl
+behind-refused = no_slot (_ ∷ []) [] _ refl refl refl
 
 pub base-refused : IndexFails (indexing_of (slot_data (slot_units 4 1) (two_slots 0 0) []) (slot_readings (slot_data (slot_units 4 1) (two_slots 0 0) []) (slot_units 4 1) (two_slots 0 0) []))
     (at StringTable 1 17)
 unfolding unit_header initial_length_at number_at spelled between after_code kind_in form_rows abbreviations_at uleb_at
     offset_of field_of before_slot slot_of
-base-refused = no_slot [] (_ ∷ []) _ refl refl
+base-refused = no_slot [] (_ ∷ []) _ refl refl refl
 
 -- two contributions, of offsets of 4 and of 8 bytes: the directory's index, of 3 bytes, is into the second
 abbrev wide_slots : ℕ → List (List ℕ)

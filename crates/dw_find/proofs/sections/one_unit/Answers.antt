@@ -9,10 +9,10 @@ use Rattle.dw_base.specs.FileViews.{section_bytes, view_cells}
 use Rattle.dw_find.specs.EntryTexts.{FoundTexts}
 use Rattle.dw_find.specs.FieldOffsets.{BaseLies, BaseRefuses}
 use Rattle.dw_find.specs.NamedSlots.{TakesIndexes}
-use Rattle.dw_find.specs.TextPlaces.{base_source, number_said}
+use Rattle.dw_find.specs.TextPlaces.{base_source, number_said, said_placed}
 use Rattle.dw_find.specs.declared.fields.TextBase.{TextBase}
 use Rattle.dw_find.specs.declared.fields.TextIndex.{TextIndex}
-use Rattle.dw_find.proofs.BaseLaws.{base-row, base-taken, unit-lies}
+use Rattle.dw_find.proofs.BaseLaws.{base-placed, base-row, base-taken, unit-lies}
 use Rattle.dw_find.proofs.SharedLaws.{shared-there}
 use Rattle.dw_find.proofs.ScanTextLaws.{unit-there}
 use Rattle.dw_find.proofs.UnitRowLaws.{elsewhere-row, one-row, one-taken, table-row, unit-table}
@@ -65,6 +65,9 @@ returns-clause-taken c =
     (unit-table (debug_data c.args.view.now) c.args.unit.now c.in_ok-at.at c.in-Some.table.now c.in_ok-at.ensures.here c.in_ok-at.ensures.offset
     (shared-there (debug_data c.args.view.now) (λ at. get nat_eq c.read_table.new.shared at) c.in_ok-at.at c.in-Some.table.now c.in_ok-read_table.ensures.shared c.in-Some.ensures.value))
     c.in_ok-unit_texts.ensures.taken
+    (base-placed c.args.view.now c.args.unit.now c.unit_texts.new.found.base c.requires.unit
+    (sym (ap (λ (f : FoundTexts). said_placed (base_source (debug_data c.args.view.now)) (view_cells c.args.view.now c.args.unit.now.section) f.base) c.found.view_is)
+    ∙ c.in_ok-base.ensures.placed))
     (base-taken c.args.view.now c.args.unit.now c.unit_texts.new.found.base c.in_ok-base.base c.unit_texts.new.found.indexes c.args.slots.now c.take.new.self c.requires.unit
     (c.in_ok-base.ensures.number ∙ ap (λ (f : FoundTexts). number_said (base_source (debug_data c.args.view.now)) (view_cells c.args.view.now c.args.unit.now.section) f.base) c.found.view_is)
     (subst (λ (xs : List TextIndex). TakesIndexes c.args.unit.now.section c.in_ok-base.base xs c.args.slots.now c.take.new.self)
