@@ -31,6 +31,7 @@ pub mod InfoLaws
 pub mod SourceReadLaws
 pub mod SourceLaws
 pub mod ShownLaws
+pub mod ArenaTextLaws
 pub mod SectionNameLaws
 pub mod BaseLaws
 pub mod EntryPrintLaws

@@ -110,12 +110,8 @@ values-cut u xs i place d v total before between old mid new e goes lt is c =
 
 pub ruleset values_loop = (values-start, values-more)
 
--- entries, as a pass gives them
-pub record EntriesGo (u : ShownUnit) (s : ScanState) (number : ℕ) (before : List ℕ) (old new : Heard) (behind : List ℕ) : Type 0 where
-  pub pass : PassAt u.header u.table u.bytes s number
-  pub printed : Printed (entries_text u 0 pass.items) before old new behind
-
-entries-append : (u : ShownUnit) (n : ℕ) (xs ys : List Scanned) → entries_text u n (xs ++ ys) ≡ entries_text u n xs ++ entries_text u (n + length xs) ys
+-- entries one after another
+pub entries-append : (u : ShownUnit) (n : ℕ) (xs ys : List Scanned) → entries_text u n (xs ++ ys) ≡ entries_text u n xs ++ entries_text u (n + length xs) ys
 entries-append u n [] ys =
     let same : n ≡ n + 0 = omega arith in
     ap (λ (k : ℕ). entries_text u k ys) same
@@ -124,53 +120,15 @@ entries-append u n (x ∷ xs) ys =
     ap (λ (t : List ℕ). entry_text u n x ++ t) (entries-append u (n + 1) xs ys ∙ ap (λ (k : ℕ). entries_text u (n + 1) xs ++ entries_text u k ys) same)
     ∙ sym (append_assoc (entry_text u n x) (entries_text u (n + 1) xs) (entries_text u (n + suc (length xs)) ys))
 
-entries-one : (u : ShownUnit) (number : ℕ) (xs : List Scanned) (e : Scanned) → number ≡ length xs
+pub entries-one : (u : ShownUnit) (number : ℕ) (xs : List Scanned) (e : Scanned) → number ≡ length xs
     → entries_text u 0 (xs ++ e ∷ []) ≡ entries_text u 0 xs ++ entry_text u number e
 entries-one u number xs e is =
     let same : 0 + length xs ≡ number = omega (arith, is) in
     entries-append u 0 xs (e ∷ []) ∙ ap (λ (k : ℕ). entries_text u 0 xs ++ (entry_text u k e ++ [])) same
     ∙ ap (λ (t : List ℕ). entries_text u 0 xs ++ t) (append-nil (entry_text u number e))
 
-nothing-printed : (before : List ℕ) (h : Heard) → Printed [] before h h before
+pub nothing-printed : (before : List ℕ) (h : Heard) → Printed [] before h h before
 nothing-printed before h = goes-over [] before before h h (goes-start [] before h)
-
-pub entries-start : (u : ShownUnit) (s : ScanState) (before : List ℕ) (h : Heard) → PassAt u.header u.table u.bytes s 0 → EntriesGo u s 0 before h h before
-entries-start u s before h p = record {
-  pass = p;
-  printed = subst (λ (xs : List Scanned). Printed (entries_text u 0 xs) before h h before) (none p.items p.count) (nothing-printed before h);
-}
-  where
-    none : (xs : List Scanned) → 0 ≡ length xs → [] ≡ xs
-    none [] e = refl
-    none (x ∷ xs) e = absurd (omega (arith, e))
-
-pub entries-more : (u : ShownUnit) (s t : ScanState) (number : ℕ) (e : Scanned) (before between behind : List ℕ) (old mid new : Heard) → EntriesGo u s number before old mid between
-    → GivesEntry s e t → Printed (entry_text u number e) between mid new behind → EntriesGo u t (number + 1) before old new behind
-unfolding pass-more
-entries-more u s t number e before between behind old mid new goes g p = record {
-  pass = pass-more u.header u.table u.bytes s t number e goes.pass g;
-  printed = subst (λ (x : List ℕ). Printed x before old new behind) (sym (entries-one u number goes.pass.items e goes.pass.count))
-      (printed-then (entries_text u 0 goes.pass.items) (entry_text u number e) before between behind old mid new goes.printed p);
-}
-
-pub entries-over : (u : ShownUnit) (s t : ScanState) (number : ℕ) (before behind : List ℕ) (old new : Heard) → EntriesGo u s number before old new behind → GivesNothing s t
-    → length u.bytes ≤ u.header.end → Printed (entries_text u 0 (unit_entries u.header u.table u.bytes)) before old new behind
-entries-over u s t number before behind old new goes g short =
-    subst (λ (xs : List Scanned). Printed (entries_text u 0 xs) before old new behind) (sym (pass-ends u.header u.table u.bytes s t number goes.pass g short)) goes.printed
-
-pub entries-cut : (u : ShownUnit) (s t : ScanState) (number : ℕ) (e : Scanned) (before between : List ℕ) (old mid new : Heard) (err : ShowErr) → EntriesGo u s number before old mid between
-    → GivesEntry s e t → Cut (between ++ entry_text u number e) mid new err → Cut (before ++ entries_text u 0 (unit_entries u.header u.table u.bytes)) old new err
-entries-cut u s t number e before between old mid new err goes g c =
-    let f : Fronts u.header u.table u.bytes (goes.pass.items ++ e ∷ []) = pass-front u.header u.table u.bytes s t number e goes.pass g in
-    let whole : entries_text u 0 (unit_entries u.header u.table u.bytes)
-    ≡ (entries_text u 0 goes.pass.items ++ entry_text u number e) ++ entries_text u (0 + length (goes.pass.items ++ e ∷ [])) f.rest =
-    ap (entries_text u 0) f.is ∙ entries-append u 0 (goes.pass.items ++ e ∷ []) f.rest
-    ∙ ap (λ (x : List ℕ). x ++ entries_text u (0 + length (goes.pass.items ++ e ∷ [])) f.rest) (entries-one u number goes.pass.items e goes.pass.count) in
-    subst (λ (x : List ℕ). Cut (before ++ x) old new err) (sym whole)
-    (cut-more (entries_text u 0 goes.pass.items ++ entry_text u number e) (entries_text u (0 + length (goes.pass.items ++ e ∷ [])) f.rest) before old new err
-    (cut-then (entries_text u 0 goes.pass.items) (entry_text u number e) before between old mid new err goes.printed c))
-
-pub ruleset entries_loop = (entries-start, entries-more)
 
 -- units, printed from the front
 unit-first : (g : UnitSource) (us : List ListedUnit) (i : ℕ) (d : ListedUnit) → i < length us

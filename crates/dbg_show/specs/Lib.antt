@@ -5,6 +5,7 @@ pub mod TableLists
 pub mod UnitTexts
 pub mod PieceTexts
 pub mod ShownUnits
+pub mod ArenaTexts
 pub mod EntryIndexes
 pub mod UnitReads
 pub mod UnitLists

@@ -2,7 +2,7 @@
 //!
 //! Read first: `specs/ShownUnits.antt`.
 
-ghost use Rattle.std.specs.Prelude.{◌≡◌, ◌++◌, ◌+◌, ◌<◌, ◌≤◌, ◌^◌, drop, length, take, IfErr, IfSome, IsTrue, OnOk};
+ghost use Rattle.std.specs.Prelude.{◌≡◌, ◌++◌, ◌+◌, ◌<◌, ◌≤◌, ◌^◌, drop, length, take, IfErr, IfOk, IfSome, IsTrue, OnOk};
 ghost use Rattle.std.specs.String.{string_bytes};
 ghost use Rattle.dw_base.specs.LineMeanings.{item_at};
 ghost use Rattle.dw_base.specs.Texts.{text_in};
@@ -15,7 +15,8 @@ ghost use Rattle.dbg_show.specs.ShownUnits.{ShownUnit as ShownUnitOf, all_shown,
 ghost use Rattle.dbg_show.specs.UnitReads.{AllCanRead, BytesFit, CanRead, EachReads, ShownFits, SourceFits};
 ghost use Rattle.dbg_show.specs.UnitTexts.{attribute_line, entry_line, kind_name, text_said};
 ghost use Rattle.dw_base.specs.DebugData.{start_number};
-ghost use Rattle.dw_entries.specs.ScanStates.{scan_start};
+ghost use Rattle.entry_arena.specs.UnitArenas.{IsArenaOf};
+ghost use Rattle.dbg_show.specs.ArenaTexts.{node_entry};
 ghost use Rattle.dw_entries.specs.ViewUnits.{IsUnitSection, unit_section_at};
 ghost use Rattle.dw_find.specs.LineStarts.{Rises};
 
@@ -34,15 +35,16 @@ use dw_base::dwarf_numbers::{
     DW_AT_GNU_macros, DW_AT_macros, DW_AT_stmt_list, DW_AT_str_offsets_base, DW_FORM_implicit_const,
 };
 use dw_base::{
-    DebugSection, Field, Scanned, Spec, UnitHeader, Value, ValueClass, is_start_form, own_form,
-    uleb_at,
+    DebugSection, Fault, Field, Scanned, Spec, UnitHeader, Value, ValueClass, is_start_form,
+    own_form, uleb_at,
 };
 use dw_entries::EntryScan;
 use dw_find::start_number;
 use dw_forms::value_at;
 use dw_view::View;
+use entry_arena::{EntryArena, EntryNode, WalkStep};
 use file_tree::Sink;
-use std::alloc::AllocError;
+use std::alloc::{AllocError, Global};
 use std::marker::Model;
 
 /// A unit that is printed: its number, header, abbreviations and bytes, and the base of its texts by index.
@@ -477,33 +479,65 @@ fn print_entry<O: Sink>(
     )
 }
 
-/// Prints the entries of a unit.
-#[tactic(auto, using(crate::proofs::ShownLaws::entries_loop))]
+/// Prints the entry of a node at a step of a walk.
+fn print_node<O: Sink>(
+    text: &mut String,
+    out: &mut O,
+    unit: &ShownUnit,
+    step: WalkStep,
+    node: &EntryNode,
+) -> Result<(), ShowErr>
+    requires fits { ShownFits unit.now }
+    ensures done { OnOk result (Printed (entry_text unit.now step.number (node_entry node.now step.depth)) (string_bytes text.old) (O.heard out.old) (O.heard out.new) (string_bytes text.new)) }
+    ensures cut { IfErr result (Cut (string_bytes text.old ++ (entry_text unit.now step.number (node_entry node.now step.depth))) (O.heard out.old) (O.heard out.new)) }
+{
+    let entry = Scanned {
+        offset: node.offset,
+        depth: step.depth,
+        code: node.code,
+        after: node.offset,
+    };
+    print_entry(text, out, unit, u64::from(step.number), &entry)
+}
+
+/// Prints the entries of a unit, as its arena has them.
+#[tactic(auto, using(crate::proofs::ArenaTextLaws::walk_loop))]
 fn print_entries<O: Sink>(
     text: &mut String,
     out: &mut O,
     unit: &ShownUnit,
-    scan: EntryScan,
+    arena: &EntryArena,
 ) -> Result<(), ShowErr>
     requires fits { ShownFits unit.now }
-    requires reads { CanRead unit.now.source.view unit.now.header unit.now.table }
     requires bytes { unit.now.bytes ≡ unit_bytes unit.now.source.view unit.now.header }
-    requires start { scan ≡ scan_start unit.now.header unit.now.table unit.now.bytes }
+    requires arena { IsArenaOf unit.now.header unit.now.table unit.now.bytes arena.now }
     ensures done { OnOk result (Printed (entries_text unit.now 0 (unit_entries unit.now.header unit.now.table unit.now.bytes)) (string_bytes text.old) (O.heard out.old) (O.heard out.new) (string_bytes text.new)) }
     ensures cut { IfErr result (Cut (string_bytes text.old ++ (entries_text unit.now 0 (unit_entries unit.now.header unit.now.table unit.now.bytes))) (O.heard out.old) (O.heard out.new)) }
 {
-    let mut number = 0;
-    for entry in scan {
-        match entry {
-            Ok(entry) => match print_entry(text, out, unit, number, &entry) {
-                Ok(()) => {}
-                Err(e) => return Err(e),
-            },
-            Err(_) => unreachable!(),
+    for step in arena.steps() {
+        match print_node(text, out, unit, step, arena.node(step.number)) {
+            Ok(()) => {}
+            Err(e) => return Err(e),
         }
-        number += 1;
     }
     Ok(())
+}
+
+/// The entries of a unit that can be read, linked.
+fn unit_arena(
+    alloc: Global,
+    view: &View,
+    unit: &UnitHeader,
+    table: &AbbrevTable,
+) -> Result<EntryArena, AllocError>
+    requires reads { CanRead view.now unit.now table.now }
+    ensures arena { IfOk result (IsArenaOf unit.now table.now (unit_bytes view.now unit.now)) }
+{
+    match EntryArena::read(alloc, view, unit, table) {
+        Ok(arena) => Ok(arena),
+        Err(Fault::NoMemory) => Err(AllocError),
+        Err(Fault::Refused(_)) => unreachable!(),
+    }
 }
 
 /// A class of values that can say a base.
@@ -647,9 +681,11 @@ fn print_with<O: Sink>(
     number: u64,
     unit: &UnitHeader,
     table: &AbbrevTable,
+    arena: &EntryArena,
 ) -> Result<(), ShowErr>
     requires fits { SourceFits source.now }
     requires reads { CanRead source.now.view unit.now table.now }
+    requires arena { IsArenaOf unit.now table.now (unit_bytes source.now.view unit.now) arena.now }
     ensures done { OnOk result (Printed (entries_text (shown_unit source.now number unit.now table.now) 0 (unit_entries unit.now table.now (unit_bytes source.now.view unit.now))) (string_bytes text.old) (O.heard out.old) (O.heard out.new) (string_bytes text.new)) }
     ensures cut { IfErr result (Cut (string_bytes text.old ++ entries_text (shown_unit source.now number unit.now table.now) 0 (unit_entries unit.now table.now (unit_bytes source.now.view unit.now))) (O.heard out.old) (O.heard out.new)) }
 {
@@ -662,12 +698,33 @@ fn print_with<O: Sink>(
         bytes,
         base: unit_base(source.view, unit, table, bytes),
     };
-    print_entries(text, out, &shown, EntryScan::new(source.view, unit, table))
+    print_entries(text, out, &shown, arena)
+}
+
+/// The same, where the entries aren't linked yet: the arena is let go behind the unit.
+#[tactic(auto, using(crate::proofs::PrintingLaws::line_laws))]
+fn print_linked<O: Sink>(
+    alloc: Global,
+    text: &mut String,
+    out: &mut O,
+    source: &UnitSource,
+    number: u64,
+    unit: &UnitHeader,
+    table: &AbbrevTable,
+) -> Result<(), ShowErr>
+    requires fits { SourceFits source.now }
+    requires reads { CanRead source.now.view unit.now table.now }
+    ensures done { OnOk result (Printed (entries_text (shown_unit source.now number unit.now table.now) 0 (unit_entries unit.now table.now (unit_bytes source.now.view unit.now))) (string_bytes text.old) (O.heard out.old) (O.heard out.new) (string_bytes text.new)) }
+    ensures cut { IfErr result (Cut (string_bytes text.old ++ entries_text (shown_unit source.now number unit.now table.now) 0 (unit_entries unit.now table.now (unit_bytes source.now.view unit.now))) (O.heard out.old) (O.heard out.new)) }
+{
+    let arena = unit_arena(alloc, source.view, unit, table)?;
+    print_with(text, out, source, number, unit, table, &arena)
 }
 
 /// Prints the entries of a unit.
 #[tactic(auto, using(crate::proofs::EntryPrintLaws::tabled_laws))]
 fn print_tabled<O: Sink>(
+    alloc: Global,
     text: &mut String,
     out: &mut O,
     source: &UnitSource,
@@ -680,7 +737,7 @@ fn print_tabled<O: Sink>(
     ensures cut { IfErr result (Cut (string_bytes text.old ++ tabled_text source.now number unit.now.header (item_at source.now.tables unit.now.table)) (O.heard out.old) (O.heard out.new)) }
 {
     match source.table(unit.table) {
-        Some(table) => print_with(text, out, source, number, &unit.header, table),
+        Some(table) => print_linked(alloc, text, out, source, number, &unit.header, table),
         None => Ok(()),
     }
 }
@@ -688,6 +745,7 @@ fn print_tabled<O: Sink>(
 /// Prints a unit of a number.
 #[tactic(auto, using(crate::proofs::EntryPrintLaws::unit_laws))]
 fn print_unit<O: Sink>(
+    alloc: Global,
     text: &mut String,
     out: &mut O,
     source: &UnitSource,
@@ -700,12 +758,13 @@ fn print_unit<O: Sink>(
     ensures cut { IfErr result (Cut (string_bytes text.old ++ one_shown source.now number unit.now) (O.heard out.old) (O.heard out.new)) }
 {
     print_head(text, out, source.view, number, &unit.header)?;
-    print_tabled(text, out, source, number, unit)
+    print_tabled(alloc, text, out, source, number, unit)
 }
 
 /// Prints units, numbered from 0.
 #[tactic(auto, using(crate::proofs::ShownLaws::units_loop))]
 fn print_all<O: Sink>(
+    alloc: Global,
     text: &mut String,
     out: &mut O,
     source: &UnitSource,
@@ -717,7 +776,7 @@ fn print_all<O: Sink>(
     ensures cut { IfErr result (Cut (string_bytes text.old ++ all_shown source.now 0 units.now) (O.heard out.old) (O.heard out.new)) }
 {
     for (number, unit) in units.iter().enumerate() {
-        match print_unit(text, out, source, number as u64, unit) {
+        match print_unit(alloc, text, out, source, number as u64, unit) {
             Ok(()) => {}
             Err(e) => return Err(e),
         }
@@ -728,6 +787,7 @@ fn print_all<O: Sink>(
 /// Prints the units of a source.
 #[tactic(auto, using(crate::proofs::ShownLaws::source_laws))]
 pub(crate) fn print_units<O: Sink>(
+    alloc: Global,
     text: &mut String,
     out: &mut O,
     source: &UnitSource,
@@ -736,5 +796,5 @@ pub(crate) fn print_units<O: Sink>(
     ensures done { OnOk result (Printed (all_shown source.now 0 source.now.units) (string_bytes text.old) (O.heard out.old) (O.heard out.new) (string_bytes text.new)) }
     ensures cut { IfErr result (Cut (string_bytes text.old ++ all_shown source.now 0 source.now.units) (O.heard out.old) (O.heard out.new)) }
 {
-    print_all(text, out, source, source.units())
+    print_all(alloc, text, out, source, source.units())
 }

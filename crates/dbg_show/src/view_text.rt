@@ -171,6 +171,7 @@ fn print_rest<O: Sink>(
 /// Prints units, tables and macro units, one behind another.
 #[tactic(auto, using(crate::proofs::PrintingLaws::then_laws))]
 fn print_view<O: Sink>(
+    alloc: Global,
     text: &mut String,
     out: &mut O,
     view: &View,
@@ -184,7 +185,7 @@ fn print_view<O: Sink>(
     ensures done { OnOk result (Printed (all_printed view.now units.now tables.now macros.now) (string_bytes text.old) (O.heard out.old) (O.heard out.new) (string_bytes text.new)) }
     ensures cut { IfErr result (Cut (string_bytes text.old ++ all_printed view.now units.now tables.now macros.now) (O.heard out.old) (O.heard out.new)) }
 {
-    print_units(text, out, units)?;
+    print_units(alloc, text, out, units)?;
     print_rest(text, out, view, tables, macros)
 }
 
@@ -205,7 +206,7 @@ fn write_view<O: Sink>(
     ensures cut { IfErr result (Cut (all_printed view.now units.now tables.now macros.now) (O.heard out.old) (O.heard out.new)) }
 {
     let mut text = String::new(alloc);
-    print_view(&mut text, out, view, units, tables, macros)?;
+    print_view(alloc, &mut text, out, view, units, tables, macros)?;
     write_all(&mut text, out)
 }
 

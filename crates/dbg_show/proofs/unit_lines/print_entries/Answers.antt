@@ -1,39 +1,36 @@
 -- Printed whole, or cut at one.
-use Rattle.std.proofs.Common.{arith, ◌∙◌}
+use Rattle.std.proofs.Common.{◌∙◌}
 use Rattle.std.specs.String.{string_bytes}
-use Rattle.dbg_show.proofs.EntryListLaws.{gave-entry, gave-refusal}
-use Rattle.dbg_show.proofs.EntryPrintLaws.{own-fails, own-few, own-start, own-short}
-use Rattle.dbg_show.proofs.ShownLaws.{entries-start, entries-more, entries-over, entries-cut}
+use Rattle.dbg_show.proofs.ArenaTextLaws.{go-cut, go-more, go-over, step-inside, walk-start}
+use Rattle.dbg_show.proofs.EntryPrintLaws.{own-short}
+use Rattle.dbg_show.specs.ShownUnits.{unit_entries}
 use Rattle.dbg_show.proofs.unit_lines.print_entries.Goals as goal
 
-pub returns-in-Err-print_entry-clause-cut : goal.returns-in-Err-print_entry-clause-cut
-returns-in-Err-print_entry-clause-cut g c =
-    entries-cut c.args.unit.now c.loop-entry.entry-iterator c.next.new.self c.loop-entry.number c.in-Ok.entry (string_bytes c.args.text.now) (string_bytes c.loop-entry.text)
-    (g.O.Sink.heard c.args.out.now) (g.O.Sink.heard c.loop-entry.out) (g.O.Sink.heard c.print_entry.new.out) c.in-Err-print_entry.e c.loop-entry.invariant
-    (gave-entry c.loop-entry.entry-iterator c.next.new.self c.in-Some.entry c.in-Ok.entry c.in-Some.ensures.steps c.in-Ok.is) c.in-Err-print_entry.ensures.cut
+pub returns-in-Err-clause-cut : goal.returns-in-Err-clause-cut
+returns-in-Err-clause-cut g c =
+    go-cut c.args.unit.now c.args.arena.now c.loop-step.step-iterator c.next.new.self c.in-Some.step c.node.result.now (string_bytes c.args.text.now) (string_bytes c.loop-step.text)
+    (g.O.Sink.heard c.args.out.now) (g.O.Sink.heard c.loop-step.out) (g.O.Sink.heard c.print_node.new.out) c.in-Err.e c.requires.arena
+    (own-short c.args.unit.now c.requires.bytes) c.loop-step.invariant c.in-Some.ensures.steps c.node.ensures.node c.in-Err.ensures.cut
 
 pub returns-clause-done : goal.returns-clause-done
 returns-clause-done g c =
-    entries-over c.args.unit.now c.loop-entry.entry-iterator c.next.new.self c.loop-entry.number (string_bytes c.args.text.now) (string_bytes c.loop-entry.text)
-    (g.O.Sink.heard c.args.out.now) (g.O.Sink.heard c.loop-entry.out) c.loop-entry.invariant c.in-None.ensures.steps (own-short c.args.unit.now c.requires.bytes)
+    go-over c.args.unit.now c.args.arena.now c.loop-step.step-iterator c.next.new.self (string_bytes c.args.text.now) (string_bytes c.loop-step.text)
+    (g.O.Sink.heard c.args.out.now) (g.O.Sink.heard c.loop-step.out) c.requires.arena (own-short c.args.unit.now c.requires.bytes) c.loop-step.invariant c.in-None.ensures.steps
 
-pub unreachable-requires : goal.unreachable-requires
-unreachable-requires g c =
-    own-fails c.args.unit.now c.loop-entry.entry-iterator c.next.new.self c.loop-entry.number c.in-Err.field-0 c.requires.bytes c.loop-entry.invariant.pass
-    (gave-refusal c.loop-entry.entry-iterator c.next.new.self c.in-Some.entry c.in-Err.field-0 c.in-Some.ensures.steps c.in-Err.is) c.requires.reads
+pub node-requires : goal.node-requires
+node-requires g c = record {
+  below = step-inside c.args.unit.now c.args.arena.now (unit_entries c.args.unit.now.header c.args.unit.now.table c.args.unit.now.bytes) c.loop-step.step-iterator c.next.new.self
+      c.in-Some.step (string_bytes c.args.text.now) (string_bytes c.loop-step.text) (g.O.Sink.heard c.args.out.now) (g.O.Sink.heard c.loop-step.out) c.loop-step.invariant
+      c.in-Some.ensures.steps;
+}
 
-pub overflow_add-number : goal.overflow_add-number
-overflow_add-number g c =
-    let few = own-few c.args.unit.now c.loop-entry.entry-iterator c.loop-entry.number c.requires.bytes c.loop-entry.invariant.pass c.requires.reads in
-    omega (arith, few)
+pub loop-step-init : goal.loop-step-init
+loop-step-init g c =
+    walk-start c.args.unit.now c.args.arena.now (unit_entries c.args.unit.now.header c.args.unit.now.table c.args.unit.now.bytes) c.into_iter-step-iterator.result
+    (string_bytes c.args.text.now) (g.O.Sink.heard c.args.out.now) (c.into_iter-step-iterator.ensures.into_iter_gives ∙ c.steps-step-items.ensures.start)
 
-pub loop-entry-init : goal.loop-entry-init
-loop-entry-init g c =
-    entries-start c.args.unit.now c.into_iter-entry-iterator.result (string_bytes c.args.text.now) (g.O.Sink.heard c.args.out.now)
-    (own-start c.args.unit.now c.into_iter-entry-iterator.result (c.into_iter-entry-iterator.ensures.into_iter_gives ∙ c.requires.start))
-
-pub loop-entry-preserved : goal.loop-entry-preserved
-loop-entry-preserved g c =
-    entries-more c.args.unit.now c.loop-entry.entry-iterator c.next.new.self c.loop-entry.number c.in-Ok.entry (string_bytes c.args.text.now) (string_bytes c.loop-entry.text)
-    (string_bytes c.print_entry.new.text) (g.O.Sink.heard c.args.out.now) (g.O.Sink.heard c.loop-entry.out) (g.O.Sink.heard c.print_entry.new.out) c.loop-entry.invariant
-    (gave-entry c.loop-entry.entry-iterator c.next.new.self c.in-Some.entry c.in-Ok.entry c.in-Some.ensures.steps c.in-Ok.is) c.in-Ok-print_entry.ensures.done
+pub loop-step-preserved : goal.loop-step-preserved
+loop-step-preserved g c =
+    go-more c.args.unit.now c.args.arena.now c.loop-step.step-iterator c.next.new.self c.in-Some.step c.node.result.now (string_bytes c.args.text.now) (string_bytes c.loop-step.text)
+    (string_bytes c.print_node.new.text) (g.O.Sink.heard c.args.out.now) (g.O.Sink.heard c.loop-step.out) (g.O.Sink.heard c.print_node.new.out) c.requires.arena
+    (own-short c.args.unit.now c.requires.bytes) c.loop-step.invariant c.in-Some.ensures.steps c.node.ensures.node c.in-Ok.ensures.done

@@ -1,8 +1,8 @@
 -- The unit's bytes, and the unit as it is printed.
-use Rattle.std.proofs.Common.{◌++◌, ◌∙◌, IfErr, OnOk, ap, subst, sym}
+use Rattle.std.proofs.Common.{◌++◌, ◌∙◌, ℕ, List, IfErr, OnOk, ap, subst, sym}
 use Rattle.std.specs.String.{string_bytes}
 use Rattle.dw_base.specs.FileViews.{View}
-use Rattle.dw_entries.specs.ScanStates.{scan_start}
+use Rattle.entry_arena.specs.UnitArenas.{IsArenaOf}
 use Rattle.dbg_show.specs.Printing.{Cut, Printed}
 use Rattle.dbg_show.specs.ShownUnits.{ShownUnit, UnitSource, entries_text, unit_bytes, unit_entries}
 use Rattle.dbg_show.proofs.EntryPrintLaws.{base-own, own-fits, shown-is, unit-address, unit-small, with-fits, with-length, with-own, with-within}
@@ -39,11 +39,11 @@ print_entries-requires-clause-fits g c = record {
 pub print_entries-requires-clause-bytes : goal.print_entries-requires-clause-bytes
 print_entries-requires-clause-bytes g c = with-own c.args.source.now.view c.source.inside.view.now c.args.unit.now c.args.table.now c.bytes.result.now (ap (λ (u : UnitSource). u.view) c.source.view_is) c.requires.reads c.bytes.ensures.bytes
 
-pub print_entries-requires-clause-start : goal.print_entries-requires-clause-start
-print_entries-requires-clause-start g c =
-    c.new.ensures.start
-    ∙ ap (scan_start c.args.unit.now c.args.table.now) (sym (with-own c.args.source.now.view c.source.inside.view.now c.args.unit.now c.args.table.now c.bytes.result.now (ap (λ (u : UnitSource). u.view) c.source.view_is) c.requires.reads c.bytes.ensures.bytes
-    ∙ ap (λ (v : View). unit_bytes v c.args.unit.now) (sym (ap (λ (u : UnitSource). u.view) c.source.view_is))))
+pub print_entries-requires-clause-arena : goal.print_entries-requires-clause-arena
+print_entries-requires-clause-arena g c =
+    subst (λ (bs : List ℕ). IsArenaOf c.args.unit.now c.args.table.now bs c.args.arena.now)
+    (sym (with-own c.args.source.now.view c.source.inside.view.now c.args.unit.now c.args.table.now c.bytes.result.now (ap (λ (u : UnitSource). u.view) c.source.view_is) c.requires.reads c.bytes.ensures.bytes))
+    c.requires.arena
 
 pub returns-clause-done : goal.returns-clause-done
 returns-clause-done g c =
