@@ -47,6 +47,8 @@ mod elf_file_tests;
 #[cfg(test)]
 mod elf_layout_tests;
 #[cfg(test)]
+mod entry_arena_tests;
+#[cfg(test)]
 mod files;
 
 /// The records of a file; no memory where it is longer than any that is read.
