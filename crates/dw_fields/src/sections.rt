@@ -59,7 +59,7 @@ fn macro_sections(alloc: Global, view: &View) -> Result<(), Fault>
 /// tables, macro units and line tables. These were read: its contributions, name tables and line tables. Refused as `Relocation` where a
 /// relocation may not stand where it does, at that relocation, or at the offset that it gives no place; as the units or macro units of a
 /// section that has relocations are, where they can't be read; or for want of memory. Takes the time of reading the sections that have
-/// relocations, times the logarithm of how many these are; a section without any takes no time.
+/// relocations; a section without any takes no time.
 #[tactic(auto, using(crate::proofs::FieldCheckLaws::check_rules))]
 pub fn check_fields(
     alloc: Global,

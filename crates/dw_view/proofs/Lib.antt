@@ -10,6 +10,7 @@ pub mod PartLaws
 pub mod PairingLaws
 pub mod FieldLaws
 pub mod PlaceLaws
+pub mod IndexLaws
 pub mod PartlyLaws
 pub mod FirstLaws
 pub mod SourceLaws

@@ -14,7 +14,7 @@ use Rattle.dw_base.specs.declared.relocations.AbsoluteTypes.{AbsoluteTypes}
 use Rattle.dw_base.specs.declared.relocations.Reloc.{Reloc}
 use Rattle.dw_base.proofs.RelocationTieLaws.{first-among, get_or-records, record-there}
 use Rattle.dw_base.proofs.SectionRelocationLaws.{first_below-none}
-use Rattle.dw_view.specs.Places.{BeginBefore, BeginFrom, HasPlace, IsPlaceGap, Lists, NoneMet, PlacesRise, index_of, partly_among, place_at, placed_record, reaches_over, record_of, relocation_at_number}
+use Rattle.dw_view.specs.Places.{BeginBefore, Lists, NoneMet, PlacesRise, index_of, partly_among, place_at, placed_record, reaches_over, record_of, relocation_at_number}
 use Rattle.dw_view.specs.declared.places.PlacedRecord.{PlacedRecord}
 use Rattle.dw_view.proofs.PlaceLaws.{number-of, place-found, record-is}
 
@@ -40,29 +40,6 @@ pub index-is : (list : List PlacedRecord) (i : ℕ) (d : PlacedRecord) → i < l
 index-is list i d lt = ap (λ (e : PlacedRecord). e.index) (get_or_default list i d no_item lt)
 
 pub ruleset index_rules = (index-is)
-
-pub from-found : (list : List PlacedRecord) (place i : ℕ) → PlacesRise list → HasPlace list place i → BeginBefore list place i
-from-found list place i rising h =
-    let inside = h.inside in
-    record { inside = omega (arith, inside); before = λ k lt. subst (λ (p : ℕ). place_at list k < p) h.is (rising.rise k i lt inside) }
-
-pub from-gap : (list : List PlacedRecord) (place i : ℕ) → IsPlaceGap list place i → BeginBefore list place i
-from-gap list place i h = record { inside = h.inside; before = h.before }
-
-pub behind-found : (list : List PlacedRecord) (place i : ℕ) → PlacesRise list → HasPlace list place i → BeginFrom list place i
-behind-found list place i rising h = record {
-  behind = λ k le lt. elim (cases_lt i k) [
-    | inl under ↦ let rise = rising.rise i k under lt in let here = h.is in omega (arith, rise, here)
-    | inr over ↦
-        let same : i ≡ k = omega (arith, le, over) in
-        let own : place_at list k ≡ place = ap (place_at list) (sym same) ∙ h.is in omega (arith, own)
-  ];
-}
-
-pub behind-gap : (list : List PlacedRecord) (place i : ℕ) → IsPlaceGap list place i → BeginFrom list place i
-behind-gap list place i h = record { behind = λ k le lt. let more = h.behind k le lt in omega (arith, more) }
-
-pub ruleset from_rules = (from-found, from-gap, behind-found, behind-gap)
 
 -- the record of an item is there
 pub item-there : (g : RelocationSource) (list : List PlacedRecord) (i : ℕ) → Lists g list → i < length list → index_of list i < length (records_in g)

@@ -1,11 +1,8 @@
 -- Laws of lists of places.
-use Rattle.std.proofs.Common.{◌≡◌, ◌≢◌, ℕ, ◌+◌, ◌-◌, ◌<◌, ◌≤◌, Bool, true, false, if◌then◌else◌, ◌==◌, List, [], ◌∷◌, ◌++◌, drop, length, get_or, Option, Some, None, Result, Ok, Err, IfOk, IfErr, refl, sym, ap, ◌∙◌, arith, subst, inl, inr}
+use Rattle.std.proofs.Common.{◌≡◌, ◌≢◌, ℕ, ◌+◌, ◌-◌, ◌<◌, ◌≤◌, Bool, true, false, if◌then◌else◌, ◌==◌, List, [], ◌∷◌, ◌++◌, drop, length, get_or, Option, Some, None, refl, sym, ap, ◌∙◌, arith, subst, inl, inr}
 use Rattle.std.specs.Prelude.{Contains, slice_index_or, sum_by}
-use Rattle.std.specs.List.Sorted.{IsSearchInRange, IsBinarySearchResult, IsNonDecreasingBy, IsPermutation}
-use Rattle.std.specs.Ordering.{nat_cmp, ordering_index}
+use Rattle.std.specs.List.Sorted.{IsNonDecreasingBy, IsPermutation}
 use Rattle.std.proofs.lemmas.Bool.{cases_lt, ne_eqb, eq-eqb}
-use Rattle.std.proofs.lemmas.Bool.Decides.{nat_tests}
-use Rattle.std.proofs.lemmas.Cmp.{ranked}
 use Rattle.std.proofs.lemmas.List.Sorted.{IsNonDecreasingBy-from_default, Contains-permutation, IsPermutation-refl, IsPermutation-sym, sum_by-IsPermutation}
 use Rattle.std.proofs.lemmas.List.Sums.{get_or-le-sum_by, sum_by-drop_more, sum_by-take-drop, sum_by_push}
 use Rattle.std.proofs.lemmas.List.{get_or-drop, get_or_default, length-drop}
@@ -224,25 +221,6 @@ fails-together section size place i list r here inside second is =
     let some = second.some in
     subst (PlacesFail section size list) (ap (at RelocationKind section) (sym here) ∙ sym is)
     (together (i - 1) i (omega (arith, some)) inside (second.is ∙ here))
-
--- one search
-comparisons-rise : (list : List PlacedRecord) (place : ℕ) → PlacesRise list → IsNonDecreasingBy (λ e. ordering_index (nat_cmp e.place place)) list
-comparisons-rise list place rising = IsNonDecreasingBy-from_default (λ e. ordering_index (nat_cmp e.place place)) list no_item (λ i j le inside.
-    let rise : place_at list i ≤ place_at list j = grind (arith, rising.rise i j, λ (same : i ≡ j). ap (place_at list) same) in
-    grind (arith, nat_tests))
-
-pub searched : (list : List PlacedRecord) (place : ℕ) (r : Result ℕ ℕ) → PlacesRise list → IsSearchInRange r (length list)
-    → IsBinarySearchResult (λ e. nat_cmp e.place place) list r → record { found : IfOk r (HasPlace list place); absent : IfErr r (IsPlaceGap list place) }
-searched list place (Ok at) rising inside equal =
-    record { found = record { inside = inside; is = ranked _ place _ (sym (equal no_item)) }; absent = tt }
-searched list place (Err at) rising inside parted = record {
-  found = tt;
-  absent = record {
-    inside = inside;
-    before = λ k lt. ranked _ place _ (sym ((parted (comparisons-rise list place rising)).0 k no_item (omega arith) lt));
-    behind = λ k le lt. ranked _ place _ (sym ((parted (comparisons-rise list place rising)).1 k no_item le lt));
-  };
-}
 
 -- the item that was found, or none
 item-in : (list : List PlacedRecord) (place i : ℕ) (d : PlacedRecord) → HasPlace list place i

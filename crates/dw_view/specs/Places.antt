@@ -1,5 +1,5 @@
 -- The relocations of a section as a list of places, each with the number of its record, in order of places; and how it is searched.
-use Rattle.std.specs.Prelude.{Bool, false, ◌≡◌, ℕ, ◌+◌, ◌-◌, ◌*◌, ◌<◌, ◌≤◌, ◌==◌, ◌&&◌, not, nat_lt, if◌then◌else◌, List, [], drop, length, slice_index_or, sum_by, Contains, ℤ, Option, Some, None}
+use Rattle.std.specs.Prelude.{Bool, false, ◌≡◌, ℕ, ◌+◌, ◌-◌, ◌*◌, ◌<◌, ◌≤◌, ◌==◌, ◌&&◌, not, nat_lt, if◌then◌else◌, List, [], drop, get_or, length, slice_index_or, sum_by, Contains, ℤ, Option, Some, None}
 use Rattle.std.specs.Int.{w64, cast_unsigned}
 use Rattle.dw_base.specs.Cells.{Relocation}
 use Rattle.dw_base.specs.Elf.{contents_of}
@@ -117,6 +117,17 @@ added (Some a) n = cast_unsigned w64 a
 -- those from the item of a number on begin at a place or behind it
 pub record BeginFrom (list : List PlacedRecord) (place i : ℕ) : Type 0 where
   pub behind : (k : ℕ) → i ≤ k → k < length list → place ≤ place_at list k
+
+-- the numbers of an index, of stretches of 64 bytes: before the one of a stretch none begins in it or behind it, and the first n begin
+-- in one that has a number
+pub record IndexedUpTo (list : List PlacedRecord) (n : ℕ) (firsts : List ℕ) : Type 0 where
+  pub each : (b : ℕ) → b < length firsts → BeginBefore list (b * 64) (get_or firsts b 0)
+  pub covers : (i : ℕ) → i < n → place_at list i < length firsts * 64
+
+-- and of all, in order of places
+pub record IsIndexed (list : List PlacedRecord) (firsts : List ℕ) : Type 0 where
+  pub rise : PlacesRise list
+  pub indexed : IndexedUpTo list (length list) firsts
 
 -- none begins from a place on; and the first place from there at which one begins
 pub record NoneFrom (list : List PlacedRecord) (from : ℕ) : Type 0 where

@@ -10,9 +10,9 @@ ghost use Rattle.dw_view.specs.Places.{IsNextAmong, LeftAmong, Lists, NoneFrom, 
 ghost use Rattle.dw_view.specs.Relocations.{IsKept, KeptRelocations, NextKept, field_kept, kept_of, partly_kept, relocation_kept, relocation_value};
 
 use crate::fields::{Relocation, field_by, relocation_of};
-use crate::partly::{first_from, partly_at};
-use crate::places::{PlacedRecord, place_at};
-use crate::search::index_at;
+use crate::partly::partly_at;
+use crate::places::place_at;
+use crate::search::{PlaceIndex, first_from, index_at};
 use dw_base::{Field, Kind, Refusal};
 use elf_relocs::{RelocSource, field_number, is_none_type, record, record_count};
 use std::alloc::Global;
@@ -26,15 +26,15 @@ pub struct Kept<'a> {
     /// The section is one that is read.
     read: bool,
     /// Of a section that is read, where they begin, in order.
-    places: Vec<PlacedRecord>,
+    places: PlaceIndex,
 }
 
 impl<'a> Model for Kept<'a> {
     ghost Value = { KeptRelocations };
 
-    ghost view = { λ k. kept_of k.source k.read k.places.items };
+    ghost view = { λ k. kept_of k.source k.read k.places };
 
-    ghost invariant = { λ k. IsKept (kept_of k.source k.read k.places.items) };
+    ghost invariant = { λ k. IsKept (kept_of k.source k.read k.places) };
 }
 
 /// Whether the record of a number stands for a relocation at a place.
@@ -65,7 +65,7 @@ fn scanned_at(source: &RelocSource, place: u64) -> Option<u64>
 
 /// The same by places in order.
 #[tactic(auto, using(crate::proofs::KeptLaws::listed_rules))]
-fn listed_at(source: &RelocSource, places: &[PlacedRecord], place: u64) -> Option<u64>
+fn listed_at(source: &RelocSource, places: &PlaceIndex, place: u64) -> Option<u64>
     requires lists { Lists source.now places.now }
     requires rise { PlacesRise places.now }
     ensures there { IfSome result (λ i. i < length (records_in source.now)) }
@@ -76,7 +76,7 @@ fn listed_at(source: &RelocSource, places: &[PlacedRecord], place: u64) -> Optio
 
 /// The number of the record of the relocation that begins at a place.
 #[tactic(auto, using(crate::proofs::KeptLaws::kept_rules))]
-fn index_in(source: &RelocSource, read: bool, places: &[PlacedRecord], place: u64) -> Option<u64>
+fn index_in(source: &RelocSource, read: bool, places: &PlaceIndex, place: u64) -> Option<u64>
     requires kept { IsKept (kept_of source.now read places.now) }
     ensures there { IfSome result (λ i. i < length (records_in source.now)) }
     ensures is { option_map (λ i. relocation_of source.now (record_of source.now i)) result ≡ relocation_in (relocations_in source.now) place }
@@ -92,7 +92,7 @@ fn index_in(source: &RelocSource, read: bool, places: &[PlacedRecord], place: u6
 fn relocation_found(
     source: &RelocSource,
     read: bool,
-    places: &[PlacedRecord],
+    places: &PlaceIndex,
     place: u64,
 ) -> Option<Relocation>
     requires kept { IsKept (kept_of source.now read places.now) }
@@ -110,7 +110,7 @@ fn relocation_found(
 fn part_in(
     source: &RelocSource,
     read: bool,
-    places: &[PlacedRecord],
+    places: &PlaceIndex,
     place: u64,
     size: u8,
 ) -> Option<u64>
@@ -129,7 +129,7 @@ fn part_in(
 fn field_read(
     source: &RelocSource,
     read: bool,
-    places: &[PlacedRecord],
+    places: &PlaceIndex,
     section: u32,
     place: u64,
     size: u8,
@@ -164,7 +164,7 @@ fn number_by(source: &RelocSource, index: u64, size: u8, number: u64, offset: u6
 fn number_moved(
     source: &RelocSource,
     read: bool,
-    places: &[PlacedRecord],
+    places: &PlaceIndex,
     place: u64,
     size: u8,
     number: u64,
@@ -182,24 +182,25 @@ fn number_moved(
 
 /// The first place from one on at which a relocation begins.
 #[tactic(auto, using(crate::proofs::KeptLaws::next_rules))]
-fn next_listed(places: &[PlacedRecord], from: u64) -> Option<u64>
+fn next_listed(places: &PlaceIndex, from: u64) -> Option<u64>
     requires rise { PlacesRise places.now }
     ensures next { MatchOption result (NoneFrom places.now from) (IsNextAmong places.now from) }
 {
+    let list = places.list();
     let i = first_from(places, from);
-    if i >= places.len() {
+    if i >= list.len() {
         return None;
     }
-    Some(place_at(places, i))
+    Some(place_at(list, i))
 }
 
 impl<'a> Kept<'a> {
     /// Those of a section that is read.
     #[tactic(auto, using(crate::proofs::KeptLaws::made_rules))]
-    pub fn listed(source: RelocSource<'a>, places: Vec<PlacedRecord>) -> Kept<'a>
-        requires lists { Lists source places.items }
-        requires rise { PlacesRise places.items }
-        ensures value { result ≡ kept_of source.entry true places.items }
+    pub fn listed(source: RelocSource<'a>, places: PlaceIndex) -> Kept<'a>
+        requires lists { Lists source places }
+        requires rise { PlacesRise places }
+        ensures value { result ≡ kept_of source.entry true places }
     {
         Kept {
             source,
@@ -216,7 +217,7 @@ impl<'a> Kept<'a> {
         Kept {
             source,
             read: false,
-            places: Vec::new(alloc),
+            places: PlaceIndex::none(alloc),
         }
     }
 

@@ -1,29 +1,47 @@
 //! Relocations that lie on a field only in part.
 
-ghost use Rattle.std.specs.Prelude.{◌≡◌, ◌+◌, ◌<◌, ◌≤◌, ◌^◌, length, unwrap_or};
+ghost use Rattle.std.specs.Prelude.{◌≡◌, ◌+◌, ◌-◌, ◌<◌, ◌≤◌, ◌^◌, length, unwrap_or};
 ghost use Rattle.dw_base.specs.AbsoluteTypes.{absolute_size};
 ghost use Rattle.dw_base.specs.RelocationFields.{reach_of};
 ghost use Rattle.dw_base.specs.SectionRelocations.{records_in, relocations_in};
-ghost use Rattle.dw_view.specs.Places.{BeginBefore, BeginFrom, Lists, PlacesRise, index_of, partly_among, place_at, reaches_over, relocation_at_number};
+ghost use Rattle.dw_view.specs.Places.{BeginBefore, Lists, PlacesRise, index_of, partly_among, place_at, reaches_over, relocation_at_number};
 
 use crate::places::{PlacedRecord, place_at};
-use crate::search::with_place;
+use crate::search::{PlaceIndex, first_from};
 use elf_relocs::{RelocSource, absolute_size, record};
 
 /// How many bytes before a field a relocation may begin that has a byte of it: the greatest field of an absolute type has 8.
 const REACH: u64 = 7;
 
 /// Where the first relocation begins that lies on the field of `size` bytes at a place only in part. `None` exactly where none does. It is
-/// found in a time that grows with the logarithm of their number.
+/// found in a time that doesn't grow with their number.
+pub fn partly_at(source: &RelocSource, places: &PlaceIndex, place: u64, size: u8) -> Option<u64>
+    requires lists { Lists source.now places.now }
+    requires rise { PlacesRise places.now }
+    requires small { place + size < 2 ^ 63 }
+    ensures place { result ≡ partly_among (relocations_in source.now) place size }
+{
+    let first = first_from(places, place.saturating_sub(REACH));
+    partly_from(source, places.list(), first, place, size)
+}
+
+/// The same from the first on that may reach the field.
 #[tactic(auto, using(crate::proofs::PartlyLaws::partly_rules))]
-pub fn partly_at(source: &RelocSource, list: &[PlacedRecord], place: u64, size: u8) -> Option<u64>
+fn partly_from(
+    source: &RelocSource,
+    list: &[PlacedRecord],
+    first: usize,
+    place: u64,
+    size: u8,
+) -> Option<u64>
     requires lists { Lists source.now list.now }
     requires rise { PlacesRise list.now }
+    requires before { BeginBefore list.now (place - 7) first }
     requires small { place + size < 2 ^ 63 }
     ensures place { result ≡ partly_among (relocations_in source.now) place size }
 {
     let end = place + u64::from(size);
-    for i in first_from(list, place.saturating_sub(REACH))..list.len() {
+    for i in first..list.len() {
         let at = place_at(list, i);
         if at >= end {
             return None;
@@ -33,19 +51,6 @@ pub fn partly_at(source: &RelocSource, list: &[PlacedRecord], place: u64, size: 
         }
     }
     None
-}
-
-/// The number of the first that begins at a place or behind it.
-#[tactic(auto, using(crate::proofs::PartlyLaws::from_rules))]
-pub fn first_from(list: &[PlacedRecord], place: u64) -> usize
-    requires rise { PlacesRise list.now }
-    ensures before { BeginBefore list.now place result }
-    ensures behind { BeginFrom list.now place result }
-{
-    match with_place(list, place) {
-        Ok(at) => at,
-        Err(at) => at,
-    }
 }
 
 /// Whether the relocation of a number has a byte behind a place, and begins elsewhere.

@@ -20,6 +20,7 @@ use crate::kept::Kept;
 use crate::partly::index_of;
 use crate::places::{PlacedRecord, check_places, place_at, placed_records};
 use crate::repeats::is_relocatable;
+use crate::search::PlaceIndex;
 use crate::source::{is_symbol_table, source_of};
 use dw_base::elf_numbers::{ET_REL, SHT_SYMTAB, SHT_SYMTAB_SHNDX};
 use dw_base::{DebugSection, Fault, Kind, Refusal, Section, moves};
@@ -186,8 +187,10 @@ fn keep_listed<'a>(
         return Err(Fault::Refused(Refusal::at(Kind::Relocation, section, 0)));
     }
     let source = source_of(elf, extended, holder);
-    let places = placed_records(*elf.sections.allocator(), &source)?;
-    check_list(elf, &source, section, kind, &places)?;
+    let alloc = *elf.sections.allocator();
+    let list = placed_records(alloc, &source)?;
+    check_list(elf, &source, section, kind, &list)?;
+    let places = PlaceIndex::new(alloc, list)?;
     Ok(Kept::listed(source, places))
 }
 

@@ -257,7 +257,7 @@ impl<'a> View<'a> {
 
     /// What a field reads as: the `size` bytes from `at`, in bytes from the start of the section of a
     /// number. Refused as `Relocation` exactly where, in a section that is read, a relocation lies on the field
-    /// only in part, at that relocation. In a section that is read it takes a time that grows with the logarithm of its relocations.
+    /// only in part, at that relocation. In a section that is read it takes a time that doesn't grow with the number of its relocations.
     #[tactic(auto, using(crate::proofs::ViewRelocationLaws::field_rules))]
     pub fn field(&self, section: u32, at: u64, size: u8) -> Result<Field, Refusal>
         requires there { section < length self.now.sections }

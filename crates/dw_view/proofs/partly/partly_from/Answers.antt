@@ -1,12 +1,12 @@
 -- The first that begins late enough, one that lies on the field, and one that doesn't.
-use Rattle.std.proofs.Common.{◌+◌, arith, refl}
+use Rattle.std.proofs.Common.{◌+◌, ◌-◌, arith, refl}
 use Rattle.dw_view.proofs.PartlyLaws.{none-first, none-more, partly-found}
-use Rattle.dw_view.proofs.partly.partly_at.Goals as goal
+use Rattle.dw_view.proofs.partly.partly_from.Goals as goal
 
 pub loop-i-init : goal.loop-i-init
 loop-i-init c =
-    none-first c.args.source.now c.args.list.now c.args.place c.args.size c.first_from-i.result c.saturating_sub.result c.requires.lists c.requires.rise
-    (omega (arith, c.saturating_sub.ensures)) c.first_from-i.ensures.before
+    none-first c.args.source.now c.args.list.now c.args.place c.args.size c.args.first (c.args.place - 7) c.requires.lists c.requires.rise
+    refl c.requires.before
 
 pub returns-then-reaches_over : goal.returns-then-reaches_over
 returns-then-reaches_over c = record {
