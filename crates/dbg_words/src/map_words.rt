@@ -22,12 +22,7 @@ fn sides_of<'a>(alloc: Global, item: &'a str) -> Result<Vec<&'a str>, AllocError
 }
 
 /// The map with the pair of two sides, where it may be added.
-fn with_pair(
-    alloc: Global,
-    maps: Maps,
-    base: &str,
-    dest: &str,
-) -> Result<Option<Maps>, NoMemory>
+fn with_pair(alloc: Global, maps: Maps, base: &str, dest: &str) -> Result<Option<Maps>, NoMemory>
     ensures value { IfOk result (λ o. o ≡ (if may_add maps base.now dest.now then Some (with_pair maps base.now dest.now) else None)) }
 {
     let mut maps = maps;
