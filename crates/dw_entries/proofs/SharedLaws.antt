@@ -34,10 +34,10 @@ pub ruleset share_rules = (kept-in, kept-out, list-in)
 
 -- one table more
 pub one-kept : (bytes : List ℕ) (old new : ℕ → Option (List Abbreviation)) (at : ℕ) (own : List Abbreviation) → AreKept bytes old → IsTable bytes at own
-    → ((o : ℕ) → new o ≡ (if o == at then Some own else old o)) → AreKept bytes new
-one-kept bytes old new at own are is more = record { each = λ (o : ℕ) (t : List Abbreviation) e. by_offset o t (o == at) refl (sym (more o) ∙ e) }
+    → ((o : ℕ) → new o ≡ (if at == o then Some own else old o)) → AreKept bytes new
+one-kept bytes old new at own are is more = record { each = λ (o : ℕ) (t : List Abbreviation) e. by_offset o t (at == o) refl (sym (more o) ∙ e) }
   where
-    by_offset : (o : ℕ) (t : List Abbreviation) (b : Bool) → (o == at) ≡ b → (if b then Some own else old o) ≡ Some t → IsTable bytes o t
+    by_offset : (o : ℕ) (t : List Abbreviation) (b : Bool) → (at == o) ≡ b → (if b then Some own else old o) ≡ Some t → IsTable bytes o t
     by_offset o t true test e =
         let same : o ≡ at = grind (arith, nat_tests) in
         let is_own : own ≡ t = once own t e in
@@ -66,10 +66,10 @@ pub ruleset keep_rules = (one-kept, popped-table, popped-left)
 
 -- one table alone
 pub alone-kept : (bytes : List ℕ) (none new : ℕ → Option (List Abbreviation)) (at : ℕ) (own : List Abbreviation) → ((o : ℕ) → none o ≡ None) → IsTable bytes at own
-    → ((o : ℕ) → new o ≡ (if o == at then Some own else none o)) → AreKept bytes new
-alone-kept bytes none new at own empty is more = record { each = λ (o : ℕ) (t : List Abbreviation) e. by_offset o t (o == at) refl (sym (more o) ∙ e) }
+    → ((o : ℕ) → new o ≡ (if at == o then Some own else none o)) → AreKept bytes new
+alone-kept bytes none new at own empty is more = record { each = λ (o : ℕ) (t : List Abbreviation) e. by_offset o t (at == o) refl (sym (more o) ∙ e) }
   where
-    by_offset : (o : ℕ) (t : List Abbreviation) (b : Bool) → (o == at) ≡ b → (if b then Some own else none o) ≡ Some t → IsTable bytes o t
+    by_offset : (o : ℕ) (t : List Abbreviation) (b : Bool) → (at == o) ≡ b → (if b then Some own else none o) ≡ Some t → IsTable bytes o t
     by_offset o t true test e =
         let same : o ≡ at = grind (arith, nat_tests) in
         let is_own : own ≡ t = once own t e in
