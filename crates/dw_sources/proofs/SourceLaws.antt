@@ -80,7 +80,7 @@ are-sources v m fronts list tables first last names is contributions kept none a
     lines = kept.reads;
   };
   is =
-      e ∙ adds.added ∙ ap (λ (f : List ℕ). with_paths f first (sections_paths (debug_data v) list tables ((debug_data v).found Info) adds.headers)) is
+      e ∙ adds.added ∙ ap (λ (fs : List (List ℕ)). with_paths fs first (sections_paths (debug_data v) list tables ((debug_data v).found Info) adds.headers)) is
       ∙ ap (λ (ns : List (List ℕ)). with_paths (fronts_of m) ns (sections_paths (debug_data v) list tables ((debug_data v).found Info) adds.headers)) none
       ∙ ap (with_paths (fronts_of m) []) (sections-same (debug_data v) list tables (started_table (line_source (debug_data v)) kept.readings) ((debug_data v).found Info) adds.headers kept.kept);
 }
