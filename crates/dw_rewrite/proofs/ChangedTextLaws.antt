@@ -124,14 +124,14 @@ under_next base xs plain ends begins =
 pub ruleset under_rules = (under_short, under_other, under_next)
 
 -- where no pair counts for a path it stays
-asks_none : (ps : List MapPair) (t : List ℕ) → None ≡ matching ps t → false ≡ not (same_text (mapped_path (record { pairs = ps }) t) t)
+pub asks_none : (ps : List MapPair) (t : List ℕ) → None ≡ matching ps t → false ≡ not (same_text (mapped_path (record { pairs = ps }) t) t)
 unfolding mapped_path
 asks_none ps t is =
     let stays : mapped_by (matching ps t) t ≡ t = ap (λ (o : Option MapPair). mapped_by o t) (sym is) in
     rw (same_text-from (mapped_by (matching ps t) t) t stays) refl
 
 -- else it changes where base and destination of the one that counts differ
-asks_pair : (ps : List MapPair) (t : List ℕ) (p : MapPair) (b : Bool) → Some p ≡ matching ps t → b ≡ not (same_text p.dest p.base) → IsPathMap (record { pairs = ps })
+pub asks_pair : (ps : List MapPair) (t : List ℕ) (p : MapPair) (b : Bool) → Some p ≡ matching ps t → b ≡ not (same_text p.dest p.base) → IsPathMap (record { pairs = ps })
     → b ≡ not (same_text (mapped_path (record { pairs = ps }) t) t)
 asks_pair ps t p b is e h =
     let m : PathMap = record { pairs = ps } in
