@@ -2,7 +2,7 @@
 //!
 //! Read first: `specs/UnitTexts.antt`.
 
-ghost use Rattle.std.specs.Prelude.{◌≡◌, ◌<◌, nat_eq, length, IfErr, IfOk, OnOk, None};
+ghost use Rattle.std.specs.Prelude.{◌≡◌, ◌<◌, true, nat_eq, length, IfErr, IfOk, OnOk, None};
 ghost use Rattle.std.specs.HashMap.{get};
 ghost use Rattle.dw_base.specs.EntryValues.{HasUnit};
 ghost use Rattle.dw_base.specs.FileViews.{section_bytes, view_cells};
