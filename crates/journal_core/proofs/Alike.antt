@@ -1,11 +1,11 @@
 -- The core that a marking shows hangs on which names are there, and in a shape each name of the work
 -- folder is there or not.
-use Rattle.std.proofs.Common.{◌≡◌, ℕ, suc, zero, ◌<◌, false, List, length, get_or, refl, sym, ◌∙◌, ap, arith, inl, inr, IsTrue}
+use Rattle.std.proofs.Common.{◌≡◌, ℕ, suc, zero, ◌<◌, false, List, length, get_or, refl, sym, ◌∙◌, ap, arith, inl, inr, IsTrue, subst}
 use Rattle.std.proofs.lemmas.Bool.{cases_lt}
 use Rattle.std.proofs.lemmas.List.{ext_get_or}
 use Rattle.journal_core.specs.declared.event.JobState.TheVariants.{Done}
 use Rattle.journal_core.specs.Names.{Name, IsWorkName, plan_new, plan, temp, commit, fresh, final, target}
-use Rattle.journal_core.specs.Marks.{Mark, Marking, mark, absent, first, whole, any, is_absent, is_any, is_loose, is_kept}
+use Rattle.journal_core.specs.Marks.{Mark, Marking, mark, absent, first, whole, any, is_absent, is_any, is_loose, is_kept, earlier, is_own}
 use Rattle.journal_core.specs.Shapes.{JobShape, untouched, committed, none_there, HasShape}
 use Rattle.journal_core.specs.Starts.{least_there, shown_state, shown_states, AreAlike, both_gone, both_there, EverySameShown, EveryWorkOwn}
 use Rattle.journal_core.proofs.Starts.{shown_at, length_shown}
@@ -17,6 +17,7 @@ any_there absent h = cc
 any_there first h = cc
 any_there whole h = refl
 any_there any h = refl
+any_there earlier h = refl
 
 alike_any : (x y : Mark) → AreAlike x y → is_any x ≡ is_any y
 alike_any x y (both_gone g h) = rw (g, h) refl
@@ -51,10 +52,10 @@ states_same steps m n alike = ext_get_or Done (shown_states steps m) (shown_stat
     ∙ sym (shown_at steps n j inside))
 
 pub same_shown : EverySameShown
-same_shown steps m n alike =
+same_shown steps m n alike version =
     let ended : is_any (m.final 3) ≡ is_any (n.final 3) = alike_any _ _ (alike (final 3) (omega arith)) in
     let planned : is_any m.plan ≡ is_any n.plan = alike_any _ _ (alike plan tt) in
-    rw (ended, planned, states_same steps m n alike) refl
+    rw (ended, version, planned, states_same steps m n alike) refl
 
 -- ### Shapes
 
@@ -69,12 +70,21 @@ any_loose absent h = cc
 any_loose first h = cc
 any_loose whole h = refl
 any_loose any h = refl
+any_loose earlier h = refl
 
 kept_loose : (x : Mark) → IsTrue (is_kept x) → IsTrue (is_loose x)
 kept_loose absent h = refl
 kept_loose first h = cc
 kept_loose whole h = refl
 kept_loose any h = cc
+kept_loose earlier h = refl
+
+own_loose : (x : Mark) → IsTrue (is_own x) → IsTrue (is_loose x)
+own_loose absent h = cc
+own_loose first h = cc
+own_loose whole h = refl
+own_loose any h = cc
+own_loose earlier h = refl
 
 commit_own : (n : ℕ) (c : Mark) (t g : ℕ → Mark) → JobShape n c t g → IsTrue (is_loose c)
 commit_own n c t g (untouched e each) = gone_loose c e
@@ -103,7 +113,7 @@ work_own steps m (fresh i) (HasShape.unplanned h) is = gone_loose _ (h.rest.fres
 work_own steps m (final i) (HasShape.unplanned h) is = gone_loose _ (h.rest.final i is)
 work_own steps m (target j k) (HasShape.unplanned h) is = absurd is
 work_own steps m plan_new (HasShape.underway h) is = gone_loose _ h.plan_new
-work_own steps m plan (HasShape.underway h) is = whole_loose _ h.plan
+work_own steps m plan (HasShape.underway h) is = own_loose _ h.plan
 work_own steps m (temp j k) (HasShape.underway h) is = temp_own _ _ _ _ k is.step_in (h.jobs j is.job_in)
 work_own steps m (commit j) (HasShape.underway h) is = commit_own _ _ _ _ (h.jobs j is)
 work_own steps m (fresh i) (HasShape.underway h) is = h.fresh i is
@@ -116,3 +126,16 @@ work_own steps m (commit j) (HasShape.finished h) is = h.commit j is
 work_own steps m (fresh i) (HasShape.finished h) is = gone_loose _ (h.fresh i is)
 work_own steps m (final i) (HasShape.finished h) is = whole_loose _ (h.final i is)
 work_own steps m (target j k) (HasShape.finished h) is = absurd is
+work_own steps m plan_new (HasShape.old h) is = gone_loose _ h.plan_new
+work_own steps m plan (HasShape.old h) is = kept_loose _ h.plan
+work_own steps m (temp j k) (HasShape.old h) is = gone_loose _ (h.temp j k is)
+work_own steps m (commit j) (HasShape.old h) is = h.commit j is
+work_own steps m (fresh i) (HasShape.old h) is = elim (cases_lt i 3) [
+  | inl b ↦ gone_loose _ (h.fresh i b)
+  | inr b ↦ let e : i ≡ 3 = omega arith in subst (λ (j : ℕ). IsTrue (is_loose (m.fresh j))) (sym e) h.last
+]
+work_own steps m (final i) (HasShape.old h) is = elim (cases_lt i 3) [
+  | inl b ↦ whole_loose _ (h.final i b)
+  | inr b ↦ let e : i ≡ 3 = omega arith in subst (λ (j : ℕ). IsTrue (is_loose (m.final j))) (sym e) (rw h.finished refl)
+]
+work_own steps m (target j k) (HasShape.old h) is = absurd is

@@ -4,21 +4,21 @@ use Rattle.std.proofs.Common.{◌≡◌, ◌≢◌, ℕ, ◌<◌, Bool, ◌&&◌
 use Rattle.std.proofs.lemmas.Bool.{cases_eq, and_parts}
 use Rattle.std.proofs.lemmas.List.{set-get_or}
 use Rattle.journal_core.specs.declared.event.Event.{Event}
-use Rattle.journal_core.specs.declared.event.Event.TheVariants.{Propose, Adopt, Stage, Finish, Close}
+use Rattle.journal_core.specs.declared.event.Event.TheVariants.{Propose, Adopt, Stage, Finish, Close, Renew, Replace}
 use Rattle.journal_core.specs.declared.event.JobState.{JobState}
 use Rattle.journal_core.specs.declared.event.JobState.TheVariants.{Fresh, Ready, Going, Done}
 use Rattle.journal_core.specs.declared.event.Phase.{Phase}
-use Rattle.journal_core.specs.declared.event.Phase.TheVariants.{Empty, Proposed, Running, Finishing, Closing, Closed}
+use Rattle.journal_core.specs.declared.event.Phase.TheVariants.{Empty, Proposed, Running, Finishing, Closing, Closed, Renewing}
 use Rattle.journal_core.specs.Names.{IsStep, plan_new, temp, commit, fresh}
 use Rattle.journal_core.specs.Table.{CoreState, state_of, is_fresh, is_ready, is_going, is_running, all_done, allows, after, next_of, may_finish, may_close}
 use Rattle.journal_core.specs.Marks.{Mark, Marking, absent, whole, marked, with_one}
 use Rattle.journal_core.specs.Shapes.{IsUntouched}
-use Rattle.journal_core.specs.Relation.{EachDone, free, slot, JobShows, IsLive, Shows, empty, proposed, settled, running, finishing, closing, closed}
-use Rattle.journal_core.specs.Calls.{puts_plan, puts_step, puts_mark, puts_text, moves_plan, moves_step, moves_text, EveryPutNamed, EveryMoveNamed, EverySourceWhole, EveryPutUndone}
+use Rattle.journal_core.specs.Relation.{EachDone, free, slot, JobShows, IsLive, Shows, empty, proposed, settled, running, finishing, closing, closed, renewing}
+use Rattle.journal_core.specs.Calls.{puts_plan, puts_step, puts_mark, puts_text, moves_plan, moves_step, moves_text, EveryPutNamed, EveryMoveNamed, EverySourceWhole, EveryPutUndone, puts_again, moves_again, before_put}
 use Rattle.journal_core.proofs.Rows.{all_done_each, with_one_here, with_one_at, with_one_other, with_step_here, with_step_other}
 use Rattle.journal_core.proofs.Jobs.{job_changed, row_same, free_here}
 use Rattle.journal_core.proofs.JobEvents.{fresh_is, ready_is, going_is, fresh_not_done, ready_not_done, going_not_done, row_at, source_is_whole, slot_same, still_there}
-use Rattle.journal_core.proofs.Ending.{early_not_ready, early_not_going, done_not_ready, done_not_going, absent_loose, live_end}
+use Rattle.journal_core.proofs.Ending.{early_not_ready, early_not_going, done_not_ready, done_not_going, absent_loose, live_end, put_gone}
 use Rattle.journal_core.proofs.Events.{never, early_proposed}
 
 -- ### The next core
@@ -41,6 +41,7 @@ stage_running p steps c m j k (running h) al = record { core = refl; live = h }
 stage_running p steps c m j k (finishing h) al = never al
 stage_running p steps c m j k (closing h) al = never al
 stage_running p steps c m j k (closed d h) al = never al
+stage_running p steps c m j k (renewing d h l q) al = never al
 
 pub stage_fresh : (c : CoreState) (j k : ℕ) → IsTrue (allows c (Stage j k)) → IsTrue (is_fresh (state_of c j) k)
 stage_fresh c j k al = (and_parts (is_running c.phase) (is_fresh (state_of c j) k) al).1
@@ -54,6 +55,7 @@ commit_running p steps c m j (running h) al = record { core = refl; live = h }
 commit_running p steps c m j (finishing h) al = absurd (done_not_ready _ _ h.all_done al)
 commit_running p steps c m j (closing h) al = absurd (done_not_ready _ _ h.all_done al)
 commit_running p steps c m j (closed d h) al = absurd (done_not_ready _ _ d al)
+commit_running p steps c m j (renewing d h l q) al = absurd (done_not_ready _ _ d al)
 
 move_running : (p : Mark → Bool) (steps : List ℕ) (c : CoreState) (m : Marking) (j k : ℕ)
     → Shows p steps c m → IsTrue (is_going (state_of c j) k) → IsRunning p steps c m
@@ -64,6 +66,7 @@ move_running p steps c m j k (running h) al = record { core = refl; live = h }
 move_running p steps c m j k (finishing h) al = absurd (done_not_going _ _ _ h.all_done al)
 move_running p steps c m j k (closing h) al = absurd (done_not_going _ _ _ h.all_done al)
 move_running p steps c m j k (closed d h) al = absurd (done_not_going _ _ _ d al)
+move_running p steps c m j k (renewing d h l q) al = absurd (done_not_going _ _ _ d al)
 
 -- ### The parts of the end are four
 
@@ -78,6 +81,7 @@ finish_small c part al = small c.phase (all_done c.states) part al
         ltb-true part 4 (and_parts (ltb 0 part) (ltb part 4) (and_parts (ltb 0 part && ltb part 4) (eqb put part) al).0).1
     small (Closing moved) done part al = never al
     small Closed done part al = never al
+    small (Renewing b w) done part al = never al
 
 close_small : (c : CoreState) (part : ℕ) → IsTrue (allows c (Close part)) → part < 4
 close_small c part al = small c.phase part al
@@ -90,6 +94,7 @@ close_small c part al = small c.phase part al
     small (Closing moved) part al =
         ltb-true part 4 (and_parts (ltb 0 part) (ltb part 4) (and_parts (ltb 0 part && ltb part 4) (eqb moved part) al).0).1
     small Closed part al = never al
+    small (Renewing b w) part al = never al
 
 -- ### Names
 
@@ -113,6 +118,7 @@ put_name p steps c m e n shows (puts_mark {job = j}) al =
     let s = ready_is (state_of c j) al in
     (row_at p steps c.states m j Ready r.live s (ready_not_done _ s)).0
 put_name p steps c m e n shows (puts_text {part = i}) al = finish_small c i al
+put_name p steps c m e n shows puts_again al = omega arith
 
 pub move_names : EveryMoveNamed
 move_names p steps c m e from to shows moves_plan al = record { from_name = tt; to_name = tt }
@@ -120,6 +126,7 @@ move_names p steps c m e from to shows (moves_step {job = j} {step = k}) al =
     let st = move_step_in p steps c m j k shows al in record { from_name = st; to_name = st }
 move_names p steps c m e from to shows (moves_text {part = i}) al =
     let small = close_small c i al in record { from_name = small; to_name = small }
+move_names p steps c m e from to shows moves_again al = record { from_name = omega arith; to_name = omega arith }
 
 -- ### Sources
 
@@ -131,6 +138,7 @@ plan_whole p steps c m (running h) al = never al
 plan_whole p steps c m (finishing h) al = never al
 plan_whole p steps c m (closing h) al = never al
 plan_whole p steps c m (closed d h) al = never al
+plan_whole p steps c m (renewing d h l q) al = never al
 
 text_whole : (p : Mark → Bool) (steps : List ℕ) (c : CoreState) (m : Marking) (part : ℕ) → Shows p steps c m → IsTrue (allows c (Close part)) → part < 4 → m.fresh part ≡ whole
 text_whole p steps c m part (empty h l) al small = never al
@@ -142,6 +150,17 @@ text_whole p steps c m part (closing {moved_parts = v} h) al small =
     let e : v ≡ part = eqb-true v part (and_parts (ltb 0 part && ltb part 4) (eqb v part) al).1 in
     h.left part (omega arith) small
 text_whole p steps c m part (closed d h) al small = never al
+text_whole p steps c m part (renewing d h l q) al small = never al
+
+again_whole : (p : Mark → Bool) (steps : List ℕ) (c : CoreState) (m : Marking) → Shows p steps c m → IsTrue (allows c Replace) → m.fresh 3 ≡ whole
+again_whole p steps c m (empty h l) al = never al
+again_whole p steps c m (proposed h l) al = never al
+again_whole p steps c m (settled h l) al = never al
+again_whole p steps c m (running h) al = never al
+again_whole p steps c m (finishing h) al = never al
+again_whole p steps c m (closing h) al = never al
+again_whole p steps c m (closed d h) al = never al
+again_whole p steps c m (renewing {put_text = b} {settled_text = w} d h l q) al = let tests = and_parts b w al in q tests.0 tests.1
 
 pub source_whole : EverySourceWhole
 source_whole p steps c m e from to shows moves_plan al = plan_whole p steps c m shows al
@@ -151,6 +170,7 @@ source_whole p steps c m e from to shows (moves_step {job = j} {step = k}) al =
     let row = row_at p steps c.states m j (Going k) r.live s (going_not_done _ k s) in
     source_is_whole p _ k _ _ _ row.1
 source_whole p steps c m e from to shows (moves_text {part = i}) al = text_whole p steps c m i shows al (close_small c i al)
+source_whole p steps c m e from to shows moves_again al = again_whole p steps c m shows al
 
 -- ### A put that leaves nothing
 
@@ -249,6 +269,18 @@ finish_undone p steps c m part (finishing {put_parts = put} h) al =
     })
 finish_undone p steps c m part (closing h) al = never al
 finish_undone p steps c m part (closed d h) al = never al
+finish_undone p steps c m part (renewing d h l q) al = never al
+
+renew_undone : (p : Mark → Bool) (steps : List ℕ) (c : CoreState) (m : Marking) → Shows p steps c m → IsTrue (allows c Renew)
+    → Shows p steps (before_put c Renew) (marked m (fresh 3) absent)
+renew_undone p steps c m (empty h l) al = never al
+renew_undone p steps c m (proposed h l) al = never al
+renew_undone p steps c m (settled h l) al = never al
+renew_undone p steps c m (running h) al = never al
+renew_undone p steps c m (finishing h) al = never al
+renew_undone p steps c m (closing h) al = never al
+renew_undone p steps c m (closed d h) al = never al
+renew_undone p steps c m (renewing d h l q) al = renewing d (put_gone _ m h) (λ t. never t) (λ t f. never t)
 
 plan_undone : (p : Mark → Bool) (steps : List ℕ) (c : CoreState) (m : Marking) → Shows p steps c m → IsTrue (allows c Propose) → Shows p steps c (marked m plan_new absent)
 plan_undone p steps c m (empty h l) al = empty (early_proposed _ _ m absent h) refl
@@ -258,6 +290,7 @@ plan_undone p steps c m (running h) al = never al
 plan_undone p steps c m (finishing h) al = never al
 plan_undone p steps c m (closing h) al = never al
 plan_undone p steps c m (closed d h) al = never al
+plan_undone p steps c m (renewing d h l q) al = never al
 
 pub put_undone : EveryPutUndone
 put_undone p steps c m e n shows puts_plan al = plan_undone p steps c m shows al
@@ -268,3 +301,4 @@ put_undone p steps c m e n shows (puts_mark {job = j}) al =
     let r = commit_running p steps c m j shows al in
     shown_again p steps c _ r.core (commit_undone p steps c.states m j r.live al)
 put_undone p steps c m e n shows (puts_text {part = i}) al = finish_undone p steps c m i shows al
+put_undone p steps c m e n shows puts_again al = renew_undone p steps c m shows al

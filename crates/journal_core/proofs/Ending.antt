@@ -8,10 +8,10 @@ use Rattle.journal_core.specs.declared.event.Phase.{Phase}
 use Rattle.journal_core.specs.declared.event.Phase.TheVariants.{Closing, Closed}
 use Rattle.journal_core.specs.Names.{IsStep, EachHasStep, Name, plan_new, plan, temp, commit, fresh, final, target, IsClearable}
 use Rattle.journal_core.specs.Table.{is_ready, is_going, closed_next}
-use Rattle.journal_core.specs.Marks.{Mark, Marking, absent, first, whole, any, is_any, is_loose, is_kept, marked, with_one, with_step}
-use Rattle.journal_core.specs.Shapes.{IsUntouched, IsFinished}
+use Rattle.journal_core.specs.Marks.{Mark, Marking, absent, first, whole, any, is_any, is_loose, is_kept, marked, with_one, with_step, earlier, is_own}
+use Rattle.journal_core.specs.Shapes.{IsUntouched, IsFinished, IsOld}
 use Rattle.journal_core.specs.Relation.{JobShows, EachDone, IsEarly, IsLive, IsFinishing, Shows, closing, closed}
-use Rattle.journal_core.proofs.Rows.{with_one_at, with_one_other, with_step_here, with_step_other}
+use Rattle.journal_core.proofs.Rows.{with_one_at, with_one_other, with_step_here, with_step_other, with_one_here}
 
 -- ### Soft marks
 
@@ -32,6 +32,17 @@ any_loose absent h = cc
 any_loose first h = cc
 any_loose whole h = refl
 any_loose any h = refl
+any_loose earlier h = refl
+
+pub whole_own : (x : Mark) → x ≡ whole → IsTrue (is_own x)
+whole_own x e = rw e refl
+
+pub own_kept : (x : Mark) → IsTrue (is_own x) → IsTrue (is_kept x)
+own_kept absent h = cc
+own_kept first h = cc
+own_kept whole h = refl
+own_kept any h = cc
+own_kept earlier h = refl
 
 -- ### No job's event can come yet, or any more
 
@@ -73,7 +84,7 @@ pub adopted : (p : Mark → Bool) (steps : List ℕ) (ss : List JobState) (m : M
 adopted p steps ss m some h is_new = record {
   same_length = h.same_length;
   plan_new = refl;
-  plan = is_new;
+  plan = whole_own _ is_new;
   finished = h.rest.final 3 (omega arith);
   jobs = λ j l. subst (λ (s : JobState). JobShows p (get_or steps j 0) s (m.commit j) (m.temp j) (m.target j)) (sym (h.none_begun j l))
       (row_nothing p _ _ _ _ (some j l) (h.rest.commit j l) (λ k b.
@@ -158,7 +169,7 @@ closed_more p steps ss m part live done small gone there left =
           (sym (last_phase part e))
           (closed done (record {
             plan_new = live.plan_new;
-            plan = whole_kept _ live.plan;
+            plan = own_kept _ live.plan;
             temp = λ j k st. ((row_done p steps ss m j live done st.job_in).slots k st.step_in).temp_gone;
             commit = λ j l. any_loose _ (row_done p steps ss m j live done l).commit_shows;
             fresh = λ i l. gone_now i (let b : i < suc part = omega arith in b);
@@ -257,3 +268,50 @@ cleared steps m (fresh part) may h = record {
 }
 cleared steps m (final part) may h = absurd may
 cleared steps m (target job step) may h = absurd may
+
+-- ### The finished text anew
+
+-- it is put beside that of an earlier program
+pub put_again : (x : Mark) (steps : List ℕ) (m : Marking) → IsTrue (is_any x) → IsOld steps m → IsOld steps (marked m (fresh 3) x)
+put_again x steps m ax h = record {
+  plan_new = h.plan_new;
+  plan = h.plan;
+  temp = h.temp;
+  commit = h.commit;
+  fresh = λ i l. with_one_other m.fresh 3 i x (let o : i ≢ 3 = omega arith in o) ∙ h.fresh i l;
+  last = subst (λ (y : Mark). IsTrue (is_loose y)) (sym (with_one_here m.fresh 3 x)) (any_loose x ax);
+  final = h.final;
+  finished = h.finished;
+  target = h.target;
+}
+
+pub put_gone : (steps : List ℕ) (m : Marking) → IsOld steps m → IsOld steps (marked m (fresh 3) absent)
+put_gone steps m h = record {
+  plan_new = h.plan_new;
+  plan = h.plan;
+  temp = h.temp;
+  commit = h.commit;
+  fresh = λ i l. with_one_other m.fresh 3 i absent (let o : i ≢ 3 = omega arith in o) ∙ h.fresh i l;
+  last = absent_loose _ (with_one_here m.fresh 3 absent);
+  final = h.final;
+  finished = h.finished;
+  target = h.target;
+}
+
+-- and renamed to its name
+pub replaced : (steps : List ℕ) (m : Marking) → IsOld steps m → m.fresh 3 ≡ whole → IsFinished steps (marked (marked m (final 3) (m.fresh 3)) (fresh 3) absent)
+replaced steps m h e = record {
+  plan_new = h.plan_new;
+  plan = h.plan;
+  temp = h.temp;
+  commit = h.commit;
+  fresh = λ i l. elim (cases_eq i 3) [
+    | inl t ↦ with_one_at m.fresh 3 i absent t
+    | inr o ↦ with_one_other m.fresh 3 i absent o ∙ h.fresh i (omega arith)
+  ];
+  final = λ i l. elim (cases_eq i 3) [
+    | inl t ↦ with_one_at m.final 3 i (m.fresh 3) t ∙ e
+    | inr o ↦ with_one_other m.final 3 i (m.fresh 3) o ∙ h.final i (omega arith)
+  ];
+  target = h.target;
+}

@@ -6,9 +6,9 @@ use Rattle.journal_core.specs.declared.event.JobState.{JobState}
 use Rattle.journal_core.specs.declared.event.JobState.TheVariants.{Fresh, Staged, Ready, Going, Done}
 use Rattle.journal_core.specs.Names.{EachHasStep}
 use Rattle.journal_core.specs.Table.{CoreState, is_done}
-use Rattle.journal_core.specs.Marks.{Mark, Marking, absent, first, whole, any, is_absent, is_any}
+use Rattle.journal_core.specs.Marks.{Mark, Marking, absent, first, whole, any, is_absent, is_any, earlier}
 use Rattle.journal_core.specs.Shapes.{IsUntouched, IsLeft, IsMoved, JobShape, untouched, committed, none_there, is_job_done, waiting, IsUnderway, HasShape}
-use Rattle.journal_core.specs.Relation.{ahead, EachDone, free, staged, safe, moved, SlotShows, IsPut, JobShows, IsLive, Shows, empty, proposed, settled, running, finishing, closing, closed}
+use Rattle.journal_core.specs.Relation.{ahead, EachDone, free, staged, safe, moved, SlotShows, IsPut, JobShows, IsLive, Shows, empty, proposed, settled, running, finishing, closing, closed, renewing}
 use Rattle.journal_core.specs.Starts.{JobShown, anew, going, done, EachShown, Shown}
 use Rattle.journal_core.proofs.Rows.{is-done, done_is, one_less}
 use Rattle.journal_core.proofs.Ending.{any_loose, whole_loose, row_nothing}
@@ -20,6 +20,7 @@ absent_is absent h = refl
 absent_is first h = cc
 absent_is whole h = cc
 absent_is any h = cc
+absent_is earlier h = cc
 
 pub is-absent : (x : Mark) → x ≡ absent → IsTrue (is_absent x)
 is-absent x e = rw e refl
@@ -29,6 +30,7 @@ any_there absent h e = let b : false ≡ true = h in cc
 any_there first h e = cc
 any_there whole h e = cc
 any_there any h e = cc
+any_there earlier h e = cc
 
 pub none_there_from : (t : ℕ → Mark) (n : ℕ) → ((k : ℕ) → k < n → t k ≡ absent) → IsTrue (none_there t n)
 none_there_from t zero each = refl
@@ -115,6 +117,7 @@ shows_shape steps c m (running live) = HasShape.underway (live_shape _ _ _ live)
 shows_shape steps c m (finishing h) = HasShape.underway (live_shape _ _ _ h.live)
 shows_shape steps c m (closing h) = HasShape.underway (live_shape _ _ _ h.live)
 shows_shape steps c m (closed each shape) = HasShape.finished shape
+shows_shape steps c m (renewing each shape text kept) = HasShape.old shape
 
 -- ### From a shape to the relation
 
@@ -209,3 +212,4 @@ shown_shows p steps m c some (Shown.unplanned h) = empty (record {
 }) h.plan_new
 shown_shows p steps m c some (Shown.underway h same shown) = running (shown_live p _ _ _ some h same shown)
 shown_shows p steps m c some (Shown.finished h) = closed (λ j. refl) h
+shown_shows p steps m c some (Shown.old h) = renewing (λ j. refl) h (λ f. let e : false ≡ true = f in cc) (λ f g. let e : false ≡ true = f in cc)

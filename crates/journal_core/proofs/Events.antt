@@ -2,16 +2,16 @@
 use Rattle.std.proofs.Common.{◌≡◌, ℕ, suc, ◌<◌, Bool, true, false, ◌&&◌, eqb, ltb, List, [], ◌∷◌, sym, arith, IsTrue, eqb-true, ltb-true}
 use Rattle.std.proofs.lemmas.Bool.{and_parts}
 use Rattle.journal_core.specs.declared.event.Event.{Event}
-use Rattle.journal_core.specs.declared.event.Event.TheVariants.{Propose, Adopt, Stage, Settle, Commit, Move, Finish, Close, Clear}
+use Rattle.journal_core.specs.declared.event.Event.TheVariants.{Propose, Adopt, Stage, Settle, Commit, Move, Finish, Close, Clear, Renew, Replace}
 use Rattle.journal_core.specs.declared.event.JobState.{JobState}
 use Rattle.journal_core.specs.Names.{Name, EachHasStep, plan_new, fresh, final}
 use Rattle.journal_core.specs.Table.{CoreState, allows, after, all_done, closed_next}
 use Rattle.journal_core.specs.Marks.{Mark, Marking, MarkChange, put, rename, remove, absent, is_any, mark, marked, changes_of}
-use Rattle.journal_core.specs.Relation.{IsNear, IsFor, IsEarly, IsLive, IsFinishing, IsClosing, Shows, empty, proposed, settled, running, finishing, closing, closed}
+use Rattle.journal_core.specs.Relation.{IsNear, IsFor, IsEarly, IsLive, IsFinishing, IsClosing, Shows, empty, proposed, settled, running, finishing, closing, closed, renewing}
 use Rattle.journal_core.specs.Law.{is_settle}
-use Rattle.journal_core.proofs.Rows.{all_done_each}
+use Rattle.journal_core.proofs.Rows.{all_done_each, with_one_here}
 use Rattle.journal_core.proofs.JobEvents.{stage_shows, commit_shows, move_shows}
-use Rattle.journal_core.proofs.Ending.{early_not_ready, early_not_going, done_not_ready, done_not_going, adopted, finished_more, closed_more, cleared}
+use Rattle.journal_core.proofs.Ending.{early_not_ready, early_not_going, done_not_ready, done_not_going, adopted, finished_more, closed_more, cleared, put_again, replaced}
 
 pub never : {A : Type 0} → false ≡ true → A
 never h = absurd (cc)
@@ -157,3 +157,28 @@ event_plain p x px ax steps some c m (Move job step) n (closed d h) al near name
 event_plain p x px ax steps some c m (Finish part) n (closed d h) al near named ns = never al
 event_plain p x px ax steps some c m (Close part) n (closed d h) al near named ns = never al
 event_plain p x px ax steps some c m Clear n (closed d h) al near named ns = closed d (cleared _ _ n named h)
+event_plain p x px ax steps some c m Renew n (empty h l) al near named ns = never al
+event_plain p x px ax steps some c m Replace n (empty h l) al near named ns = never al
+event_plain p x px ax steps some c m Renew n (proposed h l) al near named ns = never al
+event_plain p x px ax steps some c m Replace n (proposed h l) al near named ns = never al
+event_plain p x px ax steps some c m Renew n (settled h l) al near named ns = never al
+event_plain p x px ax steps some c m Replace n (settled h l) al near named ns = never al
+event_plain p x px ax steps some c m Renew n (running h) al near named ns = never al
+event_plain p x px ax steps some c m Replace n (running h) al near named ns = never al
+event_plain p x px ax steps some c m Renew n (finishing h) al near named ns = never al
+event_plain p x px ax steps some c m Replace n (finishing h) al near named ns = never al
+event_plain p x px ax steps some c m Renew n (closing h) al near named ns = never al
+event_plain p x px ax steps some c m Replace n (closing h) al near named ns = never al
+event_plain p x px ax steps some c m Renew n (closed d h) al near named ns = never al
+event_plain p x px ax steps some c m Replace n (closed d h) al near named ns = never al
+event_plain p x px ax steps some c m Propose n (renewing {put_text = b} {settled_text = w} d h l q) al near named ns = never al
+event_plain p x px ax steps some c m Adopt n (renewing {put_text = b} {settled_text = w} d h l q) al near named ns = never al
+event_plain p x px ax steps some c m (Stage job step) n (renewing {put_text = b} {settled_text = w} d h l q) al near named ns = never al
+event_plain p x px ax steps some c m Settle n (renewing {put_text = b} {settled_text = w} d h l q) al near named ns = never (sym ns)
+event_plain p x px ax steps some c m (Commit job) n (renewing {put_text = b} {settled_text = w} d h l q) al near named ns = absurd (done_not_ready _ _ d al)
+event_plain p x px ax steps some c m (Move job step) n (renewing {put_text = b} {settled_text = w} d h l q) al near named ns = absurd (done_not_going _ _ _ d al)
+event_plain p x px ax steps some c m (Finish part) n (renewing {put_text = b} {settled_text = w} d h l q) al near named ns = never al
+event_plain p x px ax steps some c m (Close part) n (renewing {put_text = b} {settled_text = w} d h l q) al near named ns = never al
+event_plain p x px ax steps some c m Clear n (renewing {put_text = b} {settled_text = w} d h l q) al near named ns = never al
+event_plain p x px ax steps some c m Renew n (renewing {put_text = b} {settled_text = w} d h l q) al near named ns = renewing d (put_again x _ m ax h) (λ t. rw (with_one_here m.fresh 3 x) px) (λ t f. never f)
+event_plain p x px ax steps some c m Replace n (renewing {put_text = b} {settled_text = w} d h l q) al near named ns = let tests = and_parts b w al in closed d (replaced _ m h (q tests.0 tests.1))

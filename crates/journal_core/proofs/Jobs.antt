@@ -54,7 +54,7 @@ pub job_changed : (p : Mark → Bool) (steps : List ℕ) (ss : List JobState) (m
 job_changed p steps ss m m' j s live b ne row near = record {
   same_length = length-set ss j s ∙ live.same_length;
   plan_new = b.plan_new ∙ live.plan_new;
-  plan = b.plan ∙ live.plan;
+  plan = rw b.plan live.plan;
   finished = b.final 3 ∙ live.finished;
   jobs = λ i l. elim (state-set ss j i s ne) [
     | inl e ↦ subst (λ (x : ℕ). JobShows p (get_or steps x 0) (get_or (set ss j s) x Done) (m'.commit x) (m'.temp x) (m'.target x)) (sym e.0)

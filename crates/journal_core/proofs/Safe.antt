@@ -2,15 +2,15 @@
 use Rattle.std.proofs.Common.{◌≡◌, ◌≢◌, ℕ, suc, ◌<◌, ◌≤◌, Bool, true, false, cond, ◌&&◌, eqb, ltb, List, get_or, refl, sym, ◌∙◌, ap, subst, inl, inr, arith, IsTrue, eq-eqb, ne_eqb, lt-ltb, le-ltb, eqb-true}
 use Rattle.std.proofs.lemmas.Bool.{cases_eq, cases_lt, and_parts}
 use Rattle.journal_core.specs.declared.event.Event.{Event}
-use Rattle.journal_core.specs.declared.event.Event.TheVariants.{Propose, Adopt, Stage, Settle, Commit, Move, Finish, Close, Clear}
+use Rattle.journal_core.specs.declared.event.Event.TheVariants.{Propose, Adopt, Stage, Settle, Commit, Move, Finish, Close, Clear, Renew, Replace}
 use Rattle.journal_core.specs.declared.event.JobState.{JobState}
 use Rattle.journal_core.specs.declared.event.JobState.TheVariants.{Fresh, Staged, Going, Done}
 use Rattle.journal_core.specs.declared.event.Phase.{Phase}
-use Rattle.journal_core.specs.declared.event.Phase.TheVariants.{Empty, Proposed, Running, Finishing, Closing, Closed}
+use Rattle.journal_core.specs.declared.event.Phase.TheVariants.{Empty, Proposed, Running, Finishing, Closing, Closed, Renewing}
 use Rattle.journal_core.specs.Names.{IsStep}
 use Rattle.journal_core.specs.Table.{CoreState, state_of, steps_of, allows, after, staged_next, moved_next, closed_next, may_close, with_state}
 use Rattle.journal_core.specs.Marks.{Mark, Marking, whole}
-use Rattle.journal_core.specs.Relation.{Slot, free, staged, safe, moved, slot, SlotShows, IsLive, EachDone, Shows, empty, proposed, settled, running, finishing, closing, closed}
+use Rattle.journal_core.specs.Relation.{Slot, free, staged, safe, moved, slot, SlotShows, IsLive, EachDone, Shows, empty, proposed, settled, running, finishing, closing, closed, renewing}
 use Rattle.journal_core.specs.Law.{SettledWhole, is_settle}
 use Rattle.journal_core.proofs.Jobs.{state-set}
 use Rattle.journal_core.proofs.JobEvents.{fresh_is, ready_is, going_is, fresh_not_done, ready_not_done, going_not_done}
@@ -40,42 +40,56 @@ shows_settled p steps c m (empty {ss = ss} h l) = record {
   plan_whole = λ e. cc;
   texts_whole = λ v e. cc;
   rest_whole = λ v e. cc;
+  text_whole = λ e. cc;
 }
 shows_settled p steps c m (proposed {ss = ss} h l) = record {
   steps_whole = λ j k st e. absurd (early_no_slot ss j k (h.none_begun j st.job_in) e);
   plan_whole = λ e. cc;
   texts_whole = λ v e. cc;
   rest_whole = λ v e. cc;
+  text_whole = λ e. cc;
 }
 shows_settled p steps c m (settled {ss = ss} h l) = record {
   steps_whole = λ j k st e. absurd (early_no_slot ss j k (h.none_begun j st.job_in) e);
   plan_whole = λ e. l;
   texts_whole = λ v e. cc;
   rest_whole = λ v e. cc;
+  text_whole = λ e. cc;
 }
 shows_settled p steps c m (running {ss = ss} h) = record {
   steps_whole = λ j k st e. live_safe p steps ss m j k h st e;
   plan_whole = λ e. cc;
   texts_whole = λ v e. cc;
   rest_whole = λ v e. cc;
+  text_whole = λ e. cc;
 }
 shows_settled p steps c m (finishing {ss = ss} {settled_parts = b} h) = record {
   steps_whole = λ j k st e. live_safe p steps ss m j k h.live st e;
   plan_whole = λ e. cc;
   texts_whole = λ v e i l. let s : b ≡ true = cc in h.are_settled s i l;
   rest_whole = λ v e. cc;
+  text_whole = λ e. cc;
 }
 shows_settled p steps c m (closing {ss = ss} {moved_parts = w} h) = record {
   steps_whole = λ j k st e. live_safe p steps ss m j k h.live st e;
   plan_whole = λ e. cc;
   texts_whole = λ v e. cc;
   rest_whole = λ v e i b l. let s : w ≡ v = cc in h.left i (omega arith) l;
+  text_whole = λ e. cc;
 }
 shows_settled p steps c m (closed {ss = ss} d h) = record {
   steps_whole = λ j k st e. absurd (done_no_slot ss j k d e);
   plan_whole = λ e. cc;
   texts_whole = λ v e. cc;
   rest_whole = λ v e. cc;
+  text_whole = λ e. cc;
+}
+shows_settled p steps c m (renewing {ss = ss} {put_text = b} {settled_text = w} d h l q) = record {
+  steps_whole = λ j k st e. absurd (done_no_slot ss j k d e);
+  plan_whole = λ e. cc;
+  texts_whole = λ v e. cc;
+  rest_whole = λ v e. cc;
+  text_whole = λ e. let s : b ≡ true = cc in let t : w ≡ true = cc in q s t;
 }
 
 -- ### What is settled after an event was settled before it
@@ -112,6 +126,7 @@ safe_with_state steps c m j s ne was h = record {
   plan_whole = h.plan_whole;
   texts_whole = h.texts_whole;
   rest_whole = h.rest_whole;
+  text_whole = h.text_whole;
 }
 
 -- the texts that aren't renamed after one more is
@@ -131,6 +146,7 @@ rest_after steps c m part al h i l b = rest c.phase al h.texts_whole h.rest_whol
         let e : v ≡ part = eqb-true v part (and_parts (ltb 0 part && ltb part 4) (eqb v part) al).1 in
         left v refl i (omega arith) b
     rest Closed al texts left = never al
+    rest (Renewing b w) al texts left = never al
 
 closed_next_is : (part v : ℕ) → closed_next part ≡ Closing v → suc part ≡ v
 closed_next_is part v e = elim (cases_eq part 3) [
@@ -151,12 +167,14 @@ settled_kept steps c m Propose al ns h = record {
   plan_whole = λ e. cc;
   texts_whole = λ v e. cc;
   rest_whole = λ v e. cc;
+  text_whole = λ e. cc;
 }
 settled_kept steps c m Adopt al ns h = record {
   steps_whole = h.steps_whole;
   plan_whole = λ e. cc;
   texts_whole = λ v e. cc;
   rest_whole = λ v e. cc;
+  text_whole = λ e. cc;
 }
 settled_kept steps c m (Stage job step) al ns h =
     let s = fresh_is (state_of c job) step (stage_fresh c job step al) in
@@ -174,11 +192,27 @@ settled_kept steps c m (Finish part) al ns h = record {
   plan_whole = λ e. cc;
   texts_whole = λ v e. cc;
   rest_whole = λ v e. cc;
+  text_whole = λ e. cc;
 }
 settled_kept steps c m (Close part) al ns h = record {
   steps_whole = h.steps_whole;
   plan_whole = λ e. absurd (closed_next_not part (Proposed true) (λ v d. cc) (λ d. cc) e);
   texts_whole = λ v e. absurd (closed_next_not part (Finishing v true) (λ w d. cc) (λ d. cc) e);
   rest_whole = λ v e i l b. let f = closed_next_is part v e in rest_after steps c m part al h i (omega arith) b;
+  text_whole = λ e. absurd (closed_next_not part (Renewing true true) (λ w d. cc) (λ d. cc) e);
 }
 settled_kept steps c m Clear al ns h = h
+settled_kept steps c m Renew al ns h = record {
+  steps_whole = h.steps_whole;
+  plan_whole = λ e. cc;
+  texts_whole = λ v e. cc;
+  rest_whole = λ v e. cc;
+  text_whole = λ e. cc;
+}
+settled_kept steps c m Replace al ns h = record {
+  steps_whole = h.steps_whole;
+  plan_whole = λ e. cc;
+  texts_whole = λ v e. cc;
+  rest_whole = λ v e. cc;
+  text_whole = λ e. cc;
+}

@@ -1,14 +1,14 @@
 -- A settle keeps the relation in its exact reading; and the exact reading implies every wider one.
-use Rattle.std.proofs.Common.{◌≡◌, ℕ, ◌<◌, Bool, true, cond, eqb, List, map, get_or, refl, sym, ◌∙◌, ap, subst, inl, inr, arith, IsTrue, eq-eqb, ne_eqb}
+use Rattle.std.proofs.Common.{◌≡◌, ℕ, ◌<◌, Bool, true, cond, eqb, List, map, get_or, refl, sym, ◌∙◌, ap, subst, inl, inr, arith, IsTrue, eq-eqb, ne_eqb, false}
 use Rattle.std.proofs.lemmas.Bool.{cases_eq}
 use Rattle.std.proofs.lemmas.List.{length-map}
 use Rattle.journal_core.specs.declared.event.Event.TheVariants.{Settle}
 use Rattle.journal_core.specs.declared.event.JobState.{JobState}
 use Rattle.journal_core.specs.declared.event.JobState.TheVariants.{Fresh, Staged, Ready, Going, Done}
 use Rattle.journal_core.specs.Table.{CoreState, after, settled_job, is_done}
-use Rattle.journal_core.specs.Marks.{Mark, Marking, absent, first, whole, any, is_whole}
+use Rattle.journal_core.specs.Marks.{Mark, Marking, absent, first, whole, any, is_whole, earlier}
 use Rattle.journal_core.specs.Shapes.{IsLeft}
-use Rattle.journal_core.specs.Relation.{ahead, EachDone, Slot, free, staged, safe, moved, SlotShows, IsPut, JobShows, IsEarly, IsLive, IsFinishing, Shows, empty, proposed, settled, running, finishing, closing, closed}
+use Rattle.journal_core.specs.Relation.{ahead, EachDone, Slot, free, staged, safe, moved, SlotShows, IsPut, JobShows, IsEarly, IsLive, IsFinishing, Shows, empty, proposed, settled, running, finishing, closing, closed, renewing}
 use Rattle.journal_core.proofs.Rows.{settled_at, settled_done, ahead-less}
 
 -- ### Wider readings
@@ -63,6 +63,7 @@ shows_wider p q wide steps c m (closing h) = closing (record {
   left = h.left;
 })
 shows_wider p q wide steps c m (closed done shape) = closed done shape
+shows_wider p q wide steps c m (renewing done shape text kept) = renewing done shape (λ t. wide _ (text t)) kept
 
 -- ### A settle
 
@@ -71,6 +72,7 @@ whole_is absent h = cc
 whole_is first h = cc
 whole_is whole h = refl
 whole_is any h = cc
+whole_is earlier h = cc
 
 -- what is put and whole is safe
 put_safe : (t g : Mark) → IsPut is_whole t g → IsLeft t g
@@ -154,3 +156,5 @@ settle_shows steps c m (closing h) = closing (record {
   left = h.left;
 })
 settle_shows steps c m (closed done shape) = closed (each_settled _ done) shape
+settle_shows steps c m (renewing {put_text = true} {settled_text = w} done shape text kept) = renewing (each_settled _ done) shape text (λ t f. whole_is _ (text t))
+settle_shows steps c m (renewing {put_text = false} {settled_text = w} done shape text kept) = renewing (each_settled _ done) shape text kept

@@ -10,9 +10,9 @@ use Rattle.journal_core.specs.declared.event.JobState.{JobState}
 use Rattle.journal_core.specs.declared.event.JobState.TheVariants.{Fresh, Going, Done}
 use Rattle.journal_core.specs.Names.{EachHasStep}
 use Rattle.journal_core.specs.Fit.{fits, AreFit}
-use Rattle.journal_core.specs.Table.{CoreState, settled_job, new_core, resumed_core, closed_core}
-use Rattle.journal_core.specs.Marks.{Mark, Marking, absent, whole, is_absent, is_any}
-use Rattle.journal_core.specs.Shapes.{JobShape, untouched, committed, none_there, IsUnplanned, IsUnderway, IsFinished, HasShape}
+use Rattle.journal_core.specs.Table.{CoreState, settled_job, new_core, resumed_core, closed_core, old_core}
+use Rattle.journal_core.specs.Marks.{Mark, Marking, absent, whole, is_absent, is_any, earlier, is_own, first, any}
+use Rattle.journal_core.specs.Shapes.{JobShape, untouched, committed, none_there, IsUnplanned, IsUnderway, IsFinished, HasShape, IsOld}
 use Rattle.journal_core.specs.Starts.{JobShown, anew, going, done, EachShown, Shown, least_there, shown_state, shown_states, shown_core, EveryShapeShown, EveryShownSettled, EveryShownFit}
 use Rattle.journal_core.proofs.Ends.{is-absent, none_there_from, none_there_each}
 
@@ -98,27 +98,46 @@ states_are steps m ss same shown = ext_get_or Done ss (shown_states steps m) (sa
 
 only_unplanned : (steps : List ℕ) (m : Marking) → IsUnplanned steps m → (c : CoreState) → Shown steps m c → c ≡ new_core steps
 only_unplanned steps m h c (Shown.unplanned k) = refl
-only_unplanned steps m h c (Shown.underway k same shown) = let e : absent ≡ whole = sym h.rest.plan ∙ k.plan in cc
+only_unplanned steps m h c (Shown.underway k same shown) = let e : false ≡ true = subst (λ (x : Mark). is_own x ≡ true) h.rest.plan k.plan in cc
 only_unplanned steps m h c (Shown.finished k) = let e : absent ≡ whole = sym (h.rest.final 3 (omega arith)) ∙ k.final 3 (omega arith) in cc
+only_unplanned steps m h c (Shown.old k) = let e : absent ≡ earlier = sym (h.rest.final 3 (omega arith)) ∙ k.finished in cc
 
 only_underway : (steps : List ℕ) (m : Marking) → IsUnderway steps m → (c : CoreState) → Shown steps m c → c ≡ resumed_core steps (shown_states steps m)
-only_underway steps m h c (Shown.unplanned k) = let e : absent ≡ whole = sym k.rest.plan ∙ h.plan in cc
+only_underway steps m h c (Shown.unplanned k) = let e : false ≡ true = subst (λ (x : Mark). is_own x ≡ true) k.rest.plan h.plan in cc
 only_underway steps m h c (Shown.underway k same shown) = ap (resumed_core steps) (states_are steps m _ same shown)
 only_underway steps m h c (Shown.finished k) = let e : absent ≡ whole = sym h.finished ∙ k.final 3 (omega arith) in cc
+only_underway steps m h c (Shown.old k) = let e : absent ≡ earlier = sym h.finished ∙ k.finished in cc
 
 only_finished : (steps : List ℕ) (m : Marking) → IsFinished steps m → (c : CoreState) → Shown steps m c → c ≡ closed_core
 only_finished steps m h c (Shown.unplanned k) = let e : absent ≡ whole = sym (k.rest.final 3 (omega arith)) ∙ h.final 3 (omega arith) in cc
 only_finished steps m h c (Shown.underway k same shown) = let e : absent ≡ whole = sym k.finished ∙ h.final 3 (omega arith) in cc
 only_finished steps m h c (Shown.finished k) = refl
+only_finished steps m h c (Shown.old k) = let e : earlier ≡ whole = sym k.finished ∙ h.final 3 (omega arith) in cc
+
+only_old : (steps : List ℕ) (m : Marking) → IsOld steps m → (c : CoreState) → Shown steps m c → c ≡ old_core
+only_old steps m h c (Shown.unplanned k) = let e : absent ≡ earlier = sym (k.rest.final 3 (omega arith)) ∙ h.finished in cc
+only_old steps m h c (Shown.underway k same shown) = let e : absent ≡ earlier = sym k.finished ∙ h.finished in cc
+only_old steps m h c (Shown.finished k) = let e : earlier ≡ whole = sym h.finished ∙ k.final 3 (omega arith) in cc
+only_old steps m h c (Shown.old k) = refl
+
+own_any : (x : Mark) → IsTrue (is_own x) → is_any x ≡ true
+own_any absent h = cc
+own_any first h = cc
+own_any whole h = refl
+own_any any h = cc
+own_any earlier h = refl
 
 unplanned_core : (steps : List ℕ) (m : Marking) → IsUnplanned steps m → shown_core steps m ≡ new_core steps
 unplanned_core steps m h = rw (h.rest.final 3 (omega arith), h.rest.plan) refl
 
 underway_core : (steps : List ℕ) (m : Marking) → IsUnderway steps m → shown_core steps m ≡ resumed_core steps (shown_states steps m)
-underway_core steps m h = rw (h.finished, h.plan) refl
+underway_core steps m h = rw (h.finished, own_any m.plan h.plan) refl
 
 finished_core : (steps : List ℕ) (m : Marking) → IsFinished steps m → shown_core steps m ≡ closed_core
 finished_core steps m h = rw (h.final 3 (omega arith)) refl
+
+old_is : (steps : List ℕ) (m : Marking) → IsOld steps m → shown_core steps m ≡ old_core
+old_is steps m h = rw h.finished refl
 
 pub shape_shown : EveryShapeShown
 shape_shown steps m (HasShape.unplanned h) = let e = unplanned_core steps m h in record {
@@ -132,6 +151,10 @@ shape_shown steps m (HasShape.underway h) = let e = underway_core steps m h in r
 shape_shown steps m (HasShape.finished h) = let e = finished_core steps m h in record {
   shown = subst (λ (c : CoreState). Shown steps m c) (sym e) (Shown.finished h);
   only = λ o k. only_finished steps m h o k ∙ sym e;
+}
+shape_shown steps m (HasShape.old h) = let e = old_is steps m h in record {
+  shown = subst (λ (c : CoreState). Shown steps m c) (sym e) (Shown.old h);
+  only = λ o k. only_old steps m h o k ∙ sym e;
 }
 
 -- ### A settle changes nothing of it
@@ -155,6 +178,7 @@ pub shown_settled : EveryShownSettled
 shown_settled steps m c (Shown.unplanned h) = ap (λ (ss : List JobState). record { phase = Empty; steps = steps; states = ss }) (states_settled _ (λ j l. new_settled (length steps) j))
 shown_settled steps m c (Shown.underway h same shown) = ap (resumed_core steps) (states_settled _ (λ j l. job_settled _ _ _ _ (shown j (omega (arith, same)))))
 shown_settled steps m c (Shown.finished h) = refl
+shown_settled steps m c (Shown.old h) = refl
 
 -- ### What is shown fits
 

@@ -5,10 +5,10 @@ use Rattle.std.proofs.Common.{◌≡◌, ℕ, ◌≤◌, Bool, false, cond, List
 use Rattle.std.proofs.lemmas.Bool.{cases_Bool, cases_lt}
 use Rattle.std.proofs.lemmas.List.{take-append-le}
 use Rattle.journal_core.specs.declared.event.Event.{Event}
-use Rattle.journal_core.specs.declared.event.Event.TheVariants.{Propose, Adopt, Stage, Settle, Commit, Move, Finish, Close, Clear}
+use Rattle.journal_core.specs.declared.event.Event.TheVariants.{Propose, Adopt, Stage, Settle, Commit, Move, Finish, Close, Clear, Renew, Replace}
 use Rattle.journal_core.specs.Names.{Name, EachHasStep}
 use Rattle.journal_core.specs.Table.{CoreState, allows, after}
-use Rattle.journal_core.specs.Marks.{Mark, Marking, MarkChange, absent, first, whole, any, is_any, is_whole, changes_of, changed, all_changed}
+use Rattle.journal_core.specs.Marks.{Mark, Marking, MarkChange, absent, first, whole, any, is_any, is_whole, changes_of, changed, all_changed, earlier}
 use Rattle.journal_core.specs.Shapes.{HasShape}
 use Rattle.journal_core.specs.Relation.{Shows}
 use Rattle.journal_core.specs.Starts.{Shown}
@@ -27,6 +27,7 @@ whole_any absent h = cc
 whole_any first h = cc
 whole_any whole h = refl
 whole_any any h = cc
+whole_any earlier h = cc
 
 -- an event that isn't a settle makes one change
 one_change : (e : Event) (n : Name) → is_settle e ≡ false → (d : MarkChange) × (changes_of e n ≡ d ∷ [])
@@ -39,6 +40,8 @@ one_change (Move job step) n h = (_, refl)
 one_change (Finish part) n h = (_, refl)
 one_change (Close part) n h = (_, refl)
 one_change Clear n h = (_, refl)
+one_change Renew n h = (_, refl)
+one_change Replace n h = (_, refl)
 
 -- what a stop leaves: a shape, and whole what the core counts as settled
 record IsLeft (steps : List ℕ) (c : CoreState) (m : Marking) : Type 0 where

@@ -15,3 +15,4 @@ pub targets_law : TargetsOldOrWhole
 targets_law steps m (HasShape.unplanned h) j k st = inl (h.rest.target j k st)
 targets_law steps m (HasShape.underway h) j k st = target_of_job _ _ _ _ (h.jobs j st.job_in) k st.step_in
 targets_law steps m (HasShape.finished h) j k st = inr (h.target j k st)
+targets_law steps m (HasShape.old h) j k st = inr (h.target j k st)

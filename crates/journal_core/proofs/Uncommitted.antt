@@ -4,7 +4,7 @@ use Rattle.journal_core.specs.declared.event.JobState.{JobState}
 use Rattle.journal_core.specs.declared.event.JobState.TheVariants.{Fresh, Staged, Ready, Going, Done}
 use Rattle.journal_core.specs.Names.{IsStep}
 use Rattle.journal_core.specs.Marks.{Mark, Marking, first}
-use Rattle.journal_core.specs.Relation.{free, staged, SlotShows, JobShows, IsLive, empty, proposed, settled, running, finishing, closing, closed}
+use Rattle.journal_core.specs.Relation.{free, staged, SlotShows, JobShows, IsLive, empty, proposed, settled, running, finishing, closing, closed, renewing}
 use Rattle.journal_core.specs.Calls.{is_uncommitted, EveryUncommittedOld}
 use Rattle.journal_core.proofs.Events.{never}
 
@@ -32,3 +32,4 @@ uncommitted_old p steps c m j k (running h) st u = live_target p _ _ m j k h st 
 uncommitted_old p steps c m j k (finishing h) st u = live_target p _ _ m j k h.live st u
 uncommitted_old p steps c m j k (closing h) st u = live_target p _ _ m j k h.live st u
 uncommitted_old p steps c m j k (closed d h) st u = never (subst (λ (s : JobState). is_uncommitted s ≡ true) (d j) u)
+uncommitted_old p steps c m j k (renewing d h l q) st u = never (subst (λ (s : JobState). is_uncommitted s ≡ true) (d j) u)

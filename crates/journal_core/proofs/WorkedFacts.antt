@@ -1,6 +1,6 @@
 -- What the definitions say of small cores and of one whole run, worked by hand, so that a wrong row of
 -- the table, a wrong shape or a premise that no run meets doesn't check.
-use Rattle.std.proofs.Common.{◌≡◌, ◌≢◌, ℕ, suc, zero, ◌<◌, ◌≤◌, true, false, get_or, List, [], ◌∷◌, length, refl, sym, ◌∙◌, inl, inr, arith, lit<, IsTrue}
+use Rattle.std.proofs.Common.{◌≡◌, ◌≢◌, ℕ, suc, zero, ◌<◌, ◌≤◌, true, false, get_or, List, [], ◌∷◌, length, refl, sym, ◌∙◌, inl, inr, arith, lit<, IsTrue, subst}
 use Rattle.std.proofs.lemmas.Bool.{cases_lt}
 use Rattle.std.specs.Prelude.{◌==◌, if◌then◌else◌}
 use Rattle.journal_core.specs.declared.event.Event.{Event}
@@ -10,7 +10,7 @@ use Rattle.journal_core.specs.declared.event.JobState.TheVariants.{Fresh, Staged
 use Rattle.journal_core.specs.declared.event.Phase.TheVariants.{Closed}
 use Rattle.journal_core.specs.Names.{IsStep, plan, temp, target}
 use Rattle.journal_core.specs.Table.{CoreState, allows, after, new_core, resumed_core, closed_core}
-use Rattle.journal_core.specs.Marks.{Mark, Marking, absent, first, whole, any, is_any, rename, changed}
+use Rattle.journal_core.specs.Marks.{Mark, Marking, absent, first, whole, any, is_any, rename, changed, earlier, is_own}
 use Rattle.journal_core.specs.Shapes.{IsMoved, IsLeft, JobShape, untouched, committed, waiting, IsUnderway, HasShape}
 use Rattle.journal_core.specs.Relation.{ahead}
 use Rattle.journal_core.specs.Starts.{going, EachShown, Shown, shown_core}
@@ -63,8 +63,9 @@ torn_target steps m j k st e h = elim (targets_law steps m h j k st) [
 output_alone : (steps : List ℕ) (m : Marking) (j k : ℕ) → IsStep steps j k
     → m.target j k ≡ whole → m.plan ≡ absent → m.final 3 ≡ absent → HasShape steps m → ⊥
 output_alone steps m j k st e no_plan no_end (HasShape.unplanned h) = let d : first ≡ whole = sym (h.rest.target j k st) ∙ e in cc
-output_alone steps m j k st e no_plan no_end (HasShape.underway h) = let d : whole ≡ absent = sym h.plan ∙ no_plan in cc
+output_alone steps m j k st e no_plan no_end (HasShape.underway h) = let d : false ≡ true = subst (λ (x : Mark). is_own x ≡ true) no_plan h.plan in cc
 output_alone steps m j k st e no_plan no_end (HasShape.finished h) = let d : whole ≡ absent = sym (h.final 3 (omega arith)) ∙ no_end in cc
+output_alone steps m j k st e no_plan no_end (HasShape.old h) = let d : earlier ≡ absent = sym h.finished ∙ no_end in cc
 
 -- a committed job with a torn output
 torn_step : (n : ℕ) (c : Mark) (t g : ℕ → Mark) (k : ℕ) → k < n → IsTrue (is_any c) → t k ≡ any → JobShape n c t g → ⊥

@@ -1,8 +1,8 @@
 -- The law of every stop: from any shape, after any events that the table allows, a stop leaves a shape.
 use Rattle.std.specs.Prelude.{◌≡◌, ℕ, ◌<◌, ◌≤◌, Bool, true, false, if◌then◌else◌, List, [], ◌∷◌, ◌++◌, length, take, IsTrue}
 use Rattle.journal_core.specs.declared.event.Event.{Event}
-use Rattle.journal_core.specs.declared.event.Event.TheVariants.{Propose, Adopt, Stage, Settle, Commit, Move, Finish, Close, Clear}
-use Rattle.journal_core.specs.declared.event.Phase.TheVariants.{Proposed, Finishing, Closing}
+use Rattle.journal_core.specs.declared.event.Event.TheVariants.{Propose, Adopt, Stage, Settle, Commit, Move, Finish, Close, Clear, Renew, Replace}
+use Rattle.journal_core.specs.declared.event.Phase.TheVariants.{Proposed, Finishing, Closing, Renewing}
 use Rattle.journal_core.specs.Names.{Name, IsStep, EachHasStep}
 use Rattle.journal_core.specs.Table.{CoreState, allows, after, state_of}
 use Rattle.journal_core.specs.Marks.{Mark, Marking, MarkChange, whole, any, is_any, is_whole, changes_of, all_changed}
@@ -49,6 +49,8 @@ is_settle (Move job step) = false
 is_settle (Finish part) = false
 is_settle (Close part) = false
 is_settle Clear = false
+is_settle Renew = false
+is_settle Replace = false
 
 abbrev pub stepped : World → NamedEvent → World
 stepped v e = if is_settle e.event then with_settle v else with_changes v e
@@ -90,6 +92,7 @@ pub record SettledWhole (steps : List ℕ) (c : CoreState) (m : Marking) : Type 
   pub plan_whole : c.phase ≡ Proposed true → m.plan_new ≡ whole
   pub texts_whole : (put_parts : ℕ) → c.phase ≡ Finishing put_parts true → (i : ℕ) → i < 4 → m.fresh i ≡ whole
   pub rest_whole : (moved_parts : ℕ) → c.phase ≡ Closing moved_parts → (i : ℕ) → moved_parts ≤ i → i < 4 → m.fresh i ≡ whole
+  pub text_whole : c.phase ≡ Renewing true true → m.fresh 3 ≡ whole
 
 -- each stop after such a run leaves them whole: they were put before the last settle
 abbrev pub EverySettledWhole : Type 0

@@ -2,14 +2,16 @@
 use Rattle.std.specs.Prelude.{◌≡◌, ◌≢◌, ℕ, Bool, true, false, ◌==◌, if◌then◌else◌, List, [], ◌∷◌}
 use Rattle.journal_core.specs.Names.{Name, plan_new, plan, temp, commit, fresh, final, target}
 use Rattle.journal_core.specs.declared.event.Event.{Event}
-use Rattle.journal_core.specs.declared.event.Event.TheVariants.{Propose, Adopt, Stage, Settle, Commit, Move, Finish, Close, Clear}
+use Rattle.journal_core.specs.declared.event.Event.TheVariants.{Propose, Adopt, Stage, Settle, Commit, Move, Finish, Close, Clear, Renew, Replace}
 
--- nothing; as it was before the run; the run's own content, whole; or any content
+-- nothing; as it was before the run; the run's own content, whole; any content; or the run's own content, whole, as an earlier
+-- program wrote it, which only the plan and the finished text can be
 pub data Mark : Type 0 where
   absent : Mark
   first : Mark
   whole : Mark
   any : Mark
+  earlier : Mark
 
 -- ### Tests of one mark
 
@@ -18,12 +20,14 @@ is_absent absent = true
 is_absent first = false
 is_absent whole = false
 is_absent any = false
+is_absent earlier = false
 
 abbrev pub is_whole : Mark → Bool
 is_whole absent = false
 is_whole first = false
 is_whole whole = true
 is_whole any = false
+is_whole earlier = false
 
 -- it is there, and may hold anything
 abbrev pub is_any : Mark → Bool
@@ -31,6 +35,7 @@ is_any absent = false
 is_any first = false
 is_any whole = true
 is_any any = true
+is_any earlier = true
 
 -- it may be there, and then may hold anything
 abbrev pub is_loose : Mark → Bool
@@ -38,6 +43,7 @@ is_loose absent = true
 is_loose first = false
 is_loose whole = true
 is_loose any = true
+is_loose earlier = true
 
 -- it may be there, and then is whole
 abbrev pub is_kept : Mark → Bool
@@ -45,6 +51,23 @@ is_kept absent = true
 is_kept first = false
 is_kept whole = true
 is_kept any = false
+is_kept earlier = true
+
+-- it is the run's own content, whole, by this program or by an earlier one
+abbrev pub is_own : Mark → Bool
+is_own absent = false
+is_own first = false
+is_own whole = true
+is_own any = false
+is_own earlier = true
+
+-- by an earlier one
+abbrev pub is_earlier : Mark → Bool
+is_earlier absent = false
+is_earlier first = false
+is_earlier whole = false
+is_earlier any = false
+is_earlier earlier = true
 
 -- ### Markings
 
@@ -111,6 +134,8 @@ changes_of (Move job step) n = rename (temp job step) (target job step) ∷ []
 changes_of (Finish part) n = put (fresh part) ∷ []
 changes_of (Close part) n = rename (fresh part) (final part) ∷ []
 changes_of Clear n = remove n ∷ []
+changes_of Renew n = put (fresh 3) ∷ []
+changes_of Replace n = rename (fresh 3) (final 3) ∷ []
 
 -- ### By name
 

@@ -5,15 +5,15 @@
 -- stop has torn each put. What is whole in both readings was put before the last settle.
 use Rattle.std.specs.Prelude.{◌≡◌, ◌≢◌, ◌⊎◌, ℕ, suc, zero, ◌+◌, ◌<◌, ◌≤◌, nat_lt, Bool, true, false, if◌then◌else◌, List, length, get_or, IsTrue}
 use Rattle.journal_core.specs.declared.event.Event.{Event}
-use Rattle.journal_core.specs.declared.event.Event.TheVariants.{Propose, Adopt, Stage, Settle, Commit, Move, Finish, Close, Clear}
+use Rattle.journal_core.specs.declared.event.Event.TheVariants.{Propose, Adopt, Stage, Settle, Commit, Move, Finish, Close, Clear, Renew, Replace}
 use Rattle.journal_core.specs.declared.event.JobState.{JobState}
 use Rattle.journal_core.specs.declared.event.JobState.TheVariants.{Fresh, Staged, Ready, Going, Done}
-use Rattle.journal_core.specs.declared.event.Phase.TheVariants.{Empty, Proposed, Running, Finishing, Closing, Closed}
+use Rattle.journal_core.specs.declared.event.Phase.TheVariants.{Empty, Proposed, Running, Finishing, Closing, Closed, Renewing}
 use Rattle.journal_core.specs.Fit.{fits}
 use Rattle.journal_core.specs.Names.{IsStep, Name, IsClearable}
 use Rattle.journal_core.specs.Table.{CoreState, is_done}
-use Rattle.journal_core.specs.Marks.{Mark, Marking, absent, first, whole, is_any, is_loose, is_kept}
-use Rattle.journal_core.specs.Shapes.{most_in_flight, IsUntouched, IsLeft, IsMoved, HasNothing, HasNoEnd, IsFinished}
+use Rattle.journal_core.specs.Marks.{Mark, Marking, absent, first, whole, is_any, is_loose, is_kept, is_own}
+use Rattle.journal_core.specs.Shapes.{most_in_flight, IsUntouched, IsLeft, IsMoved, HasNothing, HasNoEnd, IsFinished, IsOld}
 
 -- ### Jobs in flight
 
@@ -33,6 +33,8 @@ IsNear c (Move job step) = Unit {0}
 IsNear c (Finish part) = Unit {0}
 IsNear c (Close part) = Unit {0}
 IsNear c Clear = Unit {0}
+IsNear c Renew = Unit {0}
+IsNear c Replace = Unit {0}
 
 -- a clearing removes a name that may be cleared
 abbrev pub IsFor : Event → Name → Type 0
@@ -45,6 +47,8 @@ IsFor (Move job step) n = Unit {0}
 IsFor (Finish part) n = Unit {0}
 IsFor (Close part) n = Unit {0}
 IsFor Clear n = IsClearable n
+IsFor Renew n = Unit {0}
+IsFor Replace n = Unit {0}
 
 -- ### One job
 
@@ -102,7 +106,7 @@ pub record IsEarly (steps : List ℕ) (states : List JobState) (m : Marking) : T
 pub record IsLive (p : Mark → Bool) (steps : List ℕ) (states : List JobState) (m : Marking) : Type 0 where
   pub same_length : length states ≡ length steps
   pub plan_new : m.plan_new ≡ absent
-  pub plan : m.plan ≡ whole
+  pub plan : IsTrue (is_own m.plan)
   pub finished : m.final 3 ≡ absent
   pub jobs : (j : ℕ) → j < length steps
       → JobShows p (get_or steps j 0) (get_or states j Done) (m.commit j) (m.temp j) (m.target j)
@@ -155,3 +159,8 @@ pub data Shows (p : Mark → Bool) (steps : List ℕ) : CoreState → Marking �
   closed : {st : List ℕ} {ss : List JobState} {m : Marking}
       → EachDone ss → IsFinished steps m
       → Shows p steps (record { phase = Closed; steps = st; states = ss }) m
+  -- an earlier program finished the run: what is put of the new text may hold this, and is whole once it is settled; the steps are
+  -- those of the marking here, too
+  renewing : {st : List ℕ} {ss : List JobState} {m : Marking} {put_text settled_text : Bool}
+      → EachDone ss → IsOld steps m → (IsTrue put_text → IsTrue (p (m.fresh 3))) → (IsTrue put_text → IsTrue settled_text → m.fresh 3 ≡ whole)
+      → Shows p steps (record { phase = Renewing put_text settled_text; steps = st; states = ss }) m

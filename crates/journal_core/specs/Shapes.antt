@@ -1,7 +1,7 @@
 -- The three shapes of a tree partway through a run, over marks.
 use Rattle.std.specs.Prelude.{◌≡◌, ◌≢◌, ◌⊎◌, ℕ, suc, zero, ◌+◌, ◌<◌, ◌≤◌, Bool, true, ◌&&◌, if◌then◌else◌, List, length, get_or, IsTrue}
 use Rattle.journal_core.specs.Names.{IsStep}
-use Rattle.journal_core.specs.Marks.{Mark, Marking, absent, first, whole, is_absent, is_any, is_loose, is_kept}
+use Rattle.journal_core.specs.Marks.{Mark, Marking, absent, first, whole, is_absent, is_any, is_loose, is_kept, is_own, earlier}
 
 -- ### One step of a job: its temporary name, and its target
 
@@ -76,7 +76,7 @@ pub record HasNoEnd (m : Marking) : Type 0 where
 -- there is a whole plan and no finished text: each job is as at first, or is being moved
 pub record IsUnderway (steps : List ℕ) (m : Marking) : Type 0 where
   pub plan_new : m.plan_new ≡ absent
-  pub plan : m.plan ≡ whole
+  pub plan : IsTrue (is_own m.plan)
   pub finished : m.final 3 ≡ absent
   pub jobs : (j : ℕ) → j < length steps → JobShape (get_or steps j 0) (m.commit j) (m.temp j) (m.target j)
   -- a job with a temporary name is one of the first 64 that aren't done
@@ -96,11 +96,24 @@ pub record IsFinished (steps : List ℕ) (m : Marking) : Type 0 where
   pub final : (i : ℕ) → i < 4 → m.final i ≡ whole
   pub target : (j k : ℕ) → IsStep steps j k → m.target j k ≡ whole
 
+-- the same where an earlier program wrote the finished text: a new one may be put beside it, or a part of one
+pub record IsOld (steps : List ℕ) (m : Marking) : Type 0 where
+  pub plan_new : m.plan_new ≡ absent
+  pub plan : IsTrue (is_kept m.plan)
+  pub temp : (j k : ℕ) → IsStep steps j k → m.temp j k ≡ absent
+  pub commit : (j : ℕ) → j < length steps → IsTrue (is_loose (m.commit j))
+  pub fresh : (i : ℕ) → i < 3 → m.fresh i ≡ absent
+  pub last : IsTrue (is_loose (m.fresh 3))
+  pub final : (i : ℕ) → i < 3 → m.final i ≡ whole
+  pub finished : m.final 3 ≡ earlier
+  pub target : (j k : ℕ) → IsStep steps j k → m.target j k ≡ whole
+
 -- a tree partway through a run, whose jobs have so many steps
 pub data HasShape (steps : List ℕ) (m : Marking) : Type 0 where
   unplanned : IsUnplanned steps m → HasShape steps m
   underway : IsUnderway steps m → HasShape steps m
   finished : IsFinished steps m → HasShape steps m
+  old : IsOld steps m → HasShape steps m
 
 -- in every shape each target is as it was at first, or whole
 abbrev pub TargetsOldOrWhole : Type 0

@@ -6,9 +6,9 @@ use Rattle.journal_core.specs.declared.event.JobState.TheVariants.{Fresh, Going,
 use Rattle.journal_core.specs.declared.event.Event.TheVariants.{Settle}
 use Rattle.journal_core.specs.Names.{Name, EachHasStep, IsWorkName}
 use Rattle.journal_core.specs.Fit.{AreFit}
-use Rattle.journal_core.specs.Table.{CoreState, new_core, resumed_core, closed_core, after}
-use Rattle.journal_core.specs.Marks.{Mark, Marking, mark, absent, is_any, is_loose}
-use Rattle.journal_core.specs.Shapes.{none_there, IsUnplanned, IsUnderway, IsFinished, HasShape}
+use Rattle.journal_core.specs.Table.{CoreState, new_core, resumed_core, closed_core, old_core, after}
+use Rattle.journal_core.specs.Marks.{Mark, Marking, mark, absent, is_any, is_loose, is_earlier}
+use Rattle.journal_core.specs.Shapes.{none_there, IsUnplanned, IsUnderway, IsFinished, IsOld, HasShape}
 
 -- a job of n steps: not committed, so nothing of it counts as staged; committed, with a least
 -- temporary name; or committed with none left
@@ -31,6 +31,8 @@ pub data Shown (steps : List ℕ) (m : Marking) : CoreState → Type 0 where
       → Shown steps m (resumed_core steps ss)
   finished : IsFinished steps m
       → Shown steps m closed_core
+  old : IsOld steps m
+      → Shown steps m old_core
 
 -- ### Every shape shows one core
 
@@ -54,7 +56,7 @@ shown_states steps m = map (λ j. shown_state (get_or steps j 0) (m.commit j) (m
 abbrev pub shown_core : List ℕ → Marking → CoreState
 shown_core steps m =
     if is_any (m.final 3)
-    then closed_core
+    then (if is_earlier (m.final 3) then old_core else closed_core)
     else (if is_any m.plan then resumed_core steps (shown_states steps m) else new_core steps)
 
 pub record ShowsOne (steps : List ℕ) (m : Marking) : Type 0 where
@@ -83,6 +85,7 @@ pub data AreAlike (x y : Mark) : Type 0 where
 abbrev pub EverySameShown : Type 0
 EverySameShown = (steps : List ℕ) (m n : Marking)
     → ((x : Name) → IsWorkName steps x → AreAlike (mark m x) (mark n x))
+    → is_earlier (m.final 3) ≡ is_earlier (n.final 3)
     → shown_core steps m ≡ shown_core steps n
 
 -- in a shape each of them is there or not, and holds nothing from before the run

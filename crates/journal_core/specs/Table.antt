@@ -2,11 +2,11 @@
 use Rattle.std.specs.Prelude.{ℕ, suc, Bool, true, false, ◌&&◌, ◌==◌, nat_lt, if◌then◌else◌, List, [], map, length, replicate, get_or, set}
 use Rattle.std.specs.List.{list_all}
 use Rattle.journal_core.specs.declared.event.Event.{Event}
-use Rattle.journal_core.specs.declared.event.Event.TheVariants.{Propose, Adopt, Stage, Settle, Commit, Move, Finish, Close, Clear}
+use Rattle.journal_core.specs.declared.event.Event.TheVariants.{Propose, Adopt, Stage, Settle, Commit, Move, Finish, Close, Clear, Renew, Replace}
 use Rattle.journal_core.specs.declared.event.JobState.{JobState}
 use Rattle.journal_core.specs.declared.event.JobState.TheVariants.{Fresh, Staged, Ready, Going, Done}
 use Rattle.journal_core.specs.declared.event.Phase.{Phase}
-use Rattle.journal_core.specs.declared.event.Phase.TheVariants.{Empty, Proposed, Running, Finishing, Closing, Closed}
+use Rattle.journal_core.specs.declared.event.Phase.TheVariants.{Empty, Proposed, Running, Finishing, Closing, Closed, Renewing}
 
 -- what a core holds: its phase, and of each job the number of its steps and its state
 pub record CoreState : Type 0 where
@@ -62,6 +62,7 @@ is_empty Running = false
 is_empty (Finishing put settled) = false
 is_empty (Closing moved) = false
 is_empty Closed = false
+is_empty (Renewing put settled) = false
 
 -- the plan is proposed and settled
 abbrev pub may_adopt : Phase → Bool
@@ -71,6 +72,7 @@ may_adopt Running = false
 may_adopt (Finishing put settled) = false
 may_adopt (Closing moved) = false
 may_adopt Closed = false
+may_adopt (Renewing put settled) = false
 
 abbrev pub is_running : Phase → Bool
 is_running Empty = false
@@ -79,6 +81,7 @@ is_running Running = true
 is_running (Finishing put settled) = false
 is_running (Closing moved) = false
 is_running Closed = false
+is_running (Renewing put settled) = false
 
 -- part 0 once all jobs are done, parts 1 to 3 each after the part before it
 abbrev pub may_finish : Phase → Bool → ℕ → Bool
@@ -88,6 +91,7 @@ may_finish Running done part = part == 0 && done
 may_finish (Finishing put settled) done part = nat_lt 0 part && nat_lt part 4 && put == part
 may_finish (Closing moved) done part = false
 may_finish Closed done part = false
+may_finish (Renewing put settled) done part = false
 
 -- part 0 once all four are put and settled, parts 1 to 3 each after the part before it
 abbrev pub may_close : Phase → ℕ → Bool
@@ -97,6 +101,7 @@ may_close Running part = false
 may_close (Finishing put settled) part = part == 0 && settled
 may_close (Closing moved) part = nat_lt 0 part && nat_lt part 4 && moved == part
 may_close Closed part = false
+may_close (Renewing put settled) part = false
 
 abbrev pub is_closed : Phase → Bool
 is_closed Empty = false
@@ -105,6 +110,27 @@ is_closed Running = false
 is_closed (Finishing put settled) = false
 is_closed (Closing moved) = false
 is_closed Closed = true
+is_closed (Renewing put settled) = false
+
+-- an earlier program's finished text may be put anew, also again
+abbrev pub may_renew : Phase → Bool
+may_renew Empty = false
+may_renew (Proposed settled) = false
+may_renew Running = false
+may_renew (Finishing put settled) = false
+may_renew (Closing moved) = false
+may_renew Closed = false
+may_renew (Renewing put settled) = true
+
+-- and replaced by the new one, which is put and settled
+abbrev pub may_replace : Phase → Bool
+may_replace Empty = false
+may_replace (Proposed settled) = false
+may_replace Running = false
+may_replace (Finishing put settled) = false
+may_replace (Closing moved) = false
+may_replace Closed = false
+may_replace (Renewing put settled) = put && settled
 
 -- ### The table
 
@@ -119,6 +145,8 @@ allows c (Move job step) = is_going (state_of c job) step
 allows c (Finish part) = may_finish c.phase (all_done c.states) part
 allows c (Close part) = may_close c.phase part
 allows c Clear = is_closed c.phase
+allows c Renew = may_renew c.phase
+allows c Replace = may_replace c.phase
 
 -- a job of n steps after one more is staged
 abbrev pub staged_next : ℕ → ℕ → JobState
@@ -144,6 +172,7 @@ settled_phase Running = Running
 settled_phase (Finishing put settled) = Finishing put (if put == 4 then true else settled)
 settled_phase (Closing moved) = Closing moved
 settled_phase Closed = Closed
+settled_phase (Renewing put settled) = Renewing put (if put then true else settled)
 
 -- the phase after a part of the end is at its name
 abbrev pub closed_next : ℕ → Phase
@@ -166,6 +195,8 @@ after c (Move job step) = with_state c job (moved_next step (steps_of c job))
 after c (Finish part) = in_phase c (Finishing (suc part) false)
 after c (Close part) = in_phase c (closed_next part)
 after c Clear = c
+after c Renew = in_phase c (Renewing true false)
+after c Replace = in_phase c Closed
 
 -- the core after an event is tried: the next one where it is allowed, and else the same
 abbrev pub next_of : CoreState → Event → CoreState
@@ -184,3 +215,7 @@ resumed_core steps states = record { phase = Running; steps = steps; states = st
 -- of a run that is finished; it has no jobs
 abbrev pub closed_core : CoreState
 closed_core = record { phase = Closed; steps = []; states = [] }
+
+-- of a run that an earlier program finished; it has no jobs, either
+abbrev pub old_core : CoreState
+old_core = record { phase = Renewing false false; steps = []; states = [] }

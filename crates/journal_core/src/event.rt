@@ -25,6 +25,10 @@ pub enum Event {
     Close { part: u8 },
     /// One path of the work folder that is not among these four is removed.
     Clear,
+    /// The finished text that an earlier program wrote is put anew, under its temporary name.
+    Renew,
+    /// The new one takes its place.
+    Replace,
 }
 
 /// How far a job has come.
@@ -57,4 +61,6 @@ pub enum Phase {
     Closing { moved: u8 },
     /// The finished text is at its name.
     Closed,
+    /// The finished text that an earlier program wrote is at its name; a new one is put or not, and settled or not.
+    Renewing { put: bool, settled: bool },
 }

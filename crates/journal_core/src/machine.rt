@@ -10,8 +10,8 @@ ghost use Rattle.journal_core.specs.Span.{SpanHas};
 
 use crate::event::{Event, JobState, Phase};
 use crate::rules::{
-    after_close, after_move, after_stage, allows_close, allows_finish, are_done, settle_jobs,
-    settle_phase, stands_fresh, stands_going, widened,
+    after_close, after_move, after_stage, allows_close, allows_finish, allows_renew,
+    allows_replace, are_done, settle_jobs, settle_phase, stands_fresh, stands_going, widened,
 };
 use std::alloc::{AllocError, Global};
 
@@ -34,7 +34,7 @@ impl Core {
     ghost use Rattle.journal_core.specs.Cores.{core_of};
     ghost use Rattle.journal_core.specs.Fit.{AreFit};
     ghost use Rattle.journal_core.specs.Names.{EachHasStep};
-    ghost use Rattle.journal_core.specs.Table.{allows, after, next_of, new_core, resumed_core, closed_core, state_of, is_fresh, is_ready, is_going};
+    ghost use Rattle.journal_core.specs.Table.{allows, after, next_of, new_core, resumed_core, closed_core, old_core, state_of, is_fresh, is_ready, is_going};
 
     /// A run before its plan is put, of jobs with these numbers of steps.
     #[tactic(auto, using(crate::proofs::Fits::core_laws, crate::proofs::SpanLaws::span_laws))]
@@ -82,6 +82,23 @@ impl Core {
         }
     }
 
+    /// A run that an earlier program finished. It takes no memory.
+    #[tactic(auto, using(crate::proofs::SpanLaws::span_laws))]
+    pub fn old(alloc: Global) -> Core
+        ensures old { core_of result ≡ old_core }
+    {
+        Core {
+            phase: Phase::Renewing {
+                put: false,
+                settled: false,
+            },
+            steps: Vec::new(alloc),
+            states: Vec::new(alloc),
+            first: 0,
+            end: 0,
+        }
+    }
+
     /// The phase.
     pub fn phase(&self) -> Phase
         ensures phase { result ≡ (core_of self.now).phase }
@@ -119,6 +136,11 @@ impl Core {
             },
             Event::Close { part } => self.phase = after_close(part),
             Event::Clear => {}
+            Event::Renew => self.phase = Phase::Renewing {
+                put: true,
+                settled: false,
+            },
+            Event::Replace => self.phase = Phase::Closed,
         }
         true
     }
@@ -138,6 +160,8 @@ impl Core {
             Event::Finish { part } => allows_finish(self.phase, are_done(&self.states), part),
             Event::Close { part } => allows_close(self.phase, part),
             Event::Clear => self.phase == Phase::Closed,
+            Event::Renew => allows_renew(self.phase),
+            Event::Replace => allows_replace(self.phase),
         }
     }
 

@@ -3,7 +3,7 @@
 //! Read first: `specs/Table.antt`, whose words these functions compute.
 
 ghost use Rattle.std.specs.Prelude.{◌≡◌, ◌<◌, ◌+◌, map};
-ghost use Rattle.journal_core.specs.Table.{is_fresh, is_going, all_done, may_finish, may_close, staged_next, moved_next, settled_job, settled_phase, closed_next};
+ghost use Rattle.journal_core.specs.Table.{is_fresh, is_going, all_done, may_finish, may_close, may_renew, may_replace, staged_next, moved_next, settled_job, settled_phase, closed_next};
 ghost use Rattle.journal_core.specs.Span.{SpanHas, SpanCovers};
 
 use crate::event::{JobState, Phase};
@@ -47,6 +47,23 @@ pub fn allows_close(phase: Phase, part: u8) -> bool
     match phase {
         Phase::Finishing { put: _, settled } => part == 0 && settled,
         Phase::Closing { moved } => part > 0 && part < 4 && moved == part,
+        _ => false,
+    }
+}
+
+/// Whether the finished text may be put anew.
+pub fn allows_renew(phase: Phase) -> bool
+    ensures { result ≡ may_renew phase }
+{
+    matches!(phase, Phase::Renewing { .. })
+}
+
+/// Whether the new finished text may take the place of the earlier one.
+pub fn allows_replace(phase: Phase) -> bool
+    ensures { result ≡ may_replace phase }
+{
+    match phase {
+        Phase::Renewing { put, settled } => put && settled,
         _ => false,
     }
 }
@@ -107,6 +124,10 @@ pub fn settle_phase(phase: Phase) -> Phase
         Phase::Finishing { put, settled } => Phase::Finishing {
             put,
             settled: put == 4 || settled,
+        },
+        Phase::Renewing { put, settled } => Phase::Renewing {
+            put,
+            settled: put || settled,
         },
         _ => phase,
     }
