@@ -14,9 +14,9 @@ use Rattle.journal_core.specs.declared.event.Event.{Event}
 use Rattle.journal_core.specs.declared.event.Event.TheVariants.{Settle}
 use Rattle.journal_core.specs.Table.{CoreState, allows, after}
 use Rattle.journal_core.specs.Names.{Name, plan}
-use Rattle.journal_core.specs.Marks.{Mark, Marking, mark, marked, absent, first, whole, any, is_any, is_whole}
+use Rattle.journal_core.specs.Marks.{Mark, Marking, mark, marked, absent, first, whole, any, is_any, is_whole, earlier}
 use Rattle.journal_core.specs.Relation.{IsNear, Shows}
-use Rattle.journal_core.specs.Calls.{Puts, Moves, puts_plan, puts_step, puts_mark, puts_text, moves_plan, moves_step, moves_text}
+use Rattle.journal_core.specs.Calls.{Puts, Moves, before_put, puts_plan, puts_step, puts_mark, puts_text, puts_again, moves_plan, moves_step, moves_text, moves_again}
 use Rattle.journal_core.proofs.Settled.{shows_wider, settle_shows}
 use Rattle.journal_core.proofs.Events.{event_plain}
 use Rattle.journal_core.proofs.Ends.{shows_shape}
@@ -33,6 +33,7 @@ whole_any absent h = cc
 whole_any first h = cc
 whole_any whole h = refl
 whole_any any h = cc
+whole_any earlier h = cc
 
 pub wider : (w : Wanted) (c : CoreState) (t : TreeMap) → Agrees w is_whole c t → Agrees w is_any c t
 wider w c t s = record { marking = s.marking; shows = shows_wider is_whole is_any whole_any w.steps c s.marking s.shows; has = s.has }
@@ -42,21 +43,25 @@ put_event p x px ax w a c m e n puts_plan al near s = event_plain p x px ax w.st
 put_event p x px ax w a c m e n (puts_step {job = j} {step = k}) al near s = event_plain p x px ax w.steps a.some c m e plan s al near tt refl
 put_event p x px ax w a c m e n (puts_mark {job = j}) al near s = event_plain p x px ax w.steps a.some c m e plan s al near tt refl
 put_event p x px ax w a c m e n (puts_text {part = i}) al near s = event_plain p x px ax w.steps a.some c m e plan s al near tt refl
+put_event p x px ax w a c m e n puts_again al near s = event_plain p x px ax w.steps a.some c m e plan s al near tt refl
 
 pub move_event : (p : Mark → Bool) (x : Mark) → IsTrue (p x) → IsTrue (is_any x) → (w : Wanted) → IsApart w → (c : CoreState) (m : Marking) (e : Event) (a b : Name) → Moves e a b → IsTrue (allows c e) → Shows p w.steps c m → Shows p w.steps (after c e) (marked (marked m b (mark m a)) a absent)
 move_event p x px ax w a c m e s t moves_plan al sh = event_plain p x px ax w.steps a.some c m e plan sh al tt tt refl
 move_event p x px ax w a c m e s t (moves_step {job = j} {step = k}) al sh = event_plain p x px ax w.steps a.some c m e plan sh al tt tt refl
 move_event p x px ax w a c m e s t (moves_text {part = i}) al sh = event_plain p x px ax w.steps a.some c m e plan sh al tt tt refl
+move_event p x px ax w a c m e s t moves_again al sh = event_plain p x px ax w.steps a.some c m e plan sh al tt tt refl
 
 names_apart : (e : Event) (s t : Name) → Moves e s t → s ≢ t
 names_apart e s t moves_plan h = cc
 names_apart e s t moves_step h = cc
 names_apart e s t moves_text h = cc
+names_apart e s t moves_again h = cc
 
 one_node : (w : Wanted) → IsApart w → (e : Event) (s t : Name) → Moves e s t → w.node s ≡ w.node t
 one_node w a e s t moves_plan = a.plans
 one_node w a e s t (moves_step {job = j} {step = k}) = a.temps j k
 one_node w a e s t (moves_text {part = i}) = a.texts i
+one_node w a e s t moves_again = a.texts 3
 
 pub moved_agrees : (p : Mark → Bool) (x : Mark) → IsTrue (p x) → IsTrue (is_any x) → (w : Wanted) → IsApart w → (c : CoreState) (e : Event) (a b : Name) (t : TreeMap) → Moves e a b → IsTrue (allows c e) → Agrees w p c t → Agrees w p (after c e) (moved (path_of w a) (path_of w b) t)
 moved_agrees p x px ax w apart c e a b t mv al s =
@@ -109,7 +114,7 @@ settled_keeps w c s k =
     }
 
 -- a put that left nothing
-pub undone_left : (w : Wanted) → IsApart w → (c : CoreState) (e : Event) (n : Name) (t u : TreeMap) → Puts e n → IsTrue (allows c e) → Agrees w is_any c t → Leaves (change.Take (path_of w n)) t u → Agrees w is_any c u
+pub undone_left : (w : Wanted) → IsApart w → (c : CoreState) (e : Event) (n : Name) (t u : TreeMap) → Puts e n → IsTrue (allows c e) → Agrees w is_any c t → Leaves (change.Take (path_of w n)) t u → Agrees w is_any (before_put c e) u
 undone_left w a c e n t u pu al s leaf_whole = record {
   marking = marked s.marking n absent;
   shows = put_undone is_any w.steps c s.marking e n s.shows pu al;

@@ -17,7 +17,7 @@ use Rattle.file_tree.specs.Images.{State, state_of}
 use Rattle.file_tree.proofs.ImageLaws.{state_now}
 use Rattle.journal_core.specs.Names.{target}
 use Rattle.journal_core.specs.Table.{CoreState, state_of as job_state}
-use Rattle.journal_core.specs.Marks.{Mark, first, whole, any, absent, is_whole}
+use Rattle.journal_core.specs.Marks.{Mark, first, whole, any, absent, earlier, is_whole}
 use Rattle.journal_core.specs.Calls.{is_uncommitted}
 use Rattle.journal_core.proofs.Uncommitted.{uncommitted_old}
 use Rattle.work_journal.specs.Wanted.{Wanted, MarkHas}
@@ -32,6 +32,7 @@ first_has absent was n is e h = let d : absent ≡ first = e in cc
 first_has first was n is e h = h
 first_has whole was n is e h = let d : whole ≡ first = e in cc
 first_has any was n is e h = let d : any ≡ first = e in cc
+first_has earlier was n is e h = absurd h
 
 -- where a job isn't committed, its file is as it was
 pub source_same : (w : Wanted) (c : CoreState) (s : State) (j : ℕ) (path : List ℕ) → Keeps w c s → IsTrue (is_uncommitted (job_state c j)) → IsSource w j path

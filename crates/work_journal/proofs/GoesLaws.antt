@@ -19,7 +19,7 @@ use Rattle.journal_core.specs.declared.event.Event.TheVariants.{Settle}
 use Rattle.journal_core.specs.Table.{CoreState, allows, after}
 use Rattle.journal_core.specs.Names.{Name}
 use Rattle.journal_core.specs.Relation.{IsNear}
-use Rattle.journal_core.specs.Calls.{Puts, Moves, puts_plan, puts_step, puts_mark, puts_text, moves_plan, moves_step, moves_text}
+use Rattle.journal_core.specs.Calls.{Puts, Moves, puts_plan, puts_step, puts_mark, puts_text, puts_again, moves_plan, moves_step, moves_text, moves_again}
 use Rattle.work_journal.specs.Spares.{Spares, InWork, InWorkOr}
 use Rattle.work_journal.specs.Work.{work_path}
 use Rattle.work_journal.specs.Wanted.{Wanted, path_of, IsPartway}
@@ -162,11 +162,13 @@ put_path w work e n is puts_plan = ap (λ (x : List ℕ). work_path x n) is
 put_path w work e n is puts_step = ap (λ (x : List ℕ). work_path x n) is
 put_path w work e n is puts_mark = ap (λ (x : List ℕ). work_path x n) is
 put_path w work e n is puts_text = ap (λ (x : List ℕ). work_path x n) is
+put_path w work e n is puts_again = ap (λ (x : List ℕ). work_path x n) is
 
 from_path : (w : Wanted) (work : List ℕ) (e : Event) (a b : Name) → w.work ≡ work → Moves e a b → path_of w a ≡ work_path work a
 from_path w work e a b is moves_plan = ap (λ (x : List ℕ). work_path x a) is
 from_path w work e a b is moves_step = ap (λ (x : List ℕ). work_path x a) is
 from_path w work e a b is moves_text = ap (λ (x : List ℕ). work_path x a) is
+from_path w work e a b is moves_again = ap (λ (x : List ℕ). work_path x a) is
 
 pub put_goes : {A : Type 0} (work : List ℕ) (may : Wanted → Type 0) (c : CoreState) (old new : Past) (r : Result A TreeErr) (e : Event) (n : Name) (path : List ℕ) (node : Node)
     → Puts e n → IsTrue (allows c e) → IsNear c e → path ≡ work_path work n → ((w : Wanted) → may w → w.node n ≡ node)

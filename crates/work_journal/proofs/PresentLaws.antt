@@ -1,5 +1,5 @@
 -- The names that a list of the work folder gives show the core of a start, and this core agrees with the tree.
-use Rattle.std.proofs.Common.{◌≡◌, ℕ, Bool, true, false, List, refl, sym, ◌∙◌, ap, subst, IsTrue}
+use Rattle.std.proofs.Common.{◌≡◌, ℕ, Bool, true, false, List, refl, sym, ◌∙◌, ap, subst, arith, IsTrue}
 use Rattle.std.specs.Prelude.{Option, Some, None, is_some, Ok, Err, Result}
 use Rattle.std.specs.FinMap as fin
 use Rattle.file_tree.specs.declared.node.Node.{Node}
@@ -7,7 +7,7 @@ use Rattle.file_tree.specs.Seen.{Seen}
 use Rattle.file_tree.specs.Trees.{TreeMap}
 use Rattle.file_tree.specs.Images.{settled_state}
 use Rattle.journal_core.specs.Names.{Name, plan_new, plan, temp, commit, fresh, final, target, IsName, IsWorkName}
-use Rattle.journal_core.specs.Marks.{Mark, mark, absent, first, whole, any, is_loose}
+use Rattle.journal_core.specs.Marks.{Mark, mark, absent, first, whole, any, earlier, is_earlier, is_loose}
 use Rattle.journal_core.specs.Starts.{AreAlike, both_gone, both_there, shown_core}
 use Rattle.journal_core.specs.Table.{CoreState}
 use Rattle.journal_core.proofs.Alike.{same_shown, work_own}
@@ -31,16 +31,30 @@ gone_alike absent was n loose h = both_gone refl refl
 gone_alike first was n loose h = let d : false ≡ true = loose in absurd (cc)
 gone_alike whole was n loose h = absurd (let d : None ≡ Some n = h in cc)
 gone_alike any was n loose h = absurd (h refl)
+gone_alike earlier was n loose h = absurd h
 
 there_alike : (x : Mark) (was : Option Node) (n m : Node) → IsTrue (is_loose x) → MarkHas x was n (Some m) → AreAlike x any
 there_alike absent was n m loose h = absurd (let d : Some m ≡ None = h in cc)
 there_alike first was n m loose h = let d : false ≡ true = loose in absurd (cc)
 there_alike whole was n m loose h = both_there refl refl
 there_alike any was n m loose h = both_there refl refl
+there_alike earlier was n m loose h = absurd h
 
 alike_by : (x : Mark) (was : Option Node) (n : Node) (is : Option Node) (b : Bool) → IsTrue (is_loose x) → MarkHas x was n is → b ≡ is_some is → AreAlike x (there_mark b)
 alike_by x was n None b loose h e = subst (λ (y : Bool). AreAlike x (there_mark y)) (sym e) (gone_alike x was n loose h)
 alike_by x was n (Some m) b loose h e = subst (λ (y : Bool). AreAlike x (there_mark y)) (sym e) (there_alike x was n m loose h)
+
+-- what a tree shows of it is by no earlier program
+not_earlier : (x : Mark) (was : Option Node) (n : Node) (is : Option Node) → MarkHas x was n is → is_earlier x ≡ false
+not_earlier absent was n is h = refl
+not_earlier first was n is h = refl
+not_earlier whole was n is h = refl
+not_earlier any was n is h = refl
+not_earlier earlier was n is h = absurd h
+
+there_now : (b : Bool) → is_earlier (there_mark b) ≡ false
+there_now true = refl
+there_now false = refl
 
 work_name : (steps : List ℕ) (x : Name) → IsWorkName steps x → IsName steps x
 work_name steps plan_new is = is
@@ -79,9 +93,16 @@ name_alike w t p paths are x is =
 
 -- ### The core of a start
 
+ends_now : (work : List ℕ) (paths : List (List ℕ)) → is_earlier ((presence work paths).final 3) ≡ false
+unfolding presence
+ends_now work paths = there_now _
+
 pub present_keeps : EveryPresentKeeps
 present_keeps w apart t p paths are =
-    subst (λ (c : CoreState). Keeps w c (settled_state t)) (same_shown w.steps p.marking (presence w.work paths) (name_alike w t p paths are)) (start_keeps w apart t p)
+    subst (λ (c : CoreState). Keeps w c (settled_state t)) (same_shown w.steps p.marking (presence w.work paths) (name_alike w t p paths are) version) (start_keeps w apart t p)
+  where
+    version : is_earlier (p.marking.final 3) ≡ is_earlier ((presence w.work paths).final 3)
+    version = not_earlier (p.marking.final 3) _ _ _ (p.has.named (final 3) (omega arith)) ∙ sym (ends_now w.work paths)
 
 empty_shown : (steps work : List ℕ) (paths : List (List ℕ)) → has_path paths (work_path work (final 3)) ≡ false → has_path paths (work_path work plan) ≡ false → core_by opened.Empty work paths steps ≡ shown_core steps (presence work paths)
 unfolding presence

@@ -9,9 +9,9 @@ use Rattle.file_tree.specs.Images.Full.{none as full_none}
 use Rattle.journal_core.specs.declared.event.Phase.TheVariants.{Empty, Closed}
 use Rattle.journal_core.specs.Names.{temp, final, target}
 use Rattle.journal_core.specs.Table.{CoreState}
-use Rattle.journal_core.specs.Marks.{Mark, Marking, absent, first, whole, any, is_any, is_whole}
+use Rattle.journal_core.specs.Marks.{Mark, Marking, absent, first, whole, any, earlier, is_any, is_whole}
 use Rattle.journal_core.specs.Shapes.{IsFinished}
-use Rattle.journal_core.specs.Relation.{Shows, empty, proposed, settled, running, finishing, closing, closed}
+use Rattle.journal_core.specs.Relation.{Shows, empty, proposed, settled, running, finishing, closing, closed, renewing}
 use Rattle.journal_core.specs.Starts.{shown_core}
 use Rattle.journal_core.proofs.Starts.{shape_shown}
 use Rattle.journal_core.proofs.Ends.{shown_shows}
@@ -24,12 +24,14 @@ whole_has absent was n is e h = let d : absent ≡ whole = e in cc
 whole_has first was n is e h = let d : first ≡ whole = e in cc
 whole_has whole was n is e h = h
 whole_has any was n is e h = let d : any ≡ whole = e in cc
+whole_has earlier was n is e h = absurd h
 
 absent_has : (x : Mark) (was : Option Node) (n : Node) (is : Option Node) → x ≡ absent → MarkHas x was n is → is ≡ None
 absent_has absent was n is e h = h
 absent_has first was n is e h = let d : first ≡ absent = e in cc
 absent_has whole was n is e h = let d : whole ≡ absent = e in cc
 absent_has any was n is e h = let d : any ≡ absent = e in cc
+absent_has earlier was n is e h = absurd h
 
 finished : (p : Mark → Bool) (steps : List ℕ) (c : CoreState) (m : Marking) → c.phase ≡ Closed → Shows p steps c m → IsFinished steps m
 finished p steps c m e (empty h l) = let d : Empty ≡ Closed = e in cc
@@ -39,6 +41,7 @@ finished p steps c m e (running h) = absurd (cc)
 finished p steps c m e (finishing h) = absurd (cc)
 finished p steps c m e (closing h) = absurd (cc)
 finished p steps c m e (closed d h) = h
+finished p steps c m e (renewing d h l q) = absurd (cc)
 
 pub end_whole : EveryEndWhole
 end_whole w c s k e =

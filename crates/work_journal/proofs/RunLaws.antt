@@ -7,14 +7,14 @@ use Rattle.std.proofs.lemmas.List.{length-map}
 use Rattle.file_tree.specs.declared.call.Call.{Call}
 use Rattle.file_tree.specs.declared.call.Call.TheVariants as call
 use Rattle.journal_core.specs.declared.event.Event.{Event}
-use Rattle.journal_core.specs.declared.event.Event.TheVariants.{Propose, Adopt, Stage, Settle, Commit, Move, Finish, Close, Clear}
+use Rattle.journal_core.specs.declared.event.Event.TheVariants.{Propose, Adopt, Stage, Settle, Commit, Move, Finish, Close, Clear, Renew, Replace}
 use Rattle.journal_core.specs.declared.event.JobState.{JobState}
 use Rattle.journal_core.specs.declared.event.JobState.TheVariants.{Fresh, Staged, Ready, Going, Done}
 use Rattle.journal_core.specs.declared.event.Phase.{Phase}
-use Rattle.journal_core.specs.declared.event.Phase.TheVariants.{Empty, Proposed, Running, Finishing, Closing, Closed}
+use Rattle.journal_core.specs.declared.event.Phase.TheVariants.{Empty, Proposed, Running, Finishing, Closing, Closed, Renewing}
 use Rattle.journal_core.specs.Names.{Name, temp, commit}
-use Rattle.journal_core.specs.Calls.{Puts, Moves, puts_plan, puts_step, puts_mark, puts_text, moves_plan, moves_step, moves_text}
-use Rattle.journal_core.specs.Table.{CoreState, state_of, is_fresh, is_ready, is_going, is_running, all_done, may_finish, may_close, settled_job, allows, after}
+use Rattle.journal_core.specs.Calls.{Puts, Moves, puts_plan, puts_step, puts_mark, puts_text, puts_again, moves_plan, moves_step, moves_text, moves_again}
+use Rattle.journal_core.specs.Table.{CoreState, state_of, is_fresh, is_ready, is_going, is_running, all_done, may_finish, may_close, may_renew, may_replace, settled_job, allows, after}
 use Rattle.work_journal.specs.Work.{name_text}
 use Rattle.work_journal.specs.Runs.{RunsOne, Runs}
 use Rattle.work_journal.specs.Runs.RunsOne.{lists, reads, settles, puts, renames, removes}
@@ -49,6 +49,7 @@ finish_at Running done i k a b = eqb-true i 0 (and_parts (eqb i 0) done a).0 ∙
 finish_at (Finishing put s) done i k a b = sym (eqb-true put i (and_parts (ltb 0 i && ltb i 4) (eqb put i) a).1) ∙ eqb-true put k (and_parts (ltb 0 k && ltb k 4) (eqb put k) b).1
 finish_at (Closing moved) done i k a b = let d : false ≡ true = a in absurd (cc)
 finish_at Closed done i k a b = let d : false ≡ true = a in absurd (cc)
+finish_at (Renewing put s) done i k a b = let d : false ≡ true = a in absurd (cc)
 
 close_at : (x : Phase) (i k : ℕ) → may_close x i ≡ true → may_close x k ≡ true → i ≡ k
 close_at Empty i k a b = let d : false ≡ true = a in absurd (cc)
@@ -57,6 +58,26 @@ close_at Running i k a b = let d : false ≡ true = a in absurd (cc)
 close_at (Finishing put s) i k a b = eqb-true i 0 (and_parts (eqb i 0) s a).0 ∙ sym (eqb-true k 0 (and_parts (eqb k 0) s b).0)
 close_at (Closing moved) i k a b = sym (eqb-true moved i (and_parts (ltb 0 i && ltb i 4) (eqb moved i) a).1) ∙ eqb-true moved k (and_parts (ltb 0 k && ltb k 4) (eqb moved k) b).1
 close_at Closed i k a b = let d : false ≡ true = a in absurd (cc)
+close_at (Renewing put s) i k a b = let d : false ≡ true = a in absurd (cc)
+
+-- no phase has both a part of the end and a text that is put anew
+finish_alone : (x : Phase) (done : Bool) (i : ℕ) → may_finish x done i ≡ true → may_renew x ≡ true → ⊥
+finish_alone Empty done i a b = let d : false ≡ true = a in cc
+finish_alone (Proposed s) done i a b = let d : false ≡ true = a in cc
+finish_alone Running done i a b = let d : false ≡ true = b in cc
+finish_alone (Finishing put s) done i a b = let d : false ≡ true = b in cc
+finish_alone (Closing moved) done i a b = let d : false ≡ true = a in cc
+finish_alone Closed done i a b = let d : false ≡ true = a in cc
+finish_alone (Renewing put s) done i a b = let d : false ≡ true = a in cc
+
+close_alone : (x : Phase) (i : ℕ) → may_close x i ≡ true → may_replace x ≡ true → ⊥
+close_alone Empty i a b = let d : false ≡ true = a in cc
+close_alone (Proposed s) i a b = let d : false ≡ true = a in cc
+close_alone Running i a b = let d : false ≡ true = a in cc
+close_alone (Finishing put s) i a b = let d : false ≡ true = b in cc
+close_alone (Closing moved) i a b = let d : false ≡ true = b in cc
+close_alone Closed i a b = let d : false ≡ true = a in cc
+close_alone (Renewing put s) i a b = let d : false ≡ true = a in cc
 
 -- the job that a name speaks of
 temp_job : (i j k l : ℕ) → i < 2 ^ 64 → j < 2 ^ 64 → name_text (temp i k) ≡ name_text (temp j l) → i ≡ j
@@ -85,18 +106,27 @@ put_once c e f a b few puts_plan puts_plan x y h = refl
 put_once c e f a b few puts_plan (puts_step {job = j} {step = l}) x y h = absurd (differ 0 1 (ap family h) refl)
 put_once c e f a b few puts_plan (puts_mark {job = j}) x y h = absurd (differ 0 2 (ap family h) refl)
 put_once c e f a b few puts_plan (puts_text {part = j}) x y h = absurd (differ 0 3 (ap family h ∙ fresh_family j) refl)
+put_once c e f a b few puts_plan puts_again x y h = absurd (differ 0 3 (ap family h ∙ fresh_family 3) refl)
 put_once c e f a b few (puts_step {job = i} {step = k}) puts_plan x y h = absurd (differ 1 0 (ap family h) refl)
 put_once c e f a b few (puts_step {job = i} {step = k}) (puts_step {job = j} {step = l}) x y h = same_stage c i j k l few x y h
 put_once c e f a b few (puts_step {job = i} {step = k}) (puts_mark {job = j}) x y h = absurd (differ 1 2 (ap family h) refl)
 put_once c e f a b few (puts_step {job = i} {step = k}) (puts_text {part = j}) x y h = absurd (differ 1 3 (ap family h ∙ fresh_family j) refl)
+put_once c e f a b few (puts_step {job = i} {step = k}) puts_again x y h = absurd (differ 1 3 (ap family h ∙ fresh_family 3) refl)
 put_once c e f a b few (puts_mark {job = i}) puts_plan x y h = absurd (differ 2 0 (ap family h) refl)
 put_once c e f a b few (puts_mark {job = i}) (puts_step {job = j} {step = l}) x y h = absurd (differ 2 1 (ap family h) refl)
 put_once c e f a b few (puts_mark {job = i}) (puts_mark {job = j}) x y h = same_commit c i j few x y h
 put_once c e f a b few (puts_mark {job = i}) (puts_text {part = j}) x y h = absurd (differ 2 3 (ap family h ∙ fresh_family j) refl)
+put_once c e f a b few (puts_mark {job = i}) puts_again x y h = absurd (differ 2 3 (ap family h ∙ fresh_family 3) refl)
 put_once c e f a b few (puts_text {part = i}) puts_plan x y h = absurd (differ 3 0 (sym (fresh_family i) ∙ ap family h) refl)
 put_once c e f a b few (puts_text {part = i}) (puts_step {job = j} {step = l}) x y h = absurd (differ 3 1 (sym (fresh_family i) ∙ ap family h) refl)
 put_once c e f a b few (puts_text {part = i}) (puts_mark {job = j}) x y h = absurd (differ 3 2 (sym (fresh_family i) ∙ ap family h) refl)
 put_once c e f a b few (puts_text {part = i}) (puts_text {part = j}) x y h = ap (λ (z : ℕ). Finish z) (finish_at c.phase (all_done c.states) i j x y)
+put_once c e f a b few (puts_text {part = i}) puts_again x y h = absurd (finish_alone c.phase (all_done c.states) i x y)
+put_once c e f a b few puts_again puts_plan x y h = absurd (differ 3 0 (sym (fresh_family 3) ∙ ap family h) refl)
+put_once c e f a b few puts_again (puts_step {job = j} {step = l}) x y h = absurd (differ 3 1 (sym (fresh_family 3) ∙ ap family h) refl)
+put_once c e f a b few puts_again (puts_mark {job = j}) x y h = absurd (differ 3 2 (sym (fresh_family 3) ∙ ap family h) refl)
+put_once c e f a b few puts_again (puts_text {part = j}) x y h = absurd (finish_alone c.phase (all_done c.states) j y x)
+put_once c e f a b few puts_again puts_again x y h = refl
 
 -- ### And by what they rename
 
@@ -113,12 +143,19 @@ move_once : (c : CoreState) (e f : Event) (a b p q : Name) → length c.states �
 move_once c e f a b p q few moves_plan moves_plan x y h = refl
 move_once c e f a b p q few moves_plan (moves_step {job = j} {step = l}) x y h = absurd (differ 0 1 (ap family h) refl)
 move_once c e f a b p q few moves_plan (moves_text {part = j}) x y h = absurd (differ 0 3 (ap family h ∙ fresh_family j) refl)
+move_once c e f a b p q few moves_plan moves_again x y h = absurd (differ 0 3 (ap family h ∙ fresh_family 3) refl)
 move_once c e f a b p q few (moves_step {job = i} {step = k}) moves_plan x y h = absurd (differ 1 0 (ap family h) refl)
 move_once c e f a b p q few (moves_step {job = i} {step = k}) (moves_step {job = j} {step = l}) x y h = same_move c i j k l few x y h
 move_once c e f a b p q few (moves_step {job = i} {step = k}) (moves_text {part = j}) x y h = absurd (differ 1 3 (ap family h ∙ fresh_family j) refl)
+move_once c e f a b p q few (moves_step {job = i} {step = k}) moves_again x y h = absurd (differ 1 3 (ap family h ∙ fresh_family 3) refl)
 move_once c e f a b p q few (moves_text {part = i}) moves_plan x y h = absurd (differ 3 0 (sym (fresh_family i) ∙ ap family h) refl)
 move_once c e f a b p q few (moves_text {part = i}) (moves_step {job = j} {step = l}) x y h = absurd (differ 3 1 (sym (fresh_family i) ∙ ap family h) refl)
 move_once c e f a b p q few (moves_text {part = i}) (moves_text {part = j}) x y h = ap (λ (z : ℕ). Close z) (close_at c.phase i j x y)
+move_once c e f a b p q few (moves_text {part = i}) moves_again x y h = absurd (close_alone c.phase i x y)
+move_once c e f a b p q few moves_again moves_plan x y h = absurd (differ 3 0 (sym (fresh_family 3) ∙ ap family h) refl)
+move_once c e f a b p q few moves_again (moves_step {job = j} {step = l}) x y h = absurd (differ 3 1 (sym (fresh_family 3) ∙ ap family h) refl)
+move_once c e f a b p q few moves_again (moves_text {part = j}) x y h = absurd (close_alone c.phase j y x)
+move_once c e f a b p q few moves_again moves_again x y h = refl
 
 -- ### One call
 
@@ -188,6 +225,8 @@ kept_length c (Move j k) = length-set c.states j _
 kept_length c (Finish i) = refl
 kept_length c (Close i) = refl
 kept_length c Clear = refl
+kept_length c Renew = refl
+kept_length c Replace = refl
 
 one_length : (work : List ℕ) (c d : CoreState) (k : Call) → RunsOne work c k d → length d.states ≡ length c.states
 one_length work c d k (lists {folder = f}) = refl

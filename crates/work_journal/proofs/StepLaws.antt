@@ -17,7 +17,7 @@ use Rattle.journal_core.specs.Table.{CoreState, allows, after}
 use Rattle.journal_core.specs.Names.{Name}
 use Rattle.journal_core.specs.Marks.{whole, any, is_any, is_whole}
 use Rattle.journal_core.specs.Relation.{IsNear}
-use Rattle.journal_core.specs.Calls.{Puts, Moves}
+use Rattle.journal_core.specs.Calls.{Puts, Moves, before_put}
 use Rattle.work_journal.specs.Wanted.{Wanted, path_of, IsPartway, IsApart, IsWork}
 use Rattle.work_journal.specs.Keeps.{MaySweep, puts_broke, moves_broke, sweeps_broke, looks_broke, nothing_came, Keeps}
 use Rattle.work_journal.specs.Keeps.Does.{lists, reads, settles, puts, moves, sweeps}
@@ -75,7 +75,7 @@ put_failed w a c s k e n pu al near x put_nothing = k.images
 put_failed w a c s k e n pu al near x (put_anything h) = images_more (IsPartway w) s (change.Put (path_of w n) h) k.images
     (λ u f. let r = full-last _ _ _ u f in partway w (after c e) u (put_left w a c e n h r.mid u pu al near (k.torn r.mid r.before) r.last))
 put_failed w a c s k e n pu al near x put_taken = images_more (IsPartway w) s (change.Take (path_of w n)) k.images
-    (λ u f. let r = full-last _ _ _ u f in partway w c u (undone_left w a c e n r.mid u pu al (k.torn r.mid r.before) r.last))
+    (λ u f. let r = full-last _ _ _ u f in partway w (before_put c e) u (undone_left w a c e n r.mid u pu al (k.torn r.mid r.before) r.last))
 
 move_failed : (w : Wanted) → IsApart w → (c : CoreState) (s : State) → Keeps w c s → (e : Event) (f t : Name) → Moves e f t → IsTrue (allows c e)
     → (x : Effect) → MoveFails (path_of w f) (path_of w t) x → Images (IsPartway w) (state_after s x)

@@ -14,7 +14,7 @@ use Rattle.journal_core.specs.Table.{CoreState}
 use Rattle.journal_core.specs.Names.{Name, plan_new, plan, temp, commit, fresh, final, target, IsName}
 use Rattle.journal_core.specs.Marks.{Mark, Marking, mark, absent, is_loose, is_kept, is_any}
 use Rattle.journal_core.specs.Shapes.{IsFinished, HasNothing}
-use Rattle.journal_core.specs.Relation.{Shows, empty, proposed, settled, running, finishing, closing, closed}
+use Rattle.journal_core.specs.Relation.{Shows, empty, proposed, settled, running, finishing, closing, closed, renewing}
 use Rattle.work_journal.specs.Wanted.{Wanted, path_of, MarkHas, Has, IsWork}
 use Rattle.work_journal.specs.Keeps.{Agrees, MaySweep, early, late}
 use Rattle.work_journal.proofs.Changes.{same_path, not_same, here_eq, get_taken, get_taken_other}
@@ -140,6 +140,7 @@ agrees_swept p w is c q may t s = go c may s.shows
     go d (early ph below) (finishing h) = absurd (cc)
     go d (early ph below) (closing h) = absurd (cc)
     go d (early ph below) (closed e h) = absurd (cc)
+    go d (early ph below) (renewing e h l q) = absurd (cc)
     go d (late ph below apart) (empty h l) = absurd (cc)
     go d (late ph below apart) (proposed h l) = absurd (cc)
     go d (late ph below apart) (settled h l) = absurd (cc)
@@ -151,6 +152,7 @@ agrees_swept p w is c q may t s = go c may s.shows
       shows = closed e (finished_swept w s.marking q h);
       has = has_swept w s.marking t q (record { temps = h.temp; news = h.fresh; ends = λ i k. inr (λ x. apart i k (sym x)); targets = outside w q is below; before = is.clean q below }) s.has;
     }
+    go d (late ph below apart) (renewing e h l q) = absurd (cc)
 
 pub swept_left : (w : Wanted) → IsWork w → (c : CoreState) (q : List ℕ) → MaySweep w.work c q → (t u : TreeMap)
     → Agrees w is_any c t → Leaves (change.Take q) t u → Agrees w is_any c u

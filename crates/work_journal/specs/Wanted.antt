@@ -4,7 +4,7 @@ use Rattle.std.specs.FinMap as fin
 use Rattle.file_tree.specs.declared.node.Node.{Node}
 use Rattle.file_tree.specs.Trees.{TreeMap, is_below}
 use Rattle.journal_core.specs.Names.{Name, IsStep, plan_new, plan, temp, commit, fresh, final, target, IsName, EachHasStep}
-use Rattle.journal_core.specs.Marks.{Mark, Marking, mark, absent, first, whole, any}
+use Rattle.journal_core.specs.Marks.{Mark, Marking, mark, absent, first, whole, any, earlier}
 use Rattle.journal_core.specs.Shapes.{HasShape}
 use Rattle.work_journal.specs.Work.{work_path}
 
@@ -27,12 +27,13 @@ path_of w (fresh part) = work_path w.work (fresh part)
 path_of w (final part) = work_path w.work (final part)
 path_of w (target job step) = w.output job step
 
--- what stands at a name of this mark, where this node stood before the run and that one is wanted
+-- what stands at a name of this mark, where this node stood before the run and that one is wanted; no earlier program's texts are read
 abbrev pub MarkHas : Mark → Option Node → Node → Option Node → Type 0
 MarkHas absent was node is = is ≡ None
 MarkHas first was node is = is ≡ was
 MarkHas whole was node is = is ≡ Some node
 MarkHas any was node is = is ≢ None
+MarkHas earlier was node is = ⊥
 
 -- the tree shows the marking, and all else is as before the run
 pub record Has (w : Wanted) (m : Marking) (t : TreeMap) : Type 0 where
