@@ -182,14 +182,16 @@ number-said unit v h bytes order z Number n form y p o f same e =
 number-said unit v h bytes order z SecOffset n form y p o f same e =
     said-same unit (base_placed order (number_of SecOffset n) p) (value_placed v h bytes form y) (base_value order z (number_of SecOffset n) p) o
     (ap is_placed same ∙ sym (ap (λ (t : Bool). if t then is_placed (number_field v h.section bytes form y) else true) (sym f.starts))) e
-number-said unit v h bytes order z class n form y p o f same e = said-none unit _ _ _ o refl e
+number-said unit v h bytes order z class n form y p o f same e =
+    said-none unit (base_placed order (number_of class n) p) (value_placed v h bytes form y) (base_value order z (number_of class n) p) o refl e
 
 leb-said : (unit : ℕ) (v : View) (h : UnitHeader) (bytes : List ℕ) (order : Order) (z : Located) (class : ValueClass) (form : ℕ) (y : Value) (p : List Cell) (o : Option ℕ)
     → FormFacts (leb_number class) form → base_value order z (leb_number class) p ≡ o → base_said unit order z (leb_number class) p ≡ said_by unit (value_placed v h bytes form y) o
 leb-said unit v h bytes order z Number form y p o f e =
     said-same unit true (value_placed v h bytes form y) (base_value order z (leb_number Number) p) o
     (sym (ap (λ (t : Bool). if t then is_placed (number_field v h.section bytes form y) else true) (sym f.starts))) e
-leb-said unit v h bytes order z class form y p o f e = said-none unit _ _ _ o refl e
+leb-said unit v h bytes order z class form y p o f e =
+    said-none unit (base_placed order (leb_number class) p) (value_placed v h bytes form y) (base_value order z (leb_number class) p) o refl e
 
 kind-said : (z : Located) (u : ShownUnit) (cells : List Cell) (s : UnitState) (order : Order) (x : Spec) (k : ValueKind) (place form : ℕ) (v : Value) → IsIn cells s u
     → s.header.params.order ≡ order → z ≡ located u.source.view StrOffsets → FormFacts k form → k ≢ form_in_front
@@ -205,7 +207,9 @@ kind-said z u cells s order x (leb_number class) place form v i same at f other 
     leb-said s.unit u.source.view u.header u.bytes order z class form v (take v.size (drop place cells)) (class_base v.class (base_number u.source.view u.header u.bytes form v)) f
     (kind-base z u cells s order x (leb_number class) place form v i same at f other is)
 kind-said z u cells s order x k place form v i same at f other is =
-    said-none s.unit _ _ _ (class_base v.class (base_number u.source.view u.header u.bytes form v)) refl (kind-base z u cells s order x k place form v i same at f other is)
+    said-none s.unit (base_placed order k (take v.size (drop place cells))) (value_placed u.source.view u.header u.bytes form v)
+    (base_value order z k (take v.size (drop place cells))) (class_base v.class (base_number u.source.view u.header u.bytes form v)) refl
+    (kind-base z u cells s order x k place form v i same at f other is)
 
 -- values with the same number and bytes say the same
 number-same : (u : ShownUnit) (form : ℕ) (v w : Value) → w.at ≡ v.at → w.len ≡ v.len → w.number ≡ v.number
