@@ -1,12 +1,12 @@
 -- The entries of a unit are printed in the order of a walk over their arena.
 use Rattle.std.proofs.Common.{◌≡◌, ℕ, zero, suc, ◌+◌, ◌-◌, ◌<◌, ◌≤◌, ◌⊎◌, inl, inr, List, [], ◌∷◌, ◌++◌, length, take, drop, get_or, Option, Some, None, refl, sym, ap, ◌∙◌, subst, arith}
 use Rattle.std.proofs.lemmas.Bool.{cases_lt}
-use Rattle.std.proofs.lemmas.List.{get_or_append_left, get_or-append-add, get_or_default, length-take-le, take-append-drop, take_all, take_more}
+use Rattle.std.proofs.lemmas.List.{get_or_append_left, get_or-append-add, length-take-le, take-append-drop, take_all, take_more}
 use Rattle.dw_base.specs.AbbreviationTables.{Abbreviation, abbreviation_of}
 use Rattle.dw_base.specs.Lebs.{uleb_at}
 use Rattle.dw_base.specs.declared.units.Scanned.{Scanned}
 use Rattle.dw_base.specs.declared.units.UnitHeader.{UnitHeader}
-use Rattle.entry_arena.specs.Shapes.{HasDepth, IsLinkedAs, NodesSpell, Shape, below, depths_in, no_nodes, node, node_at, outermost, size}
+use Rattle.entry_arena.specs.Shapes.{HasDepth, NodesSpell, Shape, below, depths_in, no_nodes, node, node_at, outermost, size}
 use Rattle.entry_arena.specs.UnitArenas.{AreOf, IsArenaOf, depths_of}
 use Rattle.entry_arena.specs.Walks.{GivesNoStep, GivesStep, WalkState}
 use Rattle.entry_arena.specs.declared.arena.EntryNode.{EntryNode}

@@ -3,7 +3,6 @@ use Rattle.std.proofs.Common.{◌≡◌, ℕ, ◌+◌, ◌<◌, ◌≤◌, ◌^�
 use Rattle.std.specs.Prelude.{IfErr, IsTrue, OnOk, Result, Ok, Err}
 use Rattle.std.proofs.lemmas.List.{length-take, length-take-le}
 use Rattle.dw_base.specs.AbbreviationTables.{Abbreviation, abbreviation_of}
-use Rattle.dw_base.specs.EntryScans.{AreEntries}
 use Rattle.dw_base.specs.EntryValues.{HasUnit}
 use Rattle.dw_base.specs.FileViews.{View, section_bytes}
 use Rattle.dw_base.specs.Lebs.{uleb_at}
@@ -12,9 +11,7 @@ use Rattle.dw_base.specs.UnitHeaders.{is_address_size}
 use Rattle.dw_base.specs.ViewData.{debug_data}
 use Rattle.dw_base.specs.declared.units.Scanned.{Scanned}
 use Rattle.dw_base.specs.declared.units.UnitHeader.{UnitHeader}
-use Rattle.dw_base.specs.declared.fault.Refusal.{Refusal}
 use Rattle.dw_base.specs.declared.values.Spec.{Spec}
-use Rattle.dw_entries.specs.ScanStates.{ScanState, GivesRefusal, scan_start}
 use Rattle.dw_entries.specs.ViewUnits.{IsUnitSection, unit_section_at}
 use Rattle.dw_entries.proofs.HasUnitLaws.{unit-of-view, is-unit_section, unit-section, unit-bytes}
 use Rattle.file_tree.specs.Heard.{Heard}
@@ -24,8 +21,7 @@ use Rattle.dbg_show.specs.UnitReads.{BytesFit, CanRead, EachReads}
 use Rattle.dbg_show.specs.UnitTexts.{entry_line}
 use Rattle.dbg_show.specs.declared.listed_unit.ListedUnit.{ListedUnit}
 use Rattle.dbg_show.specs.declared.show_err.ShowErr.{ShowErr}
-use Rattle.dbg_show.proofs.EntryPassLaws.{bytes-short, few-entries}
-use Rattle.dbg_show.proofs.EntryListLaws.{PassAt, pass-starts, pass-reads}
+use Rattle.dbg_show.proofs.EntryPassLaws.{bytes-short}
 use Rattle.dbg_show.proofs.PrintingLaws.{goes-start, goes-over, printed-then, cut-then, cut-more}
 
 -- nothing is printed
@@ -172,16 +168,3 @@ pub ruleset with_laws = (unit-address, unit-within, unit-ends, unit-own, unit-sm
 -- a unit that is printed, with its own bytes
 pub own-short : (u : ShownUnit) → u.bytes ≡ unit_bytes u.source.view u.header → length u.bytes ≤ u.header.end
 own-short u is = subst (λ (bs : List ℕ). length bs ≤ u.header.end) (sym is) (bytes-short u.source.view u.header)
-
-pub own-start : (u : ShownUnit) (s : ScanState) → s ≡ scan_start u.header u.table u.bytes → PassAt u.header u.table u.bytes s 0
-own-start u s e = pass-starts u.header u.table u.bytes s e
-
-pub own-fails : (u : ShownUnit) (s t : ScanState) (number : ℕ) (r : Refusal) → u.bytes ≡ unit_bytes u.source.view u.header → PassAt u.header u.table u.bytes s number → GivesRefusal s r t
-    → CanRead u.source.view u.header u.table → ⊥
-own-fails u s t number r is p g c =
-    pass-reads u.header u.table u.bytes s t number r c.items p g (own-short u is) (subst (λ (bs : List ℕ). AreEntries u.header u.table bs c.items) (sym is) c.entries)
-
-pub own-few : (u : ShownUnit) (s : ScanState) (number : ℕ) → u.bytes ≡ unit_bytes u.source.view u.header → PassAt u.header u.table u.bytes s number → CanRead u.source.view u.header u.table
-    → number ≤ 2 ^ 31
-own-few u s number is p c =
-    few-entries u.source.view u.header u.table s number (subst (λ (bs : List ℕ). PassAt u.header u.table bs s number) is p) c

@@ -1,22 +1,20 @@
 -- Units are printed one after another: each with its entries, each entry with its attributes.
-use Rattle.std.proofs.Common.{suc, ◌≡◌, ℕ, ◌+◌, ◌<◌, ◌≤◌, ◌^◌, List, [], ◌∷◌, ◌++◌, length, take, drop, drop-cons, get_or, Option, Some, None, refl, sym, ap, ◌∙◌, subst, arith, append_assoc, append-nil}
+use Rattle.std.proofs.Common.{suc, ◌≡◌, ℕ, ◌+◌, ◌<◌, ◌≤◌, ◌^◌, List, [], ◌∷◌, ◌++◌, length, take, drop, drop-cons, get_or, Option, Some, None, sym, ap, ◌∙◌, subst, arith, append_assoc, append-nil}
 use Rattle.std.proofs.lemmas.List.{drop_all, length-take}
 use Rattle.dw_base.specs.Values.{value_at}
 use Rattle.dw_base.specs.declared.shared.Params.{Params}
 use Rattle.dw_base.specs.declared.units.Scanned.{Scanned}
 use Rattle.dw_base.specs.declared.values.Spec.{Spec}
 use Rattle.dw_base.specs.declared.values.Value.{Value}
-use Rattle.dw_entries.specs.ScanStates.{ScanState, GivesEntry, GivesNothing}
 use Rattle.dw_forms.proofs.InsideLaws.{value_at-inside}
 use Rattle.file_tree.specs.Heard.{Heard}
 use Rattle.dbg_show.specs.Printing.{Printed, Cut, Goes}
-use Rattle.dbg_show.specs.ShownUnits.{UnitSource, ShownUnit, all_shown, entries_text, entry_shown, entry_text, indexed_said, named_in, one_shown, reference_said, table_said, unit_entries, value_shown, values_behind, values_shown}
+use Rattle.dbg_show.specs.ShownUnits.{UnitSource, ShownUnit, all_shown, entries_text, entry_shown, entry_text, indexed_said, named_in, one_shown, reference_said, table_said, value_shown, values_behind, values_shown}
 use Rattle.dbg_show.specs.UnitReads.{AllCanRead, BytesFit, ShownFits, SourceFits}
 use Rattle.dbg_show.specs.UnitTexts.{attribute_line, bytes_said, lines_said, stray_said, text_said}
 use Rattle.dbg_show.specs.declared.listed_unit.ListedUnit.{ListedUnit}
 use Rattle.dbg_show.specs.declared.show_err.ShowErr.{ShowErr}
-use Rattle.dbg_show.proofs.EntryListLaws.{Fronts, PassAt, pass-front, pass-ends, pass-more}
-use Rattle.dbg_show.proofs.PrintingLaws.{goes-start, goes-more, goes-over, goes-cut, printed-then, cut-then, cut-more}
+use Rattle.dbg_show.proofs.PrintingLaws.{goes-start, goes-more, goes-over, goes-cut}
 use Rattle.dbg_show.proofs.SourceLaws.{each-reads, past-none}
 
 -- a line table, or the offset that names none

@@ -1,0 +1,11 @@
+-- One table more is known, and one less is left.
+use Rattle.dw_entries.proofs.SharedLaws.{popped-left}
+use Rattle.dbg_show.proofs.UnitListLaws.{grows-twice}
+use Rattle.dbg_show.proofs.units.add_tables.Goals as goal
+
+pub loop-one-preserved : goal.loop-one-preserved
+loop-one-preserved c = record {
+  left = popped-left _ _ _ c.in-Some.one c.loop-one.invariant.left c.in-Some.ensures.items;
+  known = c.in_ok-add_table.ensures.known;
+  grows = grows-twice _ _ _ c.loop-one.invariant.grows c.in_ok-add_table.ensures.grows;
+}
