@@ -15,7 +15,7 @@ use Rattle.root_plan.specs.Targets.{new_paths}
 use Rattle.root_plan.specs.Verdicts.{JudgeView}
 use Rattle.root_plan.specs.Tallies.{Tally, Tallies}
 use Rattle.root_plan.specs.Looks.{Looked}
-use Rattle.root_plan.specs.Plans.{AreMany, plan_of, plan_length, IsLongPlan, CanBeMade, NewEnds, LookEnds, IsTallied, IsPlanOf, PlanEnds}
+use Rattle.root_plan.specs.Plans.{AreMany, plan_of, plan_length, IsLongPlan, CanBeMade, NewEnds, LookEnds, IsTallied, IsTalliedPlan, IsPlanOf, PlanEnds}
 use Rattle.root_plan.specs.Plans.{IsLongPlan as text, NewEnds as new, LookEnds as look, PlanEnds as ends}
 use Rattle.root_plan.proofs.LookLaws.{looked_none, looked_then, rose_since}
 
@@ -41,19 +41,21 @@ pub ruleset look_rules = (look.failed, look.no_memory, look_later, looked_none, 
 -- ### The plan
 
 module _ (root : List ℕ) (present : List (List ℕ)) (s : Settings) (v : JudgeView) (fails : List ℕ → List ℕ → Refusal → Type 0) where
-  tallied-at : (old : Option TreeMap) (same : List ℕ) (tally : Tally) → same ≡ root → count_outside same present ≤ most_outside → Tallies old same s v fails present tally
-      → IsTallied old root present s v fails tally
-  tallied-at old same tally at few tallies = subst (λ (r : List ℕ). IsTallied old r present s v fails tally) at (record { few = few; tallies = tallies })
-
-  pub made_plan : (old : Option TreeMap) (same : List ℕ) (tally : Tally) (plan : PlanData) → same ≡ root → count_outside same present ≤ most_outside → Tallies old same s v fails present tally
-      → plan ≡ plan_of s tally → CanBeMade present (new_paths root plan.jobs) → plan_length plan ≤ text_limit → IsPlanOf old root present s v fails plan
-  made_plan old same tally plan at few tallies is can within = record {
+  pub tallied_made : (old : Option TreeMap) (same : List ℕ) (tally : Tally) (plan : PlanData) → same ≡ root → count_outside same present ≤ most_outside → Tallies old same s v fails present tally
+      → plan ≡ plan_of s tally → IsTalliedPlan old root present s v fails plan
+  tallied_made old same tally plan at few tallies is = record {
     tally = tally;
-    tallied = tallied-at old same tally at few tallies;
+    tallied = subst (λ (r : List ℕ). IsTallied old r present s v fails tally) at (record { few = few; tallies = tallies });
     is = is;
-    can = subst (λ (p : PlanData). CanBeMade present (new_paths root p.jobs)) is can;
-    within = within;
   }
+
+  -- the new paths are those of the tally's jobs
+  can-at : (old : Option TreeMap) (plan : PlanData) → (t : IsTalliedPlan old root present s v fails plan) → CanBeMade present (new_paths root plan.jobs) → CanBeMade present (new_paths root t.tally.jobs)
+  can-at old plan t can = subst (λ (p : PlanData). CanBeMade present (new_paths root p.jobs)) t.is can
+
+  pub plan_made : (old : Option TreeMap) (plan : PlanData) → IsTalliedPlan old root present s v fails plan → CanBeMade present (new_paths root plan.jobs) → plan_length plan ≤ text_limit
+      → IsPlanOf old root present s v fails plan
+  plan_made old plan t can within = record { tally = t.tally; tallied = t.tallied; is = t.is; can = can-at old plan t can; within = within }
 
   pub many_ends : (old new : Seen) (same : List ℕ) (e : PlanErr) → same ≡ root → AreMany same present e → PlanEnds old new root present s v fails e
   many_ends old new same e at many =
@@ -62,30 +64,23 @@ module _ (root : List ℕ) (present : List (List ℕ)) (s : Settings) (v : Judge
   pub path_ends : (old new : Seen) (same : List ℕ) (e : PlanErr) → same ≡ root → PlanEnds old new same present s v fails e → PlanEnds old new root present s v fails e
   path_ends old new same e at ended = subst (λ (r : List ℕ). PlanEnds old new r present s v fails e) at ended
 
-  pub new_ends : (old new : Seen) (same : List ℕ) (tally : Tally) (plan : PlanData) (e : PlanErr) → same ≡ root → count_outside same present ≤ most_outside
-      → Tallies (now_of old) same s v fails present tally → plan ≡ plan_of s tally → NewEnds present (new_paths root plan.jobs) e → PlanEnds old new root present s v fails e
-  new_ends old new same tally plan e at few tallies is ended =
-      ends.at_new (tallied-at (now_of old) same tally at few tallies) (subst (λ (p : PlanData). NewEnds present (new_paths root p.jobs) e) is ended)
+  pub new_ends : (old new : Seen) (plan : PlanData) (e : PlanErr) → IsTalliedPlan (now_of old) root present s v fails plan → NewEnds present (new_paths root plan.jobs) e
+      → PlanEnds old new root present s v fails e
+  new_ends old new plan e t ended = ends.at_new t.tallied (subst (λ (p : PlanData). NewEnds present (new_paths root p.jobs) e) t.is ended)
 
   text-by : (old new : Seen) (tally : Tally) (e : PlanErr) → IsTallied (now_of old) root present s v fails tally → CanBeMade present (new_paths root tally.jobs) → IsLongPlan (plan_of s tally) e
       → PlanEnds old new root present s v fails e
   text-by old new tally e tallied can (text.long l) = ends.at_text tallied can l
   text-by old new tally e tallied can text.no_memory = ends.no_memory
 
-  pub text_ends : (old new : Seen) (same : List ℕ) (tally : Tally) (plan : PlanData) (e : PlanErr) → same ≡ root → count_outside same present ≤ most_outside
-      → Tallies (now_of old) same s v fails present tally → plan ≡ plan_of s tally → CanBeMade present (new_paths root plan.jobs) → IsLongPlan plan e → PlanEnds old new root present s v fails e
-  text_ends old new same tally plan e at few tallies is can long =
-      text-by old new tally e (tallied-at (now_of old) same tally at few tallies) (subst (λ (p : PlanData). CanBeMade present (new_paths root p.jobs)) is can)
-      (subst (λ (p : PlanData). IsLongPlan p e) is long)
+  pub text_ends : (old new : Seen) (plan : PlanData) (e : PlanErr) → IsTalliedPlan (now_of old) root present s v fails plan → CanBeMade present (new_paths root plan.jobs) → IsLongPlan plan e
+      → PlanEnds old new root present s v fails e
+  text_ends old new plan e t can long = text-by old new t.tally e t.tallied (can-at (now_of old) plan t can) (subst (λ (p : PlanData). IsLongPlan p e) t.is long)
 
   look-by : (old new : Seen) (plan : PlanData) (e : PlanErr) → IsPlanOf (now_of old) root present s v fails plan → LookEnds old new e → PlanEnds old new root present s v fails e
   look-by old new plan e is (look.failed rose) = ends.at_look plan is rose
   look-by old new plan e is look.no_memory = ends.no_memory
 
-  pub look_ends : (old mid new : Seen) (same : List ℕ) (tally : Tally) (plan : PlanData) (e : PlanErr) → Looked old mid → same ≡ root → count_outside same present ≤ most_outside
-      → Tallies (now_of old) same s v fails present tally → plan ≡ plan_of s tally → CanBeMade present (new_paths root plan.jobs) → plan_length plan ≤ text_limit
-      → LookEnds mid new e → PlanEnds old new root present s v fails e
-  look_ends old mid new same tally plan e looked at few tallies is can within ended =
-      look-by old new plan e (made_plan (now_of old) same tally plan at few tallies is can within) (look_later old mid new e looked ended)
-
-pub ruleset plan_rules = (made_plan, many_ends, path_ends, new_ends, text_ends, look_ends, ends.no_memory, looked_none, looked_then)
+  pub look_ends : (old mid new : Seen) (plan : PlanData) (e : PlanErr) → Looked old mid → IsTalliedPlan (now_of old) root present s v fails plan → CanBeMade present (new_paths root plan.jobs)
+      → plan_length plan ≤ text_limit → LookEnds mid new e → PlanEnds old new root present s v fails e
+  look_ends old mid new plan e looked t can within ended = look-by old new plan e (plan_made (now_of old) plan t can within) (look_later old mid new e looked ended)

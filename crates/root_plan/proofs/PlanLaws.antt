@@ -21,8 +21,6 @@ pub planned : (s : Settings) (key : RunKey) (jobs : List JobLine) (n : ℕ) (ski
 planned s key jobs n skipped keys names report k same r =
     rw (k, r, same) (ap (λ (m : ℕ). record { key = key_of s; report = report_text jobs n skipped m; jobs = jobs; sources = map bytes_of keys }) (sym (length-map keys bytes_of)))
 
-pub ruleset plan_rules = (planned)
-
 pub text_within : (p : PlanData) (bytes : List ℕ) → bytes ≡ text_of (plan_fields p) → length bytes ≤ 1073741824 → plan_length p ≤ text_limit
 text_within p bytes is l = subst (λ (b : List ℕ). length b ≤ text_limit) is l
 

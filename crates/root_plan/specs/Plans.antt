@@ -91,6 +91,13 @@ pub record IsTallied (old : Option TreeMap) (root : List ℕ) (present : List (L
   pub few : count_outside root present ≤ most_outside
   pub tallies : Tallies old root s v fails present tally
 
+-- the plan of that tally
+pub record IsTalliedPlan (old : Option TreeMap) (root : List ℕ) (present : List (List ℕ)) (s : Settings) (v : JudgeView)
+    (fails : List ℕ → List ℕ → Refusal → Type 0) (plan : PlanData) : Type 0 where
+  pub tally : Tally
+  pub tallied : IsTallied old root present s v fails tally
+  pub is : plan ≡ plan_of s tally
+
 -- the plan of a root of which these paths are the keys: limits are kept, and no new path is taken
 pub record IsPlanOf (old : Option TreeMap) (root : List ℕ) (present : List (List ℕ)) (s : Settings) (v : JudgeView)
     (fails : List ℕ → List ℕ → Refusal → Type 0) (plan : PlanData) : Type 0 where

@@ -7,13 +7,15 @@ ghost use Rattle.file_tree.specs.Seen.{now_of};
 ghost use Rattle.work_texts.specs.Rules.{text_limit};
 ghost use Rattle.root_plan.specs.Looks.{Looked};
 ghost use Rattle.root_plan.specs.Targets.{new_paths};
-ghost use Rattle.root_plan.specs.Plans.{key_of, plan_of, plan_length, IsLongPlan, CanBeMade, NewEnds, LookEnds, IsPlanOf, IsRunPlan, PlanEnds, OnlyCut};
+ghost use Rattle.root_plan.specs.Reports.{report_text};
+ghost use Rattle.root_plan.specs.Plans.{key_of, plan_of, plan_length, IsLongPlan, CanBeMade, NewEnds, LookEnds, IsTalliedPlan, IsPlanOf, IsRunPlan, PlanEnds, OnlyCut};
 ghost use Rattle.root_plan.specs.Jobs.{Serves};
 
 use crate::judge::Judge;
 use crate::looking::look_at_each;
 use crate::names::Root;
 use crate::plan_err::PlanErr;
+use crate::refused::Skipped;
 use crate::report::report;
 use crate::survey::Survey;
 use crate::surveying::{check_count, survey_paths};
@@ -58,8 +60,22 @@ fn name_count(names: &[Vec<u8>]) -> usize
     names.len()
 }
 
+/// The report of a run over these files, as the plan keeps it.
+fn kept_report(
+    alloc: Global,
+    jobs: &[JobLine],
+    left: u64,
+    skipped: &[Skipped],
+    sources: usize,
+) -> Result<Blob, AllocError>
+    ensures text { IfOk result (λ b. b ≡ report_text jobs.now left skipped.now sources) }
+{
+    let text = report(alloc, jobs, left, skipped, sources)?;
+    let kept = Blob::from_slice(alloc, text.as_str().as_bytes())?;
+    Ok(kept)
+}
+
 /// The plan of a survey.
-#[tactic(auto, using(crate::proofs::PlanLaws::plan_rules))]
 pub(crate) fn plan_of(
     alloc: Global,
     options: &Options,
@@ -77,8 +93,7 @@ pub(crate) fn plan_of(
     } = survey;
     let names = in_order(alloc, sources)?;
     let count = name_count(&names);
-    let report = report(alloc, &jobs, left, &skipped, count)?;
-    let report = Blob::from_slice(alloc, report.as_str().as_bytes())?;
+    let report = kept_report(alloc, &jobs, left, &skipped, count)?;
     Ok(PlanData {
         key,
         report,
@@ -130,7 +145,6 @@ fn look_at_job<T: Tree>(
 
 /// Looks at each new path that these jobs make. A tree may tell a path that can't become a file only when it
 /// is asked for it.
-#[tactic(auto, using(crate::proofs::MadeLaws::look_rules))]
 fn look_at_new<T: Tree>(
     alloc: Global,
     tree: &mut T,
@@ -146,8 +160,27 @@ fn look_at_new<T: Tree>(
     Ok(())
 }
 
+/// The plan of all paths of a build root, whether it can be carried out or not.
+fn tallied_plan<T: Tree, J: Judge>(
+    alloc: Global,
+    tree: &mut T,
+    root: &str,
+    present: &[String],
+    options: &Options,
+    judge: &J,
+) -> Result<PlanData, PlanErr>
+    ensures plan { IfOk result (IsTalliedPlan (now_of (T.seen tree.old)) root.now (map string_bytes present.now) options.now (J.view judge.now) (J.fails judge.now)) }
+    ensures ends { IfErr result (PlanEnds (T.seen tree.old) (T.seen tree.new) root.now (map string_bytes present.now) options.now (J.view judge.now) (J.fails judge.now)) }
+    ensures looked { Looked (T.seen tree.old) (T.seen tree.new) }
+{
+    let fronts = Root::new(alloc, root)?;
+    check_count(&fronts, present)?;
+    let survey = survey_paths(alloc, tree, &fronts, present, options, judge)?;
+    let plan = plan_of(alloc, options, survey)?;
+    Ok(plan)
+}
+
 /// The plan of a build root, step by step.
-#[tactic(auto, using(crate::proofs::MadeLaws::plan_rules))]
 fn plan_root<T: Tree, J: Judge>(
     alloc: Global,
     tree: &mut T,
@@ -160,10 +193,7 @@ fn plan_root<T: Tree, J: Judge>(
     ensures ends { IfErr result (PlanEnds (T.seen tree.old) (T.seen tree.new) root.now (map string_bytes present.now) options.now (J.view judge.now) (J.fails judge.now)) }
     ensures looked { Looked (T.seen tree.old) (T.seen tree.new) }
 {
-    let fronts = Root::new(alloc, root)?;
-    check_count(&fronts, present)?;
-    let survey = survey_paths(alloc, tree, &fronts, present, options, judge)?;
-    let plan = plan_of(alloc, options, survey)?;
+    let plan = tallied_plan(alloc, tree, root, present, options, judge)?;
     check_new(alloc, root, present, &plan)?;
     check_text(alloc, &plan)?;
     look_at_new(alloc, tree, root, plan.jobs.as_slice())?;
