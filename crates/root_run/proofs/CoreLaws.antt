@@ -15,10 +15,10 @@ use Rattle.journal_core.specs.declared.event.Phase.TheVariants.{Closed}
 use Rattle.journal_core.specs.declared.event.Phase.TheVariants.{Empty}
 use Rattle.journal_core.specs.declared.event.JobState.{JobState}
 use Rattle.journal_core.specs.declared.event.JobState.TheVariants.{Fresh, Going, Done}
-use Rattle.journal_core.specs.Marks.{Marking, is_any}
+use Rattle.journal_core.specs.Marks.{Marking, is_any, is_earlier}
 use Rattle.journal_core.specs.Shapes.{none_there}
 use Rattle.journal_core.specs.Starts.{shown_core, shown_states, shown_state, least_there}
-use Rattle.journal_core.specs.Table.{CoreState, after, settled_job, new_core, resumed_core, closed_core}
+use Rattle.journal_core.specs.Table.{CoreState, after, settled_job, new_core, resumed_core, closed_core, old_core}
 use Rattle.root_plan.specs.Verdicts.{JudgeView}
 use Rattle.work_journal.specs.Laws.{looked}
 use Rattle.work_journal.specs.Work.{presence}
@@ -84,16 +84,17 @@ new-calm : (n : ℕ) → map settled_job (replicate n (Fresh 0)) ≡ replicate n
 new-calm zero = refl
 new-calm (suc n) = ap (λ (xs : List JobState). Fresh 0 ∷ xs) (new-calm n)
 
-abbrev core_if : Bool → Bool → List ℕ → List JobState → CoreState
-core_if a b steps states = if a then closed_core else (if b then resumed_core steps states else new_core steps)
+abbrev core_if : Bool → Bool → Bool → List ℕ → List JobState → CoreState
+core_if a e b steps states = if a then (if e then old_core else closed_core) else (if b then resumed_core steps states else new_core steps)
 
-core-by : (a b : Bool) (steps : List ℕ) (states : List JobState) → map settled_job states ≡ states → after (core_if a b steps states) Settle ≡ core_if a b steps states
-core-by true b steps states same = refl
-core-by false true steps states same = ap (resumed_core steps) same
-core-by false false steps states same = ap (λ (xs : List JobState). record { phase = Empty; steps = steps; states = xs }) (new-calm (length steps))
+core-by : (a e b : Bool) (steps : List ℕ) (states : List JobState) → map settled_job states ≡ states → after (core_if a e b steps states) Settle ≡ core_if a e b steps states
+core-by true true b steps states same = refl
+core-by true false b steps states same = refl
+core-by false e true steps states same = ap (resumed_core steps) same
+core-by false e false steps states same = ap (λ (xs : List JobState). record { phase = Empty; steps = steps; states = xs }) (new-calm (length steps))
 
 pub core-calm : (steps : List ℕ) (m : Marking) → after (shown_core steps m) Settle ≡ shown_core steps m
-core-calm steps m = core-by (is_any (m.final 3)) (is_any m.plan) steps (shown_states steps m)
+core-calm steps m = core-by (is_any (m.final 3)) (is_earlier (m.final 3)) (is_any m.plan) steps (shown_states steps m)
     (states-calm (λ j. shown_state (get_or steps j 0) (m.commit j) (m.temp j))
     (λ j. state-calm (is_any (m.commit j)) (none_there (m.temp j) (get_or steps j 0)) (least_there (m.temp j) (get_or steps j 0)))
     (range_with_len 0 (length steps)))

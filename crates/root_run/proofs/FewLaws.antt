@@ -20,7 +20,7 @@ use Rattle.file_tree.specs.declared.node.Node.{Node}
 use Rattle.file_tree.specs.Trees.{TreeMap, is_below, keys_below}
 use Rattle.job_types.specs.Settings.{Settings}
 use Rattle.journal_core.specs.Names.{Name, IsName, IsStep, plan_new, plan, temp, commit, fresh, final, target}
-use Rattle.journal_core.specs.Marks.{Mark, Marking, absent, first, whole, any, is_absent, is_any}
+use Rattle.journal_core.specs.Marks.{Mark, Marking, absent, first, whole, any, earlier, is_absent, is_any}
 use Rattle.journal_core.specs.Shapes.{HasShape, is_job_done, none_there, waiting}
 use Rattle.journal_core.specs.Shapes.{HasShape as shape}
 use Rattle.work_texts.specs.declared.plan.JobLine.{JobLine}
@@ -129,6 +129,7 @@ not-absent absent n = absurd (n refl)
 not-absent first n = refl
 not-absent whole n = refl
 not-absent any n = refl
+not-absent earlier n = refl
 
 and-false : (a b : Bool) → b ≡ false → (a && b) ≡ false
 and-false true b e = e
@@ -148,6 +149,7 @@ window-of : (steps : List ℕ) (m : Marking) → HasShape steps m → (j k : ℕ
 window-of steps m (shape.unplanned u) j k step there = absurd (there (u.rest.temp j k step))
 window-of steps m (shape.underway u) j k step there = u.window j k step there
 window-of steps m (shape.finished f) j k step there = absurd (there (f.temp j k step))
+window-of steps m (shape.old f) j k step there = absurd (there (f.temp j k step))
 
 -- ### New paths
 

@@ -17,9 +17,9 @@ use Rattle.journal_core.specs.declared.event.Event.TheVariants.{Settle}
 use Rattle.journal_core.specs.declared.event.JobState.{JobState}
 use Rattle.journal_core.specs.declared.event.JobState.TheVariants.{Fresh}
 use Rattle.journal_core.specs.declared.event.Phase.TheVariants.{Closed}
-use Rattle.journal_core.specs.Marks.{Marking, is_any}
+use Rattle.journal_core.specs.Marks.{Marking, is_any, is_earlier}
 use Rattle.journal_core.specs.Starts.{shown_core, shown_state, shown_states}
-use Rattle.journal_core.specs.Table.{CoreState, after, closed_core, new_core, resumed_core}
+use Rattle.journal_core.specs.Table.{CoreState, after, closed_core, new_core, old_core, resumed_core}
 use Rattle.work_texts.specs.declared.journal_err.JournalErr.{JournalErr}
 use Rattle.work_texts.specs.declared.plan.PlanData.{PlanData}
 use Rattle.work_journal.specs.Blames.{is_mild_run}
@@ -52,14 +52,15 @@ shown-length : (steps : List ℕ) (m : Marking) → length (shown_states steps m
 shown-length steps m =
     length-map (range_with_len 0 (length steps)) (λ j. shown_state (get_or steps j 0) (m.commit j) (m.temp j)) ∙ length-range_with_len 0 (length steps)
 
-few-by : (a b : Bool) (steps : List ℕ) (states : List JobState) → length states ≡ length steps → length steps ≤ 2 ^ 32
-    → length (if a then closed_core else (if b then resumed_core steps states else new_core steps)).states ≤ 2 ^ 32
-few-by true b steps states same few = lit≤ tt
-few-by false true steps states same few = subst (λ (n : ℕ). n ≤ 2 ^ 32) (sym same) few
-few-by false false steps states same few = subst (λ (n : ℕ). n ≤ 2 ^ 32) (sym (length-replicate (length steps) (Fresh 0))) few
+few-by : (a e b : Bool) (steps : List ℕ) (states : List JobState) → length states ≡ length steps → length steps ≤ 2 ^ 32
+    → length (if a then (if e then old_core else closed_core) else (if b then resumed_core steps states else new_core steps)).states ≤ 2 ^ 32
+few-by true true b steps states same few = lit≤ tt
+few-by true false b steps states same few = lit≤ tt
+few-by false e true steps states same few = subst (λ (n : ℕ). n ≤ 2 ^ 32) (sym same) few
+few-by false e false steps states same few = subst (λ (n : ℕ). n ≤ 2 ^ 32) (sym (length-replicate (length steps) (Fresh 0))) few
 
 pub shown-few : (steps : List ℕ) (m : Marking) → length steps ≤ 2 ^ 32 → length (shown_core steps m).states ≤ 2 ^ 32
-shown-few steps m few = few-by (is_any (m.final 3)) (is_any m.plan) steps (shown_states steps m) (shown-length steps m) few
+shown-few steps m few = few-by (is_any (m.final 3)) (is_earlier (m.final 3)) (is_any m.plan) steps (shown_states steps m) (shown-length steps m) few
 
 pub shows-few : (start : TreeMap) (root : List ℕ) (s : Settings) (v : JudgeView) (fails : List ℕ → List ℕ → Refusal → Type 0) (t : TreeMap) (c : CoreState)
     → ShowsCore start root (work_folder root) s v fails t c → length c.states ≤ 2 ^ 32

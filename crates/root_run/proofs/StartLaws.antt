@@ -15,7 +15,7 @@ use Rattle.file_tree.specs.Moments.{LooksOnly}
 use Rattle.file_tree.proofs.ImageLaws.{image_now}
 use Rattle.file_tree.proofs.MomentLaws.{spans_join}
 use Rattle.journal_core.specs.Names.{Name, IsName, plan_new, plan, temp, commit, fresh, final, target}
-use Rattle.journal_core.specs.Marks.{Mark, Marking, absent, first, whole}
+use Rattle.journal_core.specs.Marks.{Mark, Marking, absent, first, whole, any, earlier, is_own}
 use Rattle.journal_core.specs.Shapes.{HasShape, IsUnplanned}
 use Rattle.journal_core.specs.Shapes.{HasShape as shape}
 use Rattle.journal_core.specs.Starts.{shown_states}
@@ -109,6 +109,13 @@ first-has x was n o e has = subst (λ (y : Mark). MarkHas y was n o) e has
 whole-has : (x : Mark) (was : Option Node) (n : Node) (o : Option Node) → x ≡ whole → MarkHas x was n o → o ≡ Some n
 whole-has x was n o e has = subst (λ (y : Mark). MarkHas y was n o) e has
 
+own-has : (x : Mark) (was : Option Node) (n : Node) (o : Option Node) → IsTrue (is_own x) → MarkHas x was n o → o ≡ Some n
+own-has absent was n o e has = cc
+own-has first was n o e has = cc
+own-has whole was n o e has = has
+own-has any was n o e has = cc
+own-has earlier was n o e has = absurd has
+
 none-some : (n : Node) (o : Option Node) → o ≡ Some n → o ≡ None → ⊥
 none-some n o e f = absurd-some (sym e ∙ f)
   where
@@ -138,10 +145,12 @@ module _ (w : Wanted) (given : IsGiven w w.work) (t : TreeMap) where
   shape-unstarted : (m : Marking) → HasShape w.steps m → Has w m t → fin.get t (work_path w.work plan) ≡ None → fin.get t (work_path w.work (final 3)) ≡ None → IsUnstarted w.start w.work t
   shape-unstarted m (shape.unplanned h) has none other = record { others = unplanned-same m h has }
   shape-unstarted m (shape.underway h) has none other =
-      absurd (none-some (w.node plan) (fin.get t (work_path w.work plan)) (whole-has m.plan (fin.get w.start (work_path w.work plan)) (w.node plan) (fin.get t (work_path w.work plan)) h.plan (has.named plan tt)) none)
+      absurd (none-some (w.node plan) (fin.get t (work_path w.work plan)) (own-has m.plan (fin.get w.start (work_path w.work plan)) (w.node plan) (fin.get t (work_path w.work plan)) h.plan (has.named plan tt)) none)
   shape-unstarted m (shape.finished h) has none other =
       absurd (none-some (w.node (final 3)) (fin.get t (work_path w.work (final 3)))
       (whole-has (m.final 3) (fin.get w.start (work_path w.work (final 3))) (w.node (final 3)) (fin.get t (work_path w.work (final 3))) (h.final 3 (omega arith)) (has.named (final 3) (omega arith))) other)
+  shape-unstarted m (shape.old h) has none other =
+      absurd (subst (λ (x : Mark). MarkHas x (fin.get w.start (work_path w.work (final 3))) (w.node (final 3)) (fin.get t (work_path w.work (final 3)))) h.finished (has.named (final 3) (omega arith)))
 
   -- a tree partway that has neither a plan nor a finished text isn't planned yet
   pub unstarted : IsPartway w t → fin.get t (work_path w.work plan) ≡ None → fin.get t (work_path w.work (final 3)) ≡ None → IsUnstarted w.start w.work t

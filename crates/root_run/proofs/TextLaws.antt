@@ -8,7 +8,7 @@ use Rattle.file_tree.specs.declared.node.Node.TheVariants as node
 use Rattle.file_tree.specs.declared.node.Found.TheVariants as found
 use Rattle.file_tree.specs.Trees.{TreeMap, stands_at}
 use Rattle.file_tree.specs.Seen.{Seen, map_now}
-use Rattle.journal_core.specs.Marks.{Mark, Marking, absent, first, whole, any, is_kept}
+use Rattle.journal_core.specs.Marks.{Mark, Marking, absent, first, whole, any, earlier, is_kept, is_own}
 use Rattle.journal_core.specs.Names.{plan, final}
 use Rattle.journal_core.specs.Shapes.{HasShape}
 use Rattle.journal_core.specs.Shapes.{HasShape as shape}
@@ -33,39 +33,46 @@ use Rattle.root_run.proofs.MadeLaws.{Stands, read-stands}
 
 -- ### What the marks say
 
-kept-by : (x : Mark) → IsTrue (is_kept x) → (x ≡ absent) ⊎ (x ≡ whole)
-kept-by absent e = inl refl
-kept-by first e = cc
-kept-by whole e = inr refl
-kept-by any e = cc
+-- a mark that a tree has, where what is there is the run's own
+kept-by : (x : Mark) (was : Option Node) (n : Node) (o : Option Node) → IsTrue (is_kept x) → MarkHas x was n o → (o ≡ None) ⊎ (o ≡ Some n)
+kept-by absent was n o e has = inl has
+kept-by first was n o e has = cc
+kept-by whole was n o e has = inr has
+kept-by any was n o e has = cc
+kept-by earlier was n o e has = absurd has
 
-plan-mark : (steps : List ℕ) (m : Marking) → HasShape steps m → (m.plan ≡ absent) ⊎ (m.plan ≡ whole)
-plan-mark steps m (shape.unplanned h) = inl h.rest.plan
-plan-mark steps m (shape.underway h) = inr h.plan
-plan-mark steps m (shape.finished h) = kept-by m.plan h.plan
+absent-kept : (x : Mark) → x ≡ absent → IsTrue (is_kept x)
+absent-kept x e = rw e refl
 
-finished-mark : (steps : List ℕ) (m : Marking) → HasShape steps m → (m.final 3 ≡ absent) ⊎ (m.final 3 ≡ whole)
-finished-mark steps m (shape.unplanned h) = inl (h.rest.final 3 (omega arith))
-finished-mark steps m (shape.underway h) = inl h.finished
-finished-mark steps m (shape.finished h) = inr (h.final 3 (omega arith))
+whole-kept : (x : Mark) → x ≡ whole → IsTrue (is_kept x)
+whole-kept x e = rw e refl
 
-absent-has : (x : Mark) (was : Option Node) (n : Node) (o : Option Node) → x ≡ absent → MarkHas x was n o → o ≡ None
-absent-has x was n o e has = subst (λ (y : Mark). MarkHas y was n o) e has
+own-kept : (x : Mark) → IsTrue (is_own x) → IsTrue (is_kept x)
+own-kept absent e = cc
+own-kept first e = cc
+own-kept whole e = refl
+own-kept any e = cc
+own-kept earlier e = refl
 
-whole-has : (x : Mark) (was : Option Node) (n : Node) (o : Option Node) → x ≡ whole → MarkHas x was n o → o ≡ Some n
-whole-has x was n o e has = subst (λ (y : Mark). MarkHas y was n o) e has
+plan-mark : (steps : List ℕ) (m : Marking) → HasShape steps m → IsTrue (is_kept m.plan)
+plan-mark steps m (shape.unplanned h) = absent-kept m.plan h.rest.plan
+plan-mark steps m (shape.underway h) = own-kept m.plan h.plan
+plan-mark steps m (shape.finished h) = h.plan
+plan-mark steps m (shape.old h) = h.plan
 
-own-by : (x : Mark) (was : Option Node) (n : Node) (o : Option Node) → (x ≡ absent) ⊎ (x ≡ whole) → MarkHas x was n o → (o ≡ None) ⊎ (o ≡ Some n)
-own-by x was n o (inl e) has = inl (absent-has x was n o e has)
-own-by x was n o (inr e) has = inr (whole-has x was n o e has)
+finished-mark : (steps : List ℕ) (m : Marking) → HasShape steps m → IsTrue (is_kept (m.final 3))
+finished-mark steps m (shape.unplanned h) = absent-kept (m.final 3) (h.rest.final 3 (omega arith))
+finished-mark steps m (shape.underway h) = absent-kept (m.final 3) h.finished
+finished-mark steps m (shape.finished h) = whole-kept (m.final 3) (h.final 3 (omega arith))
+finished-mark steps m (shape.old h) = rw h.finished refl
 
 -- a plan, and a finished text, are there whole or not at all
 pub own-plan : (w : Wanted) (t : TreeMap) → IsPartway w t → (fin.get t (work_path w.work plan) ≡ None) ⊎ (fin.get t (work_path w.work plan) ≡ Some (w.node plan))
-own-plan w t p = own-by p.marking.plan (fin.get w.start (work_path w.work plan)) (w.node plan) (fin.get t (work_path w.work plan)) (plan-mark w.steps p.marking p.shape) (p.has.named plan tt)
+own-plan w t p = kept-by p.marking.plan (fin.get w.start (work_path w.work plan)) (w.node plan) (fin.get t (work_path w.work plan)) (plan-mark w.steps p.marking p.shape) (p.has.named plan tt)
 
 pub own-finished : (w : Wanted) (t : TreeMap) → IsPartway w t → (fin.get t (work_path w.work (final 3)) ≡ None) ⊎ (fin.get t (work_path w.work (final 3)) ≡ Some (w.node (final 3)))
 own-finished w t p =
-    own-by (p.marking.final 3) (fin.get w.start (work_path w.work (final 3))) (w.node (final 3)) (fin.get t (work_path w.work (final 3)))
+    kept-by (p.marking.final 3) (fin.get w.start (work_path w.work (final 3))) (w.node (final 3)) (fin.get t (work_path w.work (final 3)))
     (finished-mark w.steps p.marking p.shape) (p.has.named (final 3) (omega arith))
 
 -- ### What is read there
