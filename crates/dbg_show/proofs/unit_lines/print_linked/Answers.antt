@@ -13,4 +13,4 @@ unit_arena-requires g c = record {
 
 pub print_with-requires-clause-arena : goal.print_with-requires-clause-arena
 print_with-requires-clause-arena g c =
-    subst (λ (v : View). IsArenaOf c.args.unit.now c.args.table.now (unit_bytes v c.args.unit.now) _) (ap (λ (u : UnitSource). u.view) c.source.view_is) c.in_ok-arena.ensures.arena
+    subst (λ (v : View). IsArenaOf c.args.unit.now c.args.table.now (unit_bytes v c.args.unit.now) c.in_ok-arena.arena) (ap (λ (u : UnitSource). u.view) c.source.view_is) c.in_ok-arena.ensures.arena
