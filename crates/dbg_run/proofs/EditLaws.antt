@@ -14,31 +14,14 @@ use Rattle.file_tree.specs.Seen.{Seen, Past, Happened, now_of}
 use Rattle.file_tree.specs.Trees.{TreeMap, stands_at, with_node}
 use Rattle.dbg_ends.specs.declared.end.End.{End}
 use Rattle.dbg_ends.specs.declared.end.End.TheVariants as end
-use Rattle.dbg_ends.specs.Due.{InputDue, IsCut, IsFree, OutputDue, Where}
-use Rattle.dbg_ends.specs.Due.{Where as where_}
+use Rattle.dbg_ends.specs.Due.{IsCut, IsFree, OutputDue}
 use Rattle.dbg_ends.specs.Due.IsCut.{tree_fault, no_memory}
 use Rattle.dbg_ends.specs.Ends.{status_of}
 use Rattle.dbg_ends.specs.Steps.{InputEnds, LooksThen, OutputFree, OutputTaken, OutputEnds, OutputsEnd, OnlyAtBoth, all_stored, file_put}
 use Rattle.dbg_ends.specs.Steps.{InputEnds as inputs, OutputTaken as outputs, OutputEnds as written, OutputsEnd as both_written}
 use Rattle.dbg_ends.proofs.LookLaws.{looks-then}
-use Rattle.dbg_run.specs.Edits.{EditDone, EditDue, EditEnds, EditUnopposed, IsListText, Keeps, ListedDone, ListedDue, ListedEnds, ListedUnopposed, RewriteEnds, list_mode}
+use Rattle.dbg_run.specs.Edits.{EditDone, EditEnds, EditUnopposed, IsListText, Keeps, ListedDone, ListedEnds, ListedUnopposed, RewriteEnds, list_mode}
 use Rattle.dbg_run.specs.Edits.{EditEnds as edits, ListedEnds as listed, RewriteEnds as rewrites}
-
--- what is due where no file is there is due whatever files are due
-pub input_due : (what : Found) (n : ℕ) (P : List ℕ → Type 0) → InputDue what n (λ _. ⊥) → InputDue what n P
-input_due found.Absent n P due = due
-input_due found.Folder n P due = due
-input_due (found.Link target) n P due = due
-input_due (found.TooLarge size) n P due = due
-input_due (found.File bytes mode) n P due = absurd due
-
--- what is due where no file may be put is due whatever comes after
-pub taken_due : (there : Found) (n : ℕ) (P : Type 0) → OutputDue there n ⊥ → OutputDue there n P
-taken_due found.Absent n P due = absurd due
-taken_due found.Folder n P due = due
-taken_due (found.File bytes mode) n P due = absurd due
-taken_due (found.Link target) n P due = due
-taken_due (found.TooLarge size) n P due = absurd due
 
 -- where a file may be put, what comes after is due
 pub free_due : (there : Found) (n : ℕ) (P : Type 0) → IsFree there → P → OutputDue there n P
@@ -64,20 +47,19 @@ free_before old mid path calm free = record { is = λ t tells. free.is t (calm.n
 pub calm_then : (old mid new : Seen) → Calm old mid → Calm mid new → Calm old new
 calm_then old mid new one two = record { now = two.now ∙ one.now; later = omega (arith, one.later, two.later) }
 
--- an edit that ends at the writing of its output
+-- an edit that ends at the rewriting of its input
+pub edit_rewriting : (input output : List ℕ) (s : Settings) (limit : ℕ) (old mid new : Seen) (b : List ℕ) (mode : ℕ) (e : End)
+    → Stood (now_of old) input limit (found.File b mode) → Calm old mid → OutputFree (now_of mid) output → Calm mid new → RewriteEnds input s b e
+    → EditEnds input output s limit old new e
+edit_rewriting input output s limit old mid new b mode e read calm free still row =
+    edits.rewriting read (free_before old mid output calm free) row (calm_then old mid new calm still)
+
+-- and at the writing of its output
 pub edit_writing : (input output : List ℕ) (s : Settings) (limit : ℕ) (old mid far new : Seen) (b : List ℕ) (mode : ℕ) (e : End)
     → Stood (now_of old) input limit (found.File b mode) → Calm old mid → OutputFree (now_of mid) output → Calm mid far → IsEditable s b
     → OutputEnds output far new e → EditEnds input output s limit old new e
 edit_writing input output s limit old mid far new b mode e read calm free still accepted row =
     edits.writing read (free_before old mid output calm free) accepted (calm_then old mid far calm still) row
-
--- of a file that is taken, where a file may be put at the output, status 0 is due
-pub edit_due : (input output : List ℕ) (s : Settings) (limit : ℕ) (old mid : Seen) (b : List ℕ) (mode : ℕ) (t : TreeMap)
-    → Stood (now_of old) input limit (found.File b mode) → Calm old mid → OutputFree (now_of mid) output → IsEditable s b → now_of old ≡ Some t
-    → EditDue s (stands_at t input limit) (stands_at t output 0) 0
-edit_due input output s limit old mid b mode t read calm free accepted tells =
-    subst (λ (x : Found). EditDue s x (stands_at t output 0) 0) (sym (read.is t tells))
-    (free_due (stands_at t output 0) 0 (Where (IsEditable s b) (0 ≡ 0) (0 ≡ 3)) ((free_before old mid output calm free).is t tells) (where_.here accepted refl))
 
 -- two spans of looks, and then other calls
 pub looks-and : (old mid far new : Past) (calls : List Happened) → LooksOnly old mid → LooksOnly mid far → new ≡ adds_all far calls → LooksThen old new calls
@@ -134,23 +116,19 @@ listed_done input output list s limit old mid far last new b out text mode read 
       (made (told ∙ tell ∙ tells ∙ known));
 }
 
--- one that ends for want of memory for the list, or at the writing
-pub listed_wants : (input output list : List ℕ) (s : Settings) (limit : ℕ) (old mid far last : Seen) (b : List ℕ) (mode : ℕ) (e : End)
-    → Stood (now_of old) input limit (found.File b mode) → Calm old mid → OutputFree (now_of mid) output → Calm mid far → OutputFree (now_of far) list
-    → Calm far last → e ≡ end.NoMemory → ListedEnds input output list s limit old last e
-listed_wants input output list s limit old mid far last b mode e read calm free still also rest is =
-    listed.rewriting read (free_before old mid output calm free) (free_before old mid list calm (free_before mid far list still also))
-    (rewrite_wants input s b e is) (calm_then old mid last calm (calm_then mid far last still rest))
+-- one that ends where no file may be put at the list, at the rewriting or for want of memory for the list, or at the writing
+pub listed_taking : (input output list : List ℕ) (s : Settings) (limit : ℕ) (old mid far last : Seen) (b : List ℕ) (mode : ℕ) (e : End)
+    → Stood (now_of old) input limit (found.File b mode) → Calm old mid → OutputFree (now_of mid) output → Calm mid far → OutputTaken list far last e
+    → Calm far last → ListedEnds input output list s limit old last e
+listed_taking input output list s limit old mid far last b mode e read calm free still row rest =
+    listed.list_taking read (free_before old mid output calm free) (calm_then old mid far calm still) row rest
 
--- of a file that is taken, where files may be put at the output and at the list, status 0 is due
-pub listed_due : (input output list : List ℕ) (s : Settings) (limit : ℕ) (old mid far : Seen) (b : List ℕ) (mode : ℕ) (t : TreeMap)
+pub listed_rewriting : (input output list : List ℕ) (s : Settings) (limit : ℕ) (old mid far last : Seen) (b : List ℕ) (mode : ℕ) (e : End)
     → Stood (now_of old) input limit (found.File b mode) → Calm old mid → OutputFree (now_of mid) output → Calm mid far → OutputFree (now_of far) list
-    → IsEditable s b → now_of old ≡ Some t → ListedDue s (stands_at t input limit) (stands_at t output 0) (stands_at t list 0) 0
-listed_due input output list s limit old mid far b mode t read calm free still also accepted tells =
-    subst (λ (x : Found). ListedDue s x (stands_at t output 0) (stands_at t list 0) 0) (sym (read.is t tells))
-    (free_due (stands_at t output 0) 0 (OutputDue (stands_at t list 0) 0 (Where (IsEditable s b) (0 ≡ 0) (0 ≡ 3))) ((free_before old mid output calm free).is t tells)
-    (free_due (stands_at t list 0) 0 (Where (IsEditable s b) (0 ≡ 0) (0 ≡ 3)) ((free_before old mid list calm (free_before mid far list still also)).is t tells)
-    (where_.here accepted refl)))
+    → Calm far last → RewriteEnds input s b e → ListedEnds input output list s limit old last e
+listed_rewriting input output list s limit old mid far last b mode e read calm free still also rest row =
+    listed.rewriting read (free_before old mid output calm free) (free_before old mid list calm (free_before mid far list still also)) row
+    (calm_then old mid last calm (calm_then mid far last still rest))
 
 pub listed_writing : (input output list : List ℕ) (s : Settings) (limit : ℕ) (old mid far last new : Seen) (b : List ℕ) (mode : ℕ) (e : End)
     → Stood (now_of old) input limit (found.File b mode) → Calm old mid → OutputFree (now_of mid) output → Calm mid far → OutputFree (now_of far) list

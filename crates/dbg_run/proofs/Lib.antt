@@ -3,8 +3,11 @@ pub mod BuiltLaws
 pub mod EditLaws
 pub mod SourceLaws
 pub mod ViewLaws
+pub mod EndLaws
+pub mod EditEndLaws
 pub mod ShowLaws
 pub mod SplitLaws
+pub mod SplitEndLaws
 pub mod UnstripLaws
 pub mod RootLaws
 pub mod RootKeptLaws

@@ -42,6 +42,7 @@ use Rattle.dbg_ends.specs.Due.{IsUnplanned as unplanned}
 use Rattle.dbg_ends.specs.declared.end.End.{End}
 use Rattle.dbg_ends.specs.declared.end.End.TheVariants as end
 use Rattle.dbg_ends.specs.Ends.{status_of}
+use Rattle.dbg_ends.proofs.StatusLaws.{apart}
 use Rattle.dbg_run.specs.Roots.{IsReported, NoReport, OnlyBelow, PassesOver, ReportEnds, RootCut, RootDone, RootDue, RootEnds, RootMild, RootRan, RootStarts, RootSteps, run_end}
 use Rattle.dbg_run.specs.Roots.{IsReported as reported, ReportEnds as reports, RootEnds as ends}
 
@@ -105,9 +106,6 @@ not_reported n is (reported.done e) = none_of n 0 is refl e
 not_reported n is (reported.failed e) = none_of n 7 is refl e
 
 -- ### What a status says of an end
-
-apart : (n k : ℕ) → (n == k) ≡ false → (k == k) ≡ true → n ≡ k → ⊥
-apart n k other itself is = true≢false (sym itself ∙ subst (λ (x : ℕ). (x == k) ≡ false) is other)
 
 reported_by : (n : ℕ) → (n == 0) ≡ false → (n == 7) ≡ false → IsReported n → ⊥
 reported_by n zero seven (reported.done e) = apart n 0 zero refl e

@@ -1,7 +1,6 @@
 -- Laws on the showing of what was read: what an end says, and which status is due.
 use Rattle.std.proofs.Common.{◌≡◌, ◌≢◌, ℕ, ◌==◌, true, false, List, Option, Some, None, refl, sym, ap, ◌∙◌, subst, arith, ◌⊎◌, inl, inr}
 use Rattle.std.specs.Option.{ForSome}
-use Rattle.std.proofs.lemmas.Bool.{true≢false}
 use Rattle.dw_base.specs.DebugData.{DebugData, DataReadings}
 use Rattle.dw_base.specs.ElfFails.{DebugFails, ElfFails, ElfReads}
 use Rattle.dw_base.specs.FileViews.{View, view_of}
@@ -37,6 +36,7 @@ use Rattle.dbg_ends.specs.Due.Where.{here, elsewhere}
 use Rattle.dbg_ends.specs.Ends.{status_of}
 use Rattle.dbg_ends.specs.Steps.{BlamesAt, FaultEnds, InputEnds}
 use Rattle.dbg_ends.specs.Steps.{BlamesAt as blames, FaultEnds as fault_ends, InputEnds as inputs}
+use Rattle.dbg_ends.proofs.StatusLaws.{apart, input_fault, input_status}
 use Rattle.dbg_ends.proofs.StepLaws.{blames_at}
 use Rattle.dbg_run.proofs.EditLaws.{calm_then, input_completes, same_bytes}
 use Rattle.dbg_run.specs.Shows.{AreRead, ErrEnds, HasBegun, IsSeen, IsShowable, ReadingEnds, ShowDone, ShowDue, ShowEnds, ShowFails, ShowUnopposed, Subject, SubjectDue, TextEnds, TextShown, Unseen, ViewEnds, base_name, of_file, of_pair, subject_view, viewed_path}
@@ -112,8 +112,6 @@ file_shown file b c v heard said at_b is seen shown =
     let here : IsShown (view_of c) heard said = subst (λ (x : View). IsShown x heard said) is shown in
     subst (λ (x : List ℕ). TextShown (of_file file x) heard said) at_b (record { showable = record { seen = seen; reads = here.reads }; shown = here })
 
-pub ruleset file_laws = (file_elf, file_unseen, file_written, file_shown)
-
 -- ### Two files
 
 at_both : (P : Subject → Type 0) (stripped s debug d c k : List ℕ) → c ≡ s → k ≡ d → P (of_pair stripped c debug k) → P (of_pair stripped s debug d)
@@ -146,8 +144,6 @@ pub pair_shown : (stripped s debug d c k : List ℕ) (v : View) (heard said : He
 pair_shown stripped s debug d c k v heard said at_s at_d is seen shown =
     let here : IsShown (pair_view k c) heard said = subst (λ (x : View). IsShown x heard said) is shown in
     at_both (λ q. TextShown q heard said) stripped s debug d c k at_s at_d (record { showable = record { seen = seen; reads = here.reads }; shown = here })
-
-pub ruleset pair_laws = (stripped_elf, debug_elf, pair_unseen, pair_written, pair_shown)
 
 -- ### The steps
 
@@ -194,8 +190,6 @@ pair_done file s debug d c k mode other old mid new heard said at_s at_d read ca
   text = at_both (λ q. TextShown q heard said) file s debug d c k at_s at_d text;
   calm = calm_then old mid new calm still;
 }
-
-pub ruleset step_laws = (first_ends, second_ends, file_ends, file_done, pair_ends, pair_done)
 
 -- ### Both sides of what refuses it
 
@@ -272,31 +266,10 @@ show_due file debug old new heard said e (shows.done d) = λ t tells. inl (read_
 
 -- ### What a status says of the end
 
--- numbers that differ aren't the same
-pub apart : (n k : ℕ) → (n == k) ≡ false → (k == k) ≡ true → n ≡ k → ⊥
-apart n k other itself is = true≢false (sym itself ∙ subst (λ (x : ℕ). (x == k) ≡ false) is other)
-
-pub input_status : (path : List ℕ) (limit k : ℕ) (old new : Seen) (e : End) → InputEnds path limit old new e → (4 == k) ≡ false → (8 == k) ≡ false → (6 == k) ≡ false → (13 == k) ≡ false
-    → (status_of e == k) ≡ false
-input_status path limit k old new e (inputs.absent stood) four eight six want = four
-input_status path limit k old new e (inputs.folder stood) four eight six want = four
-input_status path limit k old new e (inputs.link stood) four eight six want = four
-input_status path limit k old new e (inputs.large above stood) four eight six want = eight
-input_status path limit k old new e (inputs.failed rose) four eight six want = six
-input_status path limit k old new e inputs.memory four eight six want = want
-
 reading_status : (file : List ℕ) (debug : Option (List ℕ)) (k : ℕ) (old new : Seen) (e : End) → ReadingEnds file old new debug e → (4 == k) ≡ false → (8 == k) ≡ false
     → (6 == k) ≡ false → (13 == k) ≡ false → (status_of e == k) ≡ false
 reading_status file debug k old new e (readings.first row) = input_status file most_file k old new e row
 reading_status file (Some debug) k old new e (readings.second {mid = mid} read calm row) = input_status debug most_file k mid new e row
-
-pub input_fault : (path : List ℕ) (limit : ℕ) (old new : Seen) (e : End) → InputEnds path limit old new e → status_of e ≡ 6 → Rose old.faults new.faults
-input_fault path limit old new e (inputs.absent stood) is = absurd (apart 4 6 refl refl is)
-input_fault path limit old new e (inputs.folder stood) is = absurd (apart 4 6 refl refl is)
-input_fault path limit old new e (inputs.link stood) is = absurd (apart 4 6 refl refl is)
-input_fault path limit old new e (inputs.large above stood) is = absurd (apart 8 6 refl refl is)
-input_fault path limit old new e (inputs.failed rose) is = rose
-input_fault path limit old new e inputs.memory is = absurd (apart 13 6 refl refl is)
 
 reading_fault : (file : List ℕ) (debug : Option (List ℕ)) (old new : Seen) (e : End) → ReadingEnds file old new debug e → status_of e ≡ 6 → Rose old.faults new.faults
 reading_fault file debug old new e (readings.first row) is = input_fault file most_file old new e row is
@@ -427,5 +400,3 @@ show_calm file debug old new heard said e (shows.reading row calm same) = calm.n
 show_calm file debug old new heard said e (shows.showing read calm row) = calm.now
 show_calm file debug old new heard said e (shows.memory calm same) = calm.now
 show_calm file debug old new heard said e (shows.done d) = d.calm.now
-
-pub ruleset show_laws = (shows.done, show_calm, show_ended, show_due, show_known, show_fault, show_output, show_silent)

@@ -1,7 +1,6 @@
 -- Laws on the steps of a split.
 use Rattle.std.proofs.Common.{◌≡◌, ◌≢◌, ◌⊎◌, inl, inr, ℕ, true, false, List, [], ◌∷◌, Some, refl, sym, ap, ◌∙◌, subst}
 use Rattle.std.specs.Prelude.{Option, option_map}
-use Rattle.std.specs.Option.{ForSome}
 use Rattle.dw_base.specs.Refusals.{Blames}
 use Rattle.dw_base.specs.Texts.{has_nul}
 use Rattle.dw_base.specs.declared.fault.Fault.{Fault}
@@ -12,7 +11,6 @@ use Rattle.dbg_split.specs.PairMeanings.{MeansAsOne, ReadApart}
 use Rattle.dbg_split.specs.PairViews.{JoinsTo}
 use Rattle.dbg_split.specs.SplitFails.{SplitFails}
 use Rattle.dbg_split.specs.StrippedFile.{stripped_file}
-use Rattle.file_tree.specs.declared.node.Found.{Found}
 use Rattle.file_tree.specs.declared.node.Found.TheVariants as found
 use Rattle.file_tree.specs.declared.node.Node.TheVariants as node
 use Rattle.file_tree.specs.Causes.{Calm, Stood}
@@ -27,12 +25,12 @@ use Rattle.dbg_ends.specs.Due.{Where, IsCut}
 use Rattle.dbg_ends.specs.Due.IsCut.{no_memory}
 use Rattle.dbg_ends.specs.Due.Where.{elsewhere}
 use Rattle.dbg_ends.specs.Ends.{status_of}
-use Rattle.dbg_ends.specs.Steps.{BlamesAt, FaultEnds, OnlyAtBoth, OutputFree, all_stored, file_put}
+use Rattle.dbg_ends.specs.Steps.{BlamesAt, FaultEnds, OnlyAtBoth, OutputFree, OutputTaken, OutputsEnd, all_stored, file_put}
 use Rattle.dbg_ends.specs.Steps.{BlamesAt as blames, OutputsEnd as both_written}
 use Rattle.dbg_ends.proofs.LookLaws.{looks-then}
 use Rattle.dbg_ends.proofs.StepLaws.{blames_at}
 use Rattle.dbg_run.specs.Shows.{base_name}
-use Rattle.dbg_run.specs.Splits.{IsSplittable, Parts, SplitDone, SplitDue, SplitEnds, SplitUnopposed}
+use Rattle.dbg_run.specs.Splits.{IsSplittable, Parts, SplitDone, SplitEnds, SplitUnopposed}
 use Rattle.dbg_run.specs.Splits.{Parts as parts, SplitEnds as splits}
 use Rattle.dw_base.specs.FileViews.{view_of}
 use Rattle.dw_view.specs.PairViews.{pair_view}
@@ -40,7 +38,7 @@ use Rattle.dw_view.specs.Pairs.{IsPaired}
 use Rattle.dbg_show.specs.Shows.{IsShown}
 use Rattle.file_tree.specs.Heard.{Heard}
 use Rattle.dbg_run.proofs.ShowLaws.{shows_alike}
-use Rattle.dbg_run.proofs.EditLaws.{both_completes, calm_both, calm_then, free_before, free_due, input_completes, looks-and, output_completes, same_both, same_bytes}
+use Rattle.dbg_run.proofs.EditLaws.{both_completes, calm_both, calm_then, free_before, input_completes, looks-and, output_completes, same_both, same_bytes}
 
 -- ### The two files
 
@@ -69,24 +67,27 @@ pub blames_due : (path b name : List ℕ) (e : End) → BlamesAt (SplitFails b n
 blames_due path b name e (blames.refused {r = r} fails) = inl (elsewhere (λ is. is.unrefused r fails) refl)
 blames_due path b name e blames.memory = inr (no_memory refl)
 
--- and where files might be put at both paths, it is due of the split
-pub parting_due : (input stripped debug : List ℕ) (old mid far : Seen) (b : List ℕ) (mode n : ℕ) → Stood (now_of old) input most_file (found.File b mode) → Calm old mid
-    → OutputFree (now_of mid) stripped → Calm mid far → OutputFree (now_of far) debug
-    → Where (IsSplittable b (base_name debug)) (n ≡ 0) (n ≡ 3) ⊎ IsCut n
-    → ForSome (now_of old) (λ t. SplitDue (base_name debug) (stands_at t input most_file) (stands_at t stripped 0) (stands_at t debug 0) n ⊎ IsCut n)
-parting_due input stripped debug old mid far b mode n read calm free still also (inr cut) = λ t tells. inr cut
-parting_due input stripped debug old mid far b mode n read calm free still also (inl due) = λ t tells.
-    inl (subst (λ (what : Found). SplitDue (base_name debug) what (stands_at t stripped 0) (stands_at t debug 0) n) (sym (read.is t tells))
-    (free_due (stands_at t stripped 0) n _ ((free_before old mid stripped calm free).is t tells)
-    (free_due (stands_at t debug 0) n _ ((free_before old mid debug calm (free_before mid far debug still also)).is t tells) due)))
+-- a split that ends where no file may be put at the debug file's path
+pub split_debug_taking : (input stripped debug : List ℕ) (old mid far last : Seen) (b : List ℕ) (mode : ℕ) (e : End) → Stood (now_of old) input most_file (found.File b mode)
+    → Calm old mid → OutputFree (now_of mid) stripped → Calm mid far → OutputTaken debug far last e → Calm far last → SplitEnds input stripped debug old last e
+split_debug_taking input stripped debug old mid far last b mode e read calm free still row rest =
+    splits.debug_taking read (free_before old mid stripped calm free) (calm_then old mid far calm still) row rest
 
--- and it ends so
+-- at the splitting
 pub split_parting : (input stripped debug : List ℕ) (old mid far last : Seen) (b : List ℕ) (mode : ℕ) (e : End) → Stood (now_of old) input most_file (found.File b mode)
     → Calm old mid → OutputFree (now_of mid) stripped → Calm mid far → OutputFree (now_of far) debug → Calm far last
     → BlamesAt (SplitFails b (base_name debug)) input e → SplitEnds input stripped debug old last e
 split_parting input stripped debug old mid far last b mode e read calm free still also rest row =
     splits.splitting read (free_before old mid stripped calm free) (free_before old mid debug calm (free_before mid far debug still also)) row
     (calm_then old mid last calm (calm_then mid far last still rest))
+
+-- and at the writing
+pub split_writing : (input stripped debug : List ℕ) (old mid far last new : Seen) (b : List ℕ) (mode : ℕ) (e : End) → Stood (now_of old) input most_file (found.File b mode)
+    → Calm old mid → OutputFree (now_of mid) stripped → Calm mid far → OutputFree (now_of far) debug → Calm far last → IsSplittable b (base_name debug)
+    → OutputsEnd debug stripped last new e → SplitEnds input stripped debug old new e
+split_writing input stripped debug old mid far last new b mode e read calm free still also rest ok row =
+    splits.writing read (free_before old mid stripped calm free) (free_before old mid debug calm (free_before mid far debug still also)) ok
+    (calm_then old mid last calm (calm_then mid far last still rest)) row
 
 -- ### The whole
 

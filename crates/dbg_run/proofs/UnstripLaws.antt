@@ -1,6 +1,6 @@
 -- Laws on the joining of two files: what an end says, and which status is due.
 use Rattle.std.proofs.Common.{◌≡◌, ◌≢◌, ◌≤◌, ◌⊎◌, inl, inr, ℕ, ◌==◌, true, false, Bool, List, [], ◌∷◌, length, Some, None, refl, sym, ap, ◌∙◌, subst, arith}
-use Rattle.std.specs.Prelude.{Option, is_some, nat_le, option_map, unwrap_or, if◌then◌else◌}
+use Rattle.std.specs.Prelude.{Option, nat_le, option_map, if◌then◌else◌}
 use Rattle.std.specs.Option.{ForSome}
 use Rattle.std.specs.List.{list_any}
 use Rattle.std.proofs.lemmas.Bool.Decides.{nat_tests}
@@ -21,7 +21,6 @@ use Rattle.dbg_unstrip.specs.declared.unstrip_err.UnstripErr.TheVariants.{NotAPa
 use Rattle.dbg_unstrip.proofs.RejoinedLaws.{split-matches}
 use Rattle.dbg_unstrip.proofs.SplitPairLaws.{pair-of}
 use Rattle.dbg_unstrip.proofs.UnstripRows.{mismatch-excludes, unstrip-excludes}
-use Rattle.file_tree.specs.declared.node.Found.{Found}
 use Rattle.file_tree.specs.declared.node.Found.TheVariants as found
 use Rattle.file_tree.specs.declared.node.Node.{Node}
 use Rattle.file_tree.specs.declared.node.Node.TheVariants as node
@@ -32,17 +31,17 @@ use Rattle.file_tree.specs.Trees.{TreeMap, found_of, is_below, stands_at, with_n
 use Rattle.job_types.specs.Settings.{most_file}
 use Rattle.dbg_ends.specs.declared.end.End.{End}
 use Rattle.dbg_ends.specs.declared.end.End.TheVariants as end
-use Rattle.dbg_ends.specs.Due.{InputDue, IsCut, IsRefusal, OutputDue}
-use Rattle.dbg_ends.specs.Due.{IsRefusal as refusal}
-use Rattle.dbg_ends.specs.Due.IsCut.{tree_fault, no_memory}
+use Rattle.dbg_ends.specs.Due.{IsCut, IsRefusal, OutputDue}
+use Rattle.dbg_ends.specs.Due.IsCut.{no_memory}
 use Rattle.dbg_ends.specs.Due.Where.{here, elsewhere}
 use Rattle.dbg_ends.specs.Ends.{status_of}
-use Rattle.dbg_ends.specs.Steps.{BlamesAt, FaultEnds, InputEnds, OutputEnds, OutputFree, OutputTaken, all_stored, file_put}
-use Rattle.dbg_ends.specs.Steps.{BlamesAt as blames, FaultEnds as fault_ends, InputEnds as inputs, OutputEnds as written, OutputTaken as outputs}
+use Rattle.dbg_ends.specs.Steps.{BlamesAt, FaultEnds, OutputEnds, OutputFree, OutputTaken, all_stored, file_put}
+use Rattle.dbg_ends.specs.Steps.{BlamesAt as blames, FaultEnds as fault_ends, OutputEnds as written}
 use Rattle.dbg_ends.proofs.LookLaws.{looks-then}
-use Rattle.dbg_run.proofs.EditLaws.{calm-at, calm_then, free_before, free_due, input_completes, looks-and, output_completes, same-at, same_bytes, written_completes}
-use Rattle.dbg_run.proofs.KeptLaws.{get_put_other}
-use Rattle.dbg_run.proofs.ShowLaws.{apart, input_fault, input_status, stood_before}
+use Rattle.dbg_ends.proofs.StatusLaws.{apart, done_refusal, input_ends, input_fault, input_status, no_refusal, output_ends, output_fault, output_status, written_fault, written_status}
+use Rattle.dbg_run.proofs.EditLaws.{calm_then, free_before, free_due, input_completes, looks-and, output_completes, same-at, same_bytes, written_completes}
+use Rattle.dbg_run.proofs.EndLaws.{behind_file, either, put_at, rose_later, written_at}
+use Rattle.dbg_run.proofs.ShowLaws.{stood_before}
 use Rattle.dbg_run.specs.Shows.{base_name}
 use Rattle.dbg_run.specs.Unstrips.{AreRecords, CanJoin, ComesBack, JoinDue, JoinFails, JoiningEnds, Unjoined, UnstripDone, UnstripDue, UnstripEnds, UnstripUnopposed, WereParts}
 use Rattle.dbg_run.specs.Unstrips.{JoinFails as fails, JoiningEnds as joinings, Unjoined as unjoined, UnstripEnds as unstrips}
@@ -111,8 +110,6 @@ back_there s d c k name at_s at_d back = at_both (λ x y. ComesBack x y name) s 
 pub file_there : (s d c k file : List ℕ) → c ≡ s → k ≡ d → file ≡ joined c k → file ≡ joined s d
 file_there s d c k file at_s at_d is = is ∙ ap (λ (x : List ℕ). joined x k) at_s ∙ ap (joined s) at_d
 
-pub ruleset write_laws = (stripped_elf, debug_elf, no_join, no_writing, joinable_there, back_there)
-
 -- ### The steps
 
 -- it ends at the look at the output
@@ -171,8 +168,6 @@ unstrip_done stripped debug output old mid far last new s d c k mode other at_s 
           ∙ ap (λ (f : List ℕ). adds_all last.past (file_put output f mode ∷ all_stored ∷ [])) (file_there s d c k (joined c k) at_s at_d refl));
     }
 
-pub ruleset step_laws = (unstrips.reading, unstrips.debug_reading, output_taken, joining_ends)
-
 -- ### Which status is due
 
 short-excludes : (n : ℕ) (r : Refusal) → TooLong n r → n ≤ output_limit → ⊥
@@ -198,45 +193,20 @@ can_due : (s d name : List ℕ) → CanJoin s d name → JoinDue s d name 0
 can_due s d name can =
     here can.records (here can.are.pair.can.paired (here can.are.pair.can.loaded (here can.are.pair.matched (here can.are.short refl))))
 
--- behind files that were read it is due of the whole
-behind_file : (path b : List ℕ) (mode n : ℕ) (old : Seen) (t : TreeMap) (P : List ℕ → Type 0) → now_of old ≡ Some t
-    → Stood (now_of old) path most_file (found.File b mode) → P b → InputDue (stands_at t path most_file) n P
-behind_file path b mode n old t P tells read due = subst (λ (what : Found). InputDue what n P) (sym (read.is t tells)) due
-
-input_ends : (path : List ℕ) (old new : Seen) (e : End) (t : TreeMap) (P : List ℕ → Type 0) → now_of old ≡ Some t → InputEnds path most_file old new e
-    → InputDue (stands_at t path most_file) (status_of e) P ⊎ IsCut (status_of e)
-input_ends path old new e t P tells (inputs.absent stood) = inl (subst (λ (what : Found). InputDue what (status_of e) P) (sym (stood.is t tells)) refl)
-input_ends path old new e t P tells (inputs.folder stood) = inl (subst (λ (what : Found). InputDue what (status_of e) P) (sym (stood.is t tells)) refl)
-input_ends path old new e t P tells (inputs.link stood) = inl (subst (λ (what : Found). InputDue what (status_of e) P) (sym (stood.is t tells)) refl)
-input_ends path old new e t P tells (inputs.large above stood) = inl (subst (λ (what : Found). InputDue what (status_of e) P) (sym (stood.is t tells)) refl)
-input_ends path old new e t P tells (inputs.failed rose) = inr (tree_fault refl)
-input_ends path old new e t P tells inputs.memory = inr (no_memory refl)
-
-output_ends : (path : List ℕ) (old new : Seen) (e : End) (t : TreeMap) (P : Type 0) → now_of old ≡ Some t → OutputTaken path old new e
-    → OutputDue (stands_at t path 0) (status_of e) P ⊎ IsCut (status_of e)
-output_ends path old new e t P tells (outputs.folder stood) = inl (subst (λ (what : Found). OutputDue what (status_of e) P) (sym (stood.is t tells)) refl)
-output_ends path old new e t P tells (outputs.link stood) = inl (subst (λ (what : Found). OutputDue what (status_of e) P) (sym (stood.is t tells)) refl)
-output_ends path old new e t P tells (outputs.failed rose) = inr (tree_fault refl)
-output_ends path old new e t P tells outputs.memory = inr (no_memory refl)
-
-either : (A B C : Type 0) → (A → B) → A ⊎ C → B ⊎ C
-either A B C f (inl a) = inl (f a)
-either A B C f (inr c) = inr c
-
 -- where both files were read and a file might be put, what is due of the two is due
 both_due : (stripped debug output s d : List ℕ) (mode other n : ℕ) (old : Seen) (t : TreeMap) → now_of old ≡ Some t
     → Stood (now_of old) stripped most_file (found.File s mode) → Stood (now_of old) debug most_file (found.File d other)
     → OutputDue (stands_at t output 0) n (JoinDue s d (base_name debug) n)
     → UnstripDue (base_name debug) (stands_at t stripped most_file) (stands_at t debug most_file) (stands_at t output 0) n
 both_due stripped debug output s d mode other n old t tells read also due =
-    behind_file stripped s mode n old t _ tells read (behind_file debug d other n old t _ tells also due)
+    behind_file stripped most_file s mode n old t _ tells read (behind_file debug most_file d other n old t _ tells also due)
 
 pub unstrip_due : (stripped debug output : List ℕ) (old new : Seen) (e : End) → UnstripEnds stripped debug output old new e
     → ForSome (now_of old) (λ t.
     UnstripDue (base_name debug) (stands_at t stripped most_file) (stands_at t debug most_file) (stands_at t output 0) (status_of e) ⊎ IsCut (status_of e))
-unstrip_due stripped debug output old new e (unstrips.reading row calm) = λ t tells. input_ends stripped old new e t _ tells row
+unstrip_due stripped debug output old new e (unstrips.reading row calm) = λ t tells. input_ends stripped most_file old new e t _ tells row
 unstrip_due stripped debug output old new e (unstrips.debug_reading {s = s} {mode = mode} {mid = mid} read calm row still) = λ t tells.
-    either _ _ _ (behind_file stripped s mode (status_of e) old t _ tells read) (input_ends debug mid new e t _ (calm.now ∙ tells) row)
+    either _ _ _ (behind_file stripped most_file s mode (status_of e) old t _ tells read) (input_ends debug most_file mid new e t _ (calm.now ∙ tells) row)
 unstrip_due stripped debug output old new e (unstrips.taking {s = s} {d = d} {mode = mode} {other = other} {mid = mid} read also calm row still) = λ t tells.
     either _ _ _ (both_due stripped debug output s d mode other (status_of e) old t tells read also) (output_ends output mid new e t _ (calm.now ∙ tells) row)
 unstrip_due stripped debug output old new e (unstrips.joining {s = s} {d = d} {mode = mode} {other = other} read also free (unjoined.fails row) calm) = λ t tells.
@@ -250,17 +220,6 @@ unstrip_due stripped debug output old new e (unstrips.done x) = λ t tells.
     (free_due (stands_at t output 0) 0 _ (x.free.is t tells) (can_due x.s x.d (base_name debug) x.can)))
 
 -- ### What a status says of the end
-
-output_status : (path : List ℕ) (k : ℕ) (old new : Seen) (e : End) → OutputTaken path old new e → (5 == k) ≡ false → (6 == k) ≡ false → (13 == k) ≡ false
-    → (status_of e == k) ≡ false
-output_status path k old new e (outputs.folder stood) five six want = five
-output_status path k old new e (outputs.link stood) five six want = five
-output_status path k old new e (outputs.failed rose) five six want = six
-output_status path k old new e outputs.memory five six want = want
-
-written_status : (path : List ℕ) (k : ℕ) (old new : Seen) (e : End) → OutputEnds path old new e → (6 == k) ≡ false → (13 == k) ≡ false → (status_of e == k) ≡ false
-written_status path k old new e (written.failed rose at) six want = six
-written_status path k old new e (written.memory at) six want = want
 
 unjoined_status : (stripped s debug d : List ℕ) (k : ℕ) (e : End) → Unjoined stripped s debug d e → (3 == k) ≡ false → (12 == k) ≡ false → (15 == k) ≡ false
     → (13 == k) ≡ false → (status_of e == k) ≡ false
@@ -312,19 +271,6 @@ unstrip_silent stripped debug output old new e row = λ is.
     apart (status_of e) 7 (other_status stripped debug output 7 old new e row refl refl refl refl refl refl refl refl refl) refl (sym is)
 
 -- a fault of the tree came
-output_fault : (path : List ℕ) (old new : Seen) (e : End) → OutputTaken path old new e → status_of e ≡ 6 → Rose old.faults new.faults
-output_fault path old new e (outputs.folder stood) is = absurd (apart 5 6 refl refl is)
-output_fault path old new e (outputs.link stood) is = absurd (apart 5 6 refl refl is)
-output_fault path old new e (outputs.failed rose) is = rose
-output_fault path old new e outputs.memory is = absurd (apart 13 6 refl refl is)
-
-written_fault : (path : List ℕ) (old new : Seen) (e : End) → OutputEnds path old new e → status_of e ≡ 6 → Rose old.faults new.faults
-written_fault path old new e (written.failed rose at) is = rose
-written_fault path old new e (written.memory at) is = absurd (apart 13 6 refl refl is)
-
-rose_later : (old mid new : Seen) → Calm old mid → Rose mid.faults new.faults → Rose old.faults new.faults
-rose_later old mid new calm rose = omega (arith, calm.later, rose)
-
 pub unstrip_fault : (stripped debug output : List ℕ) (old new : Seen) (e : End) → UnstripEnds stripped debug output old new e → status_of e ≡ 6
     → Rose old.faults new.faults
 unstrip_fault stripped debug output old new e (unstrips.reading row calm) is = input_fault stripped most_file old new e row is
@@ -341,22 +287,6 @@ unstrip_fault stripped debug output old new e (unstrips.done x) is = absurd (apa
 
 -- ### What becomes of the tree
 
--- a file that was put differs at its path alone
-put_at : (path : List ℕ) (n : Node) (old new : Option TreeMap) → new ≡ option_map (with_node path n) old → OnlyAt path old new
-put_at path n None new is = record { tells = ap is_some is; others = λ t u q of_old of_new other. cc }
-put_at path n (Some m) new is = record {
-  tells = ap is_some is;
-  others = λ t u q of_old of_new other.
-      let now : Some u ≡ Some (with_node path n m) = sym of_new ∙ is in
-      let one : u ≡ with_node path n m = ap (λ (o : Option TreeMap). unwrap_or o u) now in
-      let was : m ≡ t = ap (λ (o : Option TreeMap). unwrap_or o m) of_old in
-      ap (λ (v : TreeMap). fin.get v q) one ∙ get_put_other m path q n other ∙ ap (λ (v : TreeMap). fin.get v q) was;
-}
-
-written_at : (path : List ℕ) (old mid new : Seen) (e : End) → Calm old mid → OutputEnds path mid new e → OnlyAt path (now_of old) (now_of new)
-written_at path old mid new e calm (written.failed rose at) = calm-at path old mid (now_of new) calm at
-written_at path old mid new e calm (written.memory at) = calm-at path old mid (now_of new) calm at
-
 -- at most the output differs
 pub unstrip_others : (stripped debug output : List ℕ) (old new : Seen) (e : End) → UnstripEnds stripped debug output old new e → OnlyAt output (now_of old) (now_of new)
 unstrip_others stripped debug output old new e (unstrips.reading row calm) = same-at output (now_of old) (now_of new) calm.now
@@ -368,31 +298,6 @@ unstrip_others stripped debug output old new e (unstrips.memory at) = at
 unstrip_others stripped debug output old new e (unstrips.done x) = put_at output (node.File (joined x.s x.d) x.mode) (now_of old) (now_of new) x.written
 
 -- a refusal comes before anything is written
-no_refusal : (n : ℕ) → IsCut n → IsRefusal n → ⊥
-no_refusal n (tree_fault e) (refusal.usage f) = cc
-no_refusal n (tree_fault e) (refusal.refused f) = cc
-no_refusal n (tree_fault e) (refusal.no_file f) = cc
-no_refusal n (tree_fault e) (refusal.taken f) = cc
-no_refusal n (tree_fault e) (refusal.limit f) = cc
-no_refusal n (tree_fault e) (refusal.no_pair f) = cc
-no_refusal n (tree_fault e) (refusal.unmatched f) = cc
-no_refusal n (no_memory e) (refusal.usage f) = cc
-no_refusal n (no_memory e) (refusal.refused f) = cc
-no_refusal n (no_memory e) (refusal.no_file f) = cc
-no_refusal n (no_memory e) (refusal.taken f) = cc
-no_refusal n (no_memory e) (refusal.limit f) = cc
-no_refusal n (no_memory e) (refusal.no_pair f) = cc
-no_refusal n (no_memory e) (refusal.unmatched f) = cc
-
-done_refusal : IsRefusal 0 → ⊥
-done_refusal (refusal.usage f) = cc
-done_refusal (refusal.refused f) = cc
-done_refusal (refusal.no_file f) = cc
-done_refusal (refusal.taken f) = cc
-done_refusal (refusal.limit f) = cc
-done_refusal (refusal.no_pair f) = cc
-done_refusal (refusal.unmatched f) = cc
-
 pub unstrip_kept : (stripped debug output : List ℕ) (old new : Seen) (e : End) → UnstripEnds stripped debug output old new e → IsRefusal (status_of e)
     → now_of new ≡ now_of old
 unstrip_kept stripped debug output old new e (unstrips.reading row calm) is = calm.now
@@ -403,8 +308,6 @@ unstrip_kept stripped debug output old new e (unstrips.writing {mid = mid} read 
     absurd (no_refusal (status_of e) (written_completes output mid new e row) is)
 unstrip_kept stripped debug output old new e (unstrips.memory at) is = absurd (no_refusal 13 (no_memory refl) is)
 unstrip_kept stripped debug output old new e (unstrips.done x) is = absurd (done_refusal is)
-
-pub ruleset unstrip_laws = (unstrips.done, unstrip_ended, unstrip_due, unstrip_known, unstrip_silent, unstrip_fault, unstrip_others, unstrip_kept)
 
 -- ### Completeness
 

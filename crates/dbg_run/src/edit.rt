@@ -13,7 +13,7 @@ ghost use Rattle.file_tree.specs.Trees.{stands_at, with_node};
 ghost use Rattle.file_tree.specs.Causes.{Rose, OnlyAt};
 ghost use Rattle.file_tree.specs.Moments.{adds_all};
 ghost use Rattle.dbg_ends.specs.Ends.{status_of};
-ghost use Rattle.dbg_ends.specs.Due.{Where, IsCut, IsRefusal};
+ghost use Rattle.dbg_ends.specs.Due.{IsCut, IsRefusal};
 ghost use Rattle.dbg_ends.specs.Steps.{OnlyAtBoth, OutputEnds, OutputsEnd, all_stored, file_put};
 ghost use Rattle.dbg_run.specs.Edits.{Keeps, RewriteEnds, EditDone, EditEnds, EditDue, ListedDone, ListedEnds, ListedDue, list_mode};
 
@@ -47,11 +47,6 @@ fn edited_bytes<'a>(
     ensures tables { IfOk result (λ out. TablesFound (view_of bytes.now.items) out.tables.items) }
     ensures none { OnOk result ((r : Refusal) → EditedFails options.now bytes.now.items r → ⊥) }
     ensures ends { IfErr result (RewriteEnds path.now options.now bytes.now.items) }
-    ensures due { IfErr result (λ e. Where (IsEditable options.now bytes.now.items) (status_of e ≡ 0) (status_of e ≡ 3) ⊎ IsCut (status_of e)) }
-    ensures not_done { IfErr result (λ e. 0 ≢ status_of e) }
-    ensures not_usage { IfErr result (λ e. 2 ≢ status_of e) }
-    ensures not_output { IfErr result (λ e. 7 ≢ status_of e) }
-    ensures no_fault { IfErr result (λ e. 6 ≢ status_of e) }
 {
     match edited(alloc, bytes.as_slice(), options) {
         Ok(out) => Ok(out),
@@ -64,7 +59,6 @@ fn edited_bytes<'a>(
 }
 
 /// Sets a path to a file of these pieces, one behind another, and this mode, and then settles the tree.
-#[tactic(auto, using(crate::proofs::Rows::written_rows))]
 pub(crate) fn write_file<T: Tree>(
     alloc: Global,
     path: &str,
@@ -74,13 +68,7 @@ pub(crate) fn write_file<T: Tree>(
 ) -> Result<(), End>
     ensures done { OnOk result (now_of (T.seen tree.new) ≡ option_map (with_node path.now (node.File file.now mode)) (now_of (T.seen tree.old))) }
     ensures ends { IfErr result (OutputEnds path.now (T.seen tree.old) (T.seen tree.new)) }
-    ensures due { IfErr result (λ e. IsCut (status_of e)) }
     ensures calls { (T.seen tree.old).tells ≡ true → OnOk result ((T.seen tree.new).past ≡ adds_all (T.seen tree.old).past (file_put path.now file.now mode ∷ all_stored ∷ [])) }
-    ensures not_done { IfErr result (λ e. 0 ≢ status_of e) }
-    ensures not_usage { IfErr result (λ e. 2 ≢ status_of e) }
-    ensures not_output { IfErr result (λ e. 7 ≢ status_of e) }
-    ensures fault { IfErr result (λ e. status_of e ≡ 6 → Rose (T.seen tree.old).faults (T.seen tree.new).faults) }
-    ensures others { OnlyAt path.now (now_of (T.seen tree.old)) (now_of (T.seen tree.new)) }
     ensures tells { (T.seen tree.new).tells ≡ (T.seen tree.old).tells }
 {
     let slices = file.slices(alloc)?;
@@ -89,7 +77,6 @@ pub(crate) fn write_file<T: Tree>(
 }
 
 /// Sets a path to a file of these pieces and this mode, then a second path to a list, and then settles the tree.
-#[tactic(auto, using(crate::proofs::Rows::pair_rows))]
 fn write_listed<T: Tree>(
     alloc: Global,
     path: &str,
@@ -101,13 +88,7 @@ fn write_listed<T: Tree>(
 ) -> Result<(), End>
     ensures done { OnOk result (now_of (T.seen tree.new) ≡ option_map (with_node list.now (node.File names.items list_mode)) (option_map (with_node path.now (node.File file.now mode)) (now_of (T.seen tree.old)))) }
     ensures ends { IfErr result (OutputsEnd path.now list.now (T.seen tree.old) (T.seen tree.new)) }
-    ensures due { IfErr result (λ e. IsCut (status_of e)) }
     ensures calls { (T.seen tree.old).tells ≡ true → OnOk result ((T.seen tree.new).past ≡ adds_all (T.seen tree.old).past (file_put path.now file.now mode ∷ file_put list.now names.items list_mode ∷ all_stored ∷ [])) }
-    ensures not_done { IfErr result (λ e. 0 ≢ status_of e) }
-    ensures not_usage { IfErr result (λ e. 2 ≢ status_of e) }
-    ensures not_output { IfErr result (λ e. 7 ≢ status_of e) }
-    ensures fault { IfErr result (λ e. status_of e ≡ 6 → Rose (T.seen tree.old).faults (T.seen tree.new).faults) }
-    ensures others { OnlyAtBoth path.now list.now (now_of (T.seen tree.old)) (now_of (T.seen tree.new)) }
     ensures tells { (T.seen tree.new).tells ≡ (T.seen tree.old).tells }
 {
     let slices = file.slices(alloc)?;
@@ -116,7 +97,6 @@ fn write_listed<T: Tree>(
 }
 
 /// Reads the input, looks whether the output may be put, rewrites the input, and writes the output.
-#[tactic(auto, using(crate::proofs::Rows::edit_rows))]
 fn edit_steps<T: Tree>(
     alloc: Global,
     input: &str,
@@ -128,14 +108,6 @@ fn edit_steps<T: Tree>(
     requires limit { limit ≤ output_limit }
     ensures done { OnOk result (EditDone input.now output.now options.now limit (T.seen tree.old) (T.seen tree.new)) }
     ensures ends { IfErr result (EditEnds input.now output.now options.now limit (T.seen tree.old) (T.seen tree.new)) }
-    ensures due { IfErr result (λ e. ForSome (now_of (T.seen tree.old)) (λ t. EditDue options.now (stands_at t input.now limit) (stands_at t output.now 0) (status_of e) ⊎ IsCut (status_of e))) }
-    ensures due_done { OnOk result (ForSome (now_of (T.seen tree.old)) (λ t. EditDue options.now (stands_at t input.now limit) (stands_at t output.now 0) 0)) }
-    ensures not_done { IfErr result (λ e. 0 ≢ status_of e) }
-    ensures not_usage { IfErr result (λ e. 2 ≢ status_of e) }
-    ensures not_output { IfErr result (λ e. 7 ≢ status_of e) }
-    ensures fault { IfErr result (λ e. status_of e ≡ 6 → Rose (T.seen tree.old).faults (T.seen tree.new).faults) }
-    ensures kept { IfErr result (λ e. IsRefusal (status_of e) → now_of (T.seen tree.new) ≡ now_of (T.seen tree.old)) }
-    ensures others { OnlyAt output.now (now_of (T.seen tree.old)) (now_of (T.seen tree.new)) }
     ensures tells { (T.seen tree.new).tells ≡ (T.seen tree.old).tells }
 {
     let (bytes, mode) = read_input(alloc, input, limit, tree)?;
@@ -146,7 +118,6 @@ fn edit_steps<T: Tree>(
 }
 
 /// How the edit ends. The output is set to the rewritten input, with the input's mode.
-#[tactic(auto, using(crate::proofs::Rows::edit_rows))]
 pub fn edit<T: Tree>(
     alloc: Global,
     input: &str,
@@ -171,7 +142,6 @@ pub fn edit<T: Tree>(
 }
 
 /// Reads the input, looks whether the output and the list may be put, rewrites the input, lists its sources, and writes both.
-#[tactic(auto, using(crate::proofs::Rows::listed_rows))]
 fn listed_steps<T: Tree>(
     alloc: Global,
     input: &str,
@@ -184,14 +154,6 @@ fn listed_steps<T: Tree>(
     requires limit { limit ≤ output_limit }
     ensures done { OnOk result (ListedDone input.now output.now list.now options.now limit (T.seen tree.old) (T.seen tree.new)) }
     ensures ends { IfErr result (ListedEnds input.now output.now list.now options.now limit (T.seen tree.old) (T.seen tree.new)) }
-    ensures due { IfErr result (λ e. ForSome (now_of (T.seen tree.old)) (λ t. ListedDue options.now (stands_at t input.now limit) (stands_at t output.now 0) (stands_at t list.now 0) (status_of e) ⊎ IsCut (status_of e))) }
-    ensures due_done { OnOk result (ForSome (now_of (T.seen tree.old)) (λ t. ListedDue options.now (stands_at t input.now limit) (stands_at t output.now 0) (stands_at t list.now 0) 0)) }
-    ensures not_done { IfErr result (λ e. 0 ≢ status_of e) }
-    ensures not_usage { IfErr result (λ e. 2 ≢ status_of e) }
-    ensures not_output { IfErr result (λ e. 7 ≢ status_of e) }
-    ensures fault { IfErr result (λ e. status_of e ≡ 6 → Rose (T.seen tree.old).faults (T.seen tree.new).faults) }
-    ensures kept { IfErr result (λ e. IsRefusal (status_of e) → now_of (T.seen tree.new) ≡ now_of (T.seen tree.old)) }
-    ensures others { OnlyAtBoth output.now list.now (now_of (T.seen tree.old)) (now_of (T.seen tree.new)) }
     ensures tells { (T.seen tree.new).tells ≡ (T.seen tree.old).tells }
 {
     let (file, mode) = read_input(alloc, input, limit, tree)?;
@@ -206,7 +168,6 @@ fn listed_steps<T: Tree>(
 
 /// How the edit with a list of sources ends. The output is set to the rewritten input, with the input's mode, and
 /// then the list's path to the list.
-#[tactic(auto, using(crate::proofs::Rows::listed_rows))]
 pub fn edit_listed<T: Tree>(
     alloc: Global,
     input: &str,

@@ -63,7 +63,6 @@ fn write_view<O: Sink>(alloc: Global, path: &str, view: &View, out: &mut O) -> R
 }
 
 /// The text of the file at the path, which has these bytes, goes to the output. Refused before its first byte does.
-#[tactic(auto, using(crate::proofs::ShowLaws::file_laws))]
 fn write_file<O: Sink>(alloc: Global, path: &str, bytes: &[u8], out: &mut O) -> Result<(), End>
     requires small { length bytes.now ≤ output_limit }
     ensures shown { OnOk result (TextShown (of_file path.now bytes.now) (O.heard out.old) (O.heard out.new)) }
@@ -77,7 +76,6 @@ fn write_file<O: Sink>(alloc: Global, path: &str, bytes: &[u8], out: &mut O) -> 
 
 /// The text of the stripped file and the debug file at the paths, which have these bytes, goes to the output. Refused
 /// before its first byte does.
-#[tactic(auto, using(crate::proofs::ShowLaws::pair_laws))]
 fn write_pair<O: Sink>(
     alloc: Global,
     path: &str,
@@ -99,7 +97,6 @@ fn write_pair<O: Sink>(
 }
 
 /// Reads the file, and writes its text.
-#[tactic(auto, using(crate::proofs::ShowLaws::step_laws))]
 fn file_steps<T: Tree, O: Sink>(
     alloc: Global,
     file: &str,
@@ -116,7 +113,6 @@ fn file_steps<T: Tree, O: Sink>(
 }
 
 /// Reads the stripped file and then the debug file, and writes their text.
-#[tactic(auto, using(crate::proofs::ShowLaws::step_laws))]
 fn pair_steps<T: Tree, O: Sink>(
     alloc: Global,
     stripped: &str,
@@ -160,7 +156,6 @@ fn show_steps<T: Tree, O: Sink>(
 }
 
 /// How the showing of the file ends, or that of the stripped file with its debug file. The tree stays as it was.
-#[tactic(auto, using(crate::proofs::ShowLaws::show_laws))]
 pub fn show<T: Tree, O: Sink>(
     alloc: Global,
     file: &str,

@@ -14,7 +14,7 @@ ghost use Rattle.file_tree.specs.Trees.{stands_at, with_node};
 ghost use Rattle.file_tree.specs.Causes.{Rose};
 ghost use Rattle.file_tree.specs.Moments.{adds_all};
 ghost use Rattle.dbg_ends.specs.Ends.{status_of};
-ghost use Rattle.dbg_ends.specs.Due.{Where, IsCut, IsRefusal};
+ghost use Rattle.dbg_ends.specs.Due.{IsCut, IsRefusal};
 ghost use Rattle.dbg_ends.specs.Steps.{BlamesAt, OnlyAtBoth, OutputsEnd, all_stored, file_put};
 ghost use Rattle.dbg_run.specs.Shows.{base_name};
 ghost use Rattle.dbg_run.specs.Splits.{IsSplittable, Parts, SplitDone, SplitDue, SplitEnds};
@@ -42,11 +42,6 @@ fn split_file<'a>(
     ensures debug { IfOk result (λ pair. pair.debug ≡ debug_file bytes.now.items) }
     ensures parts { IfOk result (λ pair. Parts bytes.now.items (base_name debug.now) pair.stripped.items pair.debug) }
     ensures ends { IfErr result (BlamesAt (SplitFails bytes.now.items (base_name debug.now)) path.now) }
-    ensures due { IfErr result (λ e. Where (IsSplittable bytes.now.items (base_name debug.now)) (status_of e ≡ 0) (status_of e ≡ 3) ⊎ IsCut (status_of e)) }
-    ensures not_done { IfErr result (λ e. 0 ≢ status_of e) }
-    ensures not_usage { IfErr result (λ e. 2 ≢ status_of e) }
-    ensures not_output { IfErr result (λ e. 7 ≢ status_of e) }
-    ensures no_fault { IfErr result (λ e. 6 ≢ status_of e) }
 {
     match split_bytes(alloc, bytes.as_slice(), base_name(debug).as_bytes()) {
         Ok(pair) => Ok(pair),
@@ -56,7 +51,6 @@ fn split_file<'a>(
 
 /// Sets a path to the debug file of a pair, with this mode, then a second one to its stripped file, with its mode,
 /// and then settles the tree.
-#[tactic(auto, using(crate::proofs::Rows::pair_rows))]
 fn write_pair<T: Tree>(
     alloc: Global,
     pair: Pair,
@@ -68,13 +62,7 @@ fn write_pair<T: Tree>(
 ) -> Result<(), End>
     ensures done { OnOk result (now_of (T.seen tree.new) ≡ option_map (with_node stripped.now (node.File pair.entry.stripped.items mode)) (option_map (with_node debug.now (node.File pair.entry.debug debug_mode)) (now_of (T.seen tree.old)))) }
     ensures ends { IfErr result (OutputsEnd debug.now stripped.now (T.seen tree.old) (T.seen tree.new)) }
-    ensures due { IfErr result (λ e. IsCut (status_of e)) }
     ensures calls { (T.seen tree.old).tells ≡ true → OnOk result ((T.seen tree.new).past ≡ adds_all (T.seen tree.old).past (file_put debug.now pair.entry.debug debug_mode ∷ file_put stripped.now pair.entry.stripped.items mode ∷ all_stored ∷ [])) }
-    ensures not_done { IfErr result (λ e. 0 ≢ status_of e) }
-    ensures not_usage { IfErr result (λ e. 2 ≢ status_of e) }
-    ensures not_output { IfErr result (λ e. 7 ≢ status_of e) }
-    ensures fault { IfErr result (λ e. status_of e ≡ 6 → Rose (T.seen tree.old).faults (T.seen tree.new).faults) }
-    ensures others { OnlyAtBoth debug.now stripped.now (now_of (T.seen tree.old)) (now_of (T.seen tree.new)) }
     ensures tells { (T.seen tree.new).tells ≡ (T.seen tree.old).tells }
 {
     let Pair {
@@ -88,7 +76,6 @@ fn write_pair<T: Tree>(
 
 /// Reads the input, looks whether the two files may be put, splits the input, and writes the debug file and then the
 /// stripped file. No word of a command has a NUL, so neither does a name of one.
-#[tactic(auto, using(crate::proofs::Rows::split_rows))]
 fn split_steps<T: Tree>(
     alloc: Global,
     input: &str,
@@ -99,14 +86,6 @@ fn split_steps<T: Tree>(
     requires plain { has_nul (base_name debug.now) ≡ false }
     ensures done { OnOk result (SplitDone input.now stripped.now debug.now (T.seen tree.old) (T.seen tree.new)) }
     ensures ends { IfErr result (SplitEnds input.now stripped.now debug.now (T.seen tree.old) (T.seen tree.new)) }
-    ensures due { IfErr result (λ e. ForSome (now_of (T.seen tree.old)) (λ t. SplitDue (base_name debug.now) (stands_at t input.now most_file) (stands_at t stripped.now 0) (stands_at t debug.now 0) (status_of e) ⊎ IsCut (status_of e))) }
-    ensures due_done { OnOk result (ForSome (now_of (T.seen tree.old)) (λ t. SplitDue (base_name debug.now) (stands_at t input.now most_file) (stands_at t stripped.now 0) (stands_at t debug.now 0) 0)) }
-    ensures not_done { IfErr result (λ e. 0 ≢ status_of e) }
-    ensures not_usage { IfErr result (λ e. 2 ≢ status_of e) }
-    ensures not_output { IfErr result (λ e. 7 ≢ status_of e) }
-    ensures fault { IfErr result (λ e. status_of e ≡ 6 → Rose (T.seen tree.old).faults (T.seen tree.new).faults) }
-    ensures kept { IfErr result (λ e. IsRefusal (status_of e) → now_of (T.seen tree.new) ≡ now_of (T.seen tree.old)) }
-    ensures others { OnlyAtBoth debug.now stripped.now (now_of (T.seen tree.old)) (now_of (T.seen tree.new)) }
     ensures tells { (T.seen tree.new).tells ≡ (T.seen tree.old).tells }
 {
     let (bytes, mode) = read_input(alloc, input, MOST_FILE, tree)?;
@@ -127,7 +106,6 @@ fn split_steps<T: Tree>(
 
 /// How the split ends. The debug file's path is set to the debug file, with the input's mode but for the bits by
 /// which a file may be executed, and then the stripped file's to the stripped file, with the input's mode.
-#[tactic(auto, using(crate::proofs::Rows::split_rows))]
 pub fn split<T: Tree>(alloc: Global, input: &str, stripped: &str, debug: &str, tree: &mut T) -> End
     requires plain { has_nul (base_name debug.now) ≡ false }
     ensures ends { SplitEnds input.now stripped.now debug.now (T.seen tree.old) (T.seen tree.new) result }

@@ -12,7 +12,7 @@ ghost use Rattle.file_tree.specs.Causes.{Rose, OnlyAt};
 ghost use Rattle.file_tree.specs.Moments.{adds_all};
 ghost use Rattle.dbg_ends.specs.Ends.{status_of};
 ghost use Rattle.dbg_ends.specs.Due.{IsCut, IsRefusal};
-ghost use Rattle.dbg_ends.specs.Steps.{OutputEnds, all_stored, file_put};
+ghost use Rattle.dbg_ends.specs.Steps.{all_stored, file_put};
 ghost use Rattle.dbg_run.specs.Shows.{base_name};
 ghost use Rattle.dbg_run.specs.Unstrips.{CanJoin, ComesBack, JoiningEnds, Unjoined, UnstripDone, UnstripDue, UnstripEnds};
 
@@ -55,7 +55,6 @@ fn join_files<'a>(
 
 /// Joins the stripped file and the debug file at the paths, which have these bytes, and sets a third path to the file
 /// of both, with this mode; then settles the tree.
-#[tactic(auto, using(crate::proofs::UnstripLaws::write_laws))]
 fn write_joined<T: Tree>(
     alloc: Global,
     path: &str,
@@ -84,7 +83,6 @@ fn write_joined<T: Tree>(
 
 /// Reads the stripped file and then the debug file, looks whether the output may be put, joins the two, and writes the
 /// output.
-#[tactic(auto, using(crate::proofs::UnstripLaws::step_laws))]
 fn unstrip_steps<T: Tree>(
     alloc: Global,
     stripped: &str,
@@ -113,7 +111,6 @@ fn unstrip_steps<T: Tree>(
 }
 
 /// How the joining ends. The output's path is set to the file of both, with the stripped file's mode.
-#[tactic(auto, using(crate::proofs::UnstripLaws::unstrip_laws))]
 pub fn unstrip<T: Tree>(
     alloc: Global,
     stripped: &str,

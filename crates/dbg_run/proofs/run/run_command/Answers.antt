@@ -11,12 +11,12 @@ use Rattle.dbg_run.proofs.RunLaws.{edit_ends, run_due, run_ends, show_ends, spli
 use Rattle.dbg_run.proofs.StartLaws.{edit_starts, run_starts, show_starts, split_starts, unstrip_starts}
 use Rattle.dbg_run.proofs.run.run_command.Goals as goal
 
-pub returns-in_default-command-clause-ends : goal.returns-in_default-command-clause-ends
-returns-in_default-command-clause-ends g c =
+pub returns-clause-ends : goal.returns-clause-ends
+returns-clause-ends g c =
     absurd (built_these (texts c.args.words.now) c.in-Some.command (sym c.in-Some.is ∙ c.in-Ok.ensures.command) c.in_default-command.not-Edit c.in_default-command.not-Split c.in_default-command.not-Show c.in_default-command.not-Unstrip c.in_default-command.not-Run)
 
-pub returns-in_default-command-clause-usage : goal.returns-in_default-command-clause-usage
-returns-in_default-command-clause-usage g c =
+pub returns-clause-usage : goal.returns-clause-usage
+returns-clause-usage g c =
     absurd (built_these (texts c.args.words.now) c.in-Some.command (sym c.in-Some.is ∙ c.in-Ok.ensures.command) c.in_default-command.not-Edit c.in_default-command.not-Split c.in_default-command.not-Show c.in_default-command.not-Unstrip c.in_default-command.not-Run)
 
 pub returns-in-Run-clause-due : goal.returns-in-Run-clause-due

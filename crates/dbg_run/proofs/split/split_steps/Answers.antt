@@ -1,7 +1,8 @@
 -- The steps of a split, one after another.
-use Rattle.std.proofs.Common.{arith}
+use Rattle.std.proofs.Common.{◌∙◌}
 use Rattle.std.proofs.lemmas.Result.{err_from_is_err_and}
-use Rattle.dbg_run.proofs.SplitLaws.{parting_due, split_done, split_parting}
+use Rattle.dbg_run.specs.Splits.{SplitEnds as splits}
+use Rattle.dbg_run.proofs.SplitLaws.{split_debug_taking, split_done, split_parting, split_writing}
 use Rattle.dbg_run.proofs.split.split_steps.Goals as goal
 
 pub returns-clause-done : goal.returns-clause-done
@@ -15,6 +16,23 @@ returns-clause-done g c =
     c.in_ok-write_pair.ensures.done c.in_ok-bytes.ensures.looks c.in_ok-free_output.ensures.looks c.in_ok-free_output-2.ensures.looks
     c.in_ok-write_pair.ensures.calls
 
+-- where a step ends the split, all before it was done
+pub returns-in_err-bytes-clause-ends : goal.returns-in_err-bytes-clause-ends
+returns-in_err-bytes-clause-ends g c =
+    let p = err_from_is_err_and c.from_residual.result c.from_residual.ensures.1 in
+    rw (p.1, p.2) (splits.reading c.in_err-bytes.ensures.ends c.read_input.ensures.kept)
+
+pub returns-in_err-free_output-clause-ends : goal.returns-in_err-free_output-clause-ends
+returns-in_err-free_output-clause-ends g c =
+    let p = err_from_is_err_and c.from_residual-in_err-free_output.result c.from_residual-in_err-free_output.ensures.1 in
+    rw (p.1, p.2) (splits.taking c.in_ok-bytes.ensures.done c.read_input.ensures.kept c.in_err-free_output.ensures.ends c.free_output.ensures.kept)
+
+pub returns-in_err-free_output-2-clause-ends : goal.returns-in_err-free_output-2-clause-ends
+returns-in_err-free_output-2-clause-ends g c =
+    let p = err_from_is_err_and c.from_residual-in_err-free_output-2.result c.from_residual-in_err-free_output-2.ensures.1 in
+    rw (p.1, p.2) (split_debug_taking _ _ _ _ _ _ _ _ _ _ c.in_ok-bytes.ensures.done c.read_input.ensures.kept c.in_ok-free_output.ensures.done c.free_output.ensures.kept
+    c.in_err-free_output-2.ensures.ends c.free_output-2.ensures.kept)
+
 pub returns-in_err-pair-clause-ends : goal.returns-in_err-pair-clause-ends
 returns-in_err-pair-clause-ends g c =
     let p = err_from_is_err_and c.from_residual-in_err-pair.result c.from_residual-in_err-pair.ensures.1 in
@@ -24,18 +42,23 @@ returns-in_err-pair-clause-ends g c =
     c.in_ok-bytes.ensures.kept c.in_ok-free_output.ensures.done c.in_ok-free_output.ensures.kept c.in_ok-free_output-2.ensures.done
     c.in_ok-free_output-2.ensures.kept c.in_err-pair.ensures.ends)
 
-pub returns-in_err-pair-clause-due : goal.returns-in_err-pair-clause-due
-returns-in_err-pair-clause-due g c =
-    let p = err_from_is_err_and c.from_residual-in_err-pair.result c.from_residual-in_err-pair.ensures.1 in
-    rw (p.1, p.2)
-    (parting_due c.args.input.now c.args.stripped.now c.args.debug.now (g.T.Tree.seen c.args.tree.now) (g.T.Tree.seen c.read_input.new.tree)
-    (g.T.Tree.seen c.free_output.new.tree) c.in_ok-bytes.bytes.items c.in_ok-bytes.mode _ c.in_ok-bytes.ensures.done c.in_ok-bytes.ensures.kept
-    c.in_ok-free_output.ensures.done c.in_ok-free_output.ensures.kept c.in_ok-free_output-2.ensures.done c.in_err-pair.ensures.due)
-
--- a fault of the writing is one of the split, since the count of faults falls in no step
-pub returns-in_err-write_pair-clause-fault : goal.returns-in_err-write_pair-clause-fault
-returns-in_err-write_pair-clause-fault g c =
+pub returns-in_err-write_pair-clause-ends : goal.returns-in_err-write_pair-clause-ends
+returns-in_err-write_pair-clause-ends g c =
     let p = err_from_is_err_and c.from_residual-in_err-write_pair.result c.from_residual-in_err-write_pair.ensures.1 in
-    rw (p.1, p.2) (λ is.
-    let rose = c.in_err-write_pair.ensures.fault is in
-    omega (arith, c.in_ok-bytes.ensures.kept.later, c.in_ok-free_output.ensures.kept.later, c.in_ok-free_output-2.ensures.kept.later, rose))
+    rw (p.1, p.2) (split_writing _ _ _ _ _ _ _ _ _ _ _ c.in_ok-bytes.ensures.done c.read_input.ensures.kept c.in_ok-free_output.ensures.done c.free_output.ensures.kept
+    c.in_ok-free_output-2.ensures.done c.free_output-2.ensures.kept c.in_ok-pair.ensures.splittable c.in_err-write_pair.ensures.ends)
+
+pub returns-in_err-free_output-clause-tells : goal.returns-in_err-free_output-clause-tells
+returns-in_err-free_output-clause-tells g c = c.free_output.ensures.tells ∙ c.read_input.ensures.tells
+
+pub returns-in_err-free_output-2-clause-tells : goal.returns-in_err-free_output-2-clause-tells
+returns-in_err-free_output-2-clause-tells g c = c.free_output-2.ensures.tells ∙ c.free_output.ensures.tells ∙ c.read_input.ensures.tells
+
+pub returns-in_err-pair-clause-tells : goal.returns-in_err-pair-clause-tells
+returns-in_err-pair-clause-tells g c = c.free_output-2.ensures.tells ∙ c.free_output.ensures.tells ∙ c.read_input.ensures.tells
+
+pub returns-in_err-write_pair-clause-tells : goal.returns-in_err-write_pair-clause-tells
+returns-in_err-write_pair-clause-tells g c = c.write_pair.ensures.tells ∙ c.free_output-2.ensures.tells ∙ c.free_output.ensures.tells ∙ c.read_input.ensures.tells
+
+pub returns-clause-tells : goal.returns-clause-tells
+returns-clause-tells g c = c.write_pair.ensures.tells ∙ c.free_output-2.ensures.tells ∙ c.free_output.ensures.tells ∙ c.read_input.ensures.tells
