@@ -26,9 +26,9 @@ fn a_pair_is_added_where_its_base_is_new(rt: HostRuntime) -> Result<(), Fail> {
     assert!(rt; !maps.add(alloc, b"/build/p/", b"/d")?);
     assert!(rt; !maps.add(alloc, b"/q", b"d")?);
     assert!(rt; !maps.add(alloc, b"/q\0", b"/d")?);
-    let more = maps.more();
-    assert!(rt; more.len() == 1);
-    assert_eq!(rt; more[0].base.as_slice(), b"/build/p/gen".as_slice());
+    assert!(rt; maps.more().len() == 1);
+    let mapped = map_path(alloc, &maps, b"/build/p/gen/x.c")?;
+    assert_eq!(rt; mapped.as_slice(), b"/usr/src/gen/x.c".as_slice());
     Ok(())
 }
 
