@@ -17,12 +17,13 @@ use Rattle.dw_base.specs.declared.debug_sections.DebugSection.TheVariants.{Str}
 use Rattle.dw_base.specs.declared.shared.Order.{Order}
 use Rattle.dw_base.proofs.TextLaws.{same_text-true}
 use Rattle.dw_meaning.specs.DataOutput.{DataReads}
-use Rattle.dw_meaning.specs.FileMeanings.{Means, file_data}
+use Rattle.dw_meaning.specs.FileMeanings.{FileReads, Means, file_data}
 use Rattle.dw_meaning.specs.RelocationFails.{RelocationsRead, RelocationsReadIn}
 use Rattle.dw_meaning.proofs.BuildIdLaws.{first_below-found}
 use Rattle.dw_meaning.proofs.FileBackLaws.{AllAt, tabulate-at}
 use Rattle.dw_meaning.proofs.ReadAlikeLaws.{AllReadAlike, ReadAlike, data-alike, located-alike, meaning-alike}
 use Rattle.dw_meaning.proofs.ReadAlikeLaws.ReadAlike.{equal, unread}
+use Rattle.dw_meaning.proofs.MeansLaws.{means-made}
 use Rattle.build_ident.specs.IdFails.{IsId, id_section}
 use Rattle.dbg_job.proofs.IdPlaceLaws.{id-is}
 use Rattle.dbg_job.proofs.NoteKeptLaws.{id_in-kept}
@@ -230,13 +231,12 @@ meaning-same b new i d r w s =
     (located-alike (view_of new) (view_of b) Str (sections-alike b new i d w s)) (others-same b new i d w s)
 
 pub means-same : (b new : List ℕ) (i : ℕ) (d : Descriptor) (x : Meaning) → IdApart b i d → OtherId b new i d → Means b x → Means new x
-means-same b new i d x w s is = record {
-  readings = is.readings;
-  reads = record {
-    elf = elf-new b new i d w s;
-    names = names-new b new i d w s is.reads.names;
-    relocations = relocations-read-new b new i d w s is.reads.relocations;
-    data_reads = subst (λ (g : DebugData). DataReads g is.readings) (sym (data-same b new i d w s)) is.reads.data_reads;
-  };
-  says = meaning-same b new i d is.readings w s ∙ is.says;
-}
+means-same b new i d x w s is =
+    let reads : FileReads new is.readings =
+    record {
+      elf = elf-new b new i d w s;
+      names = names-new b new i d w s is.reads.names;
+      relocations = relocations-read-new b new i d w s is.reads.relocations;
+      data_reads = subst (λ (g : DebugData). DataReads g is.readings) (sym (data-same b new i d w s)) is.reads.data_reads;
+    } in
+    means-made new is.readings x reads (meaning-same b new i d is.readings w s ∙ is.says)

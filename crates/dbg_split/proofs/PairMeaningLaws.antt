@@ -22,6 +22,7 @@ use Rattle.dw_meaning.proofs.DataOneLaws.{data-one}
 use Rattle.dw_meaning.proofs.FileBackLaws.{AllAt, tabulate-at}
 use Rattle.dw_meaning.proofs.ReadAlikeLaws.{AllReadAlike, ReadAlike, data-alike, located-alike, meaning-alike}
 use Rattle.dw_meaning.proofs.ReadAlikeLaws.ReadAlike.{equal, unread}
+use Rattle.dw_meaning.proofs.MeansLaws.{view-means-made}
 use Rattle.dbg_split.specs.PairMeanings.{MeansAsOne}
 use Rattle.dw_view.specs.PairViews.{pair_section, pair_view}
 use Rattle.dbg_split.specs.PairViews.{JoinsTo, SameSection}
@@ -262,11 +263,8 @@ means-as-one b name d s p =
       same_data = data_same;
       same_moving = moving-is v ∙ moving-joined 0 0 v.sections w.sections joined ∙ sym (moving-is w);
       same_meaning = same;
-      means = λ x is. record {
-        readings = is.readings;
-        reads = subst (λ (g : DebugData). DataReads g is.readings) (sym data_same) is.reads.data_reads;
-        says = same is.readings ∙ is.says;
-      };
+      means = λ x is.
+          view-means-made v is.readings x (subst (λ (g : DebugData). DataReads g is.readings) (sym data_same) is.reads.data_reads) (same is.readings ∙ is.says);
       one = λ x y is found.
           let readings : found.readings ≡ is.readings =
           data-one (debug_data w) found.readings is.readings (subst (λ (g : DebugData). DataReads g found.readings) data_same found.reads) is.reads.data_reads in

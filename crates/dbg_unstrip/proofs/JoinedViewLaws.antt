@@ -21,10 +21,11 @@ use Rattle.dw_base.proofs.ReadsBackLaws.{tabulate-ext}
 use Rattle.dw_base.proofs.RelocationSectionLaws.{relocates_read-loaded, relocations_read-loaded}
 use Rattle.dw_base.proofs.SectionRelocationLaws.{relocations_of-loaded}
 use Rattle.dw_meaning.specs.DataOutput.{DataReads}
-use Rattle.dw_meaning.specs.FileMeanings.{Means}
+use Rattle.dw_meaning.specs.FileMeanings.{FileReads, Means}
 use Rattle.dw_meaning.specs.RelocationFails.{RelocationsReadIn}
 use Rattle.dw_meaning.proofs.BuildIdLaws.{first_below-found}
 use Rattle.dw_meaning.proofs.DataOneLaws.{data-one}
+use Rattle.dw_meaning.proofs.MeansLaws.{means-made}
 use Rattle.dbg_split.proofs.SplitLoadedLaws.{build_id-is, kind-same}
 use Rattle.dbg_unstrip.specs.Rejoined.{SameButOffset}
 
@@ -177,19 +178,17 @@ sections-read b out w some there r = record {
 pub means-same : (b out : List ℕ) (x : Meaning) → SameSections b out → ElfReads out → name_index b ≢ 0 → name_index b < section_count b → Means b x → Means out x
 means-same b out x w elf some there m =
     let view = view-same b out w in
+    let reads : FileReads out m.readings =
     record {
-      readings = m.readings;
-      reads = record {
-        elf = elf;
-        names = sections-read b out w some there m.reads.names;
-        relocations = record {
-          sections = relocations_read-loaded (contents_of out) out (loaded-out b out w);
-          on_data = subst (λ (v : View). RelocationsReadIn (debug_data v) (moving_sections v)) (sym view) m.reads.relocations.on_data;
-        };
-        data_reads = subst (λ (v : View). DataReads (debug_data v) m.readings) (sym view) m.reads.data_reads;
+      elf = elf;
+      names = sections-read b out w some there m.reads.names;
+      relocations = record {
+        sections = relocations_read-loaded (contents_of out) out (loaded-out b out w);
+        on_data = subst (λ (v : View). RelocationsReadIn (debug_data v) (moving_sections v)) (sym view) m.reads.relocations.on_data;
       };
-      says = ap (λ (v : View). meaning_of v m.readings) view ∙ m.says;
-    }
+      data_reads = subst (λ (v : View). DataReads (debug_data v) m.readings) (sym view) m.reads.data_reads;
+    } in
+    means-made out m.readings x reads (ap (λ (v : View). meaning_of v m.readings) view ∙ m.says)
 
 pub means-one : (b out : List ℕ) (x y : Meaning) → SameSections b out → Means b x → Means out y → y ≡ x
 means-one b out x y w m found =

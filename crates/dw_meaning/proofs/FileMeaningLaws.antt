@@ -39,6 +39,7 @@ use Rattle.dw_base.proofs.SectionLaws.{length-contents}
 use Rattle.dw_meaning.proofs.SectionsBackLaws.{sections-back}
 use Rattle.dw_meaning.proofs.TableKeptLaws.{TablePlace, nowhere, lies_at}
 use Rattle.dw_meaning.proofs.DataParts.{found_with}
+use Rattle.dw_meaning.proofs.MeansLaws.{means-made}
 
 -- the units of the output
 abbrev pub new_units : PathMap → List ℕ → DataReadings → Readings
@@ -225,9 +226,9 @@ meaning-back m b r out w back small =
 pub file-meaning : (m : PathMap) (b : List ℕ) (r : DataReadings) (out : List ℕ) → CanMap m b r → ReadsBack b (file_body m b r) out → length out ≤ output_limit
     → MeaningKept m b out
 file-meaning m b r out w back small =
-    let old : Means b (meaning_of (view_of b) r) = record { readings = r; reads = w.reads; says = refl } in
+    let old : Means b (meaning_of (view_of b) r) = means-made b r (meaning_of (view_of b) r) w.reads refl in
     let new : Means out (mapped m (meaning_of (view_of b) r)) =
-    record { readings = file_moves m b r out w back small; reads = reads-back m b r out w back small; says = meaning-back m b r out w back small } in
+    means-made out (file_moves m b r out w back small) (mapped m (meaning_of (view_of b) r)) (reads-back m b r out w back small) (meaning-back m b r out w back small) in
     record {
       meaning = meaning_of (view_of b) r;
       old = old;

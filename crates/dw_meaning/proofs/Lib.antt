@@ -26,6 +26,7 @@ pub mod FileKeptLaws
 pub mod FileMeaningLaws
 pub mod ForestLaws
 pub mod SpelledLaws
+pub mod MeansLaws
 pub mod WorkedData
 pub mod ValuePasteLaws
 pub mod ScanBackLaws

@@ -6,15 +6,16 @@ use Rattle.std.proofs.lemmas.Bool.{eqb-true, eqb-false}
 use Rattle.std.proofs.lemmas.List.{length-append}
 use Rattle.dw_base.specs.AbbreviationTables.{Abbreviation, abbreviation_of}
 use Rattle.dw_base.specs.Cells.{Cell}
-use Rattle.dw_base.specs.DebugData.{Around}
+use Rattle.dw_base.specs.DebugData.{Around, ReadsAll, units_in}
 use Rattle.dw_base.specs.EntryScans.{depth_behind}
 use Rattle.dw_base.specs.Forests.{AttributeMeaning, Forest, no_entries, entry, Mark, begins, opens, attribute, null, no_mark, HasAttributes, no_attributes, form_first, one_more, Spells, no_marks, padding, lone, parent, SpellsChildren, closed, lone_child, parent_child}
 use Rattle.dw_base.specs.Forms.{ValueKind, form_in_front, kind_in}
 use Rattle.dw_base.specs.Pieces.{Piece, Chain}
+use Rattle.dw_base.specs.Readings.{Readings}
 use Rattle.dw_base.specs.Roles.{use_of}
-use Rattle.dw_meaning.specs.SpelledUnits.{marks_of, SpelledUnits, no_units, more_units}
+use Rattle.dw_meaning.specs.SpelledUnits.{marks_of, SpelledUnits, no_units, more_units, AllSpelled, no_sections, more_sections}
 use Rattle.dw_base.specs.UnitHeaders.{UnitBase, UnitSection}
-use Rattle.dw_base.specs.UnitMeanings.{UnitMeaning, head_meaning, head_mark, entry_mark, code_mark, value_mark, mark_by, mark_of, unit_meanings}
+use Rattle.dw_base.specs.UnitMeanings.{UnitMeaning, head_meaning, head_mark, entry_mark, code_mark, value_mark, mark_by, mark_of, unit_meanings, units_read}
 use Rattle.dw_base.specs.UnitPieces.{IsHeader, IsCode, may_stand, FitsMode, ReadsUnits, unit_grammar}
 use Rattle.dw_base.specs.UnitStates.{Mode, at_header, at_code, at_values, at_chosen, stuck, UnitState, before_unit, in_unit, between, inside, headed, after_header, after_entry, after_code, code_value, of_chosen, after_value, piece_header, past}
 use Rattle.dw_base.specs.ValueMeanings.{meaning_of_value}
@@ -402,3 +403,14 @@ section-spelled base around z first xs same r =
     let s : Spelled around z.number xs =
     spelled-from (length xs) base around z.number (before_unit z.number z.kind (length z.contents) 0 first) xs same refl (omega arith) r.chain in
     subst (λ (us : List UnitMeaning). SpelledUnits around z.number xs us) (sym (spelled-units around z.number xs s.units s.spelled)) s.spelled
+
+-- and those of all sections
+pub all-spelled : (base : UnitBase) (around : Around) (first : ℕ) (zs : List UnitSection) (rs : Readings) → around.lasting.base ≡ base → ReadsAll base first zs rs
+    → AllSpelled around rs (units_read around rs)
+all-spelled base around first [] [] same reads = no_sections
+all-spelled base around first [] (r ∷ rs) same reads = absurd reads
+all-spelled base around first (z ∷ zs) [] same reads = absurd reads
+all-spelled base around first (z ∷ zs) (r ∷ rs) same reads =
+    let own : SpelledUnits around r.number r.pieces (unit_meanings r.number around r.pieces) =
+    subst (λ (n : ℕ). SpelledUnits around n r.pieces (unit_meanings n around r.pieces)) (sym reads.0) (section-spelled base around z first r.pieces same reads.1) in
+    more_sections r rs (unit_meanings r.number around r.pieces) (units_read around rs) own (all-spelled base around (first + units_in r.pieces) zs rs same reads.2)

@@ -42,6 +42,7 @@ use Rattle.dw_meaning.proofs.WorkedParts.{all_bytes, file_header, numbers, secti
 use Rattle.dw_base.specs.RelocationSectionFails.{relocates_read}
 use Rattle.dw_base.specs.SectionRelocations.{relocates, relocation_section, relocations_of}
 use Rattle.dw_meaning.proofs.PlainFileLaws.{file-addends}
+use Rattle.dw_meaning.proofs.MeansLaws.{means-made}
 
 -- the abbreviation of an entry with a name and a directory, both in .debug_str
 abbrev pub paths_abbrevs : List ℕ
@@ -296,19 +297,15 @@ unfolding spelled e_type e_phnum e_phoff e_phentsize e_shoff e_shentsize e_shnum
 one_unit_out-others = refl
 
 pub one_unit-means : Means one_unit (paths_meaning 8)
-one_unit-means = record {
-  readings = old_readings Little 8;
-  reads = one_unit-reads;
-  says = meaning-is one_unit (old_data Little 8) (old_readings Little 8) (paths_units 8 paths) unnamed one_unit-data one_unit-units one_unit-others refl refl refl refl;
-}
+one_unit-means =
+    means-made one_unit (old_readings Little 8) (paths_meaning 8) one_unit-reads
+    (meaning-is one_unit (old_data Little 8) (old_readings Little 8) (paths_units 8 paths) unnamed one_unit-data one_unit-units one_unit-others refl refl refl refl)
 
 pub one_unit_out-means : Means one_unit_out (mapped worked_map (paths_meaning 8))
 unfolding lies_under matching mapped_path
-one_unit_out-means = record {
-  readings = new_readings Little 8;
-  reads = one_unit_out-reads;
-  says = meaning-is one_unit_out (new_data Little 8) (new_readings Little 8) (paths_units 8 mapped_paths) unnamed one_unit_out-data one_unit_out-units one_unit_out-others refl refl refl refl;
-}
+one_unit_out-means =
+    means-made one_unit_out (new_readings Little 8) (mapped worked_map (paths_meaning 8)) one_unit_out-reads
+    (meaning-is one_unit_out (new_data Little 8) (new_readings Little 8) (paths_units 8 mapped_paths) unnamed one_unit_out-data one_unit_out-units one_unit_out-others refl refl refl refl)
 
 pub one_unit-kept : MeaningKept worked_map one_unit one_unit_out
 one_unit-kept = kept-by worked_map one_unit one_unit_out (paths_meaning 8) one_unit-means one_unit_out-means
@@ -409,19 +406,15 @@ unfolding spelled e_type e_phnum e_phoff e_phentsize e_shoff e_shentsize e_shnum
 of_32_bits_out-others = refl
 
 pub of_32_bits-means : Means of_32_bits (paths_meaning 4)
-of_32_bits-means = record {
-  readings = old_readings Big 4;
-  reads = of_32_bits-reads;
-  says = meaning-is of_32_bits (old_data Big 4) (old_readings Big 4) (paths_units 4 paths) unnamed of_32_bits-data of_32_bits-units of_32_bits-others refl refl refl refl;
-}
+of_32_bits-means =
+    means-made of_32_bits (old_readings Big 4) (paths_meaning 4) of_32_bits-reads
+    (meaning-is of_32_bits (old_data Big 4) (old_readings Big 4) (paths_units 4 paths) unnamed of_32_bits-data of_32_bits-units of_32_bits-others refl refl refl refl)
 
 pub of_32_bits_out-means : Means of_32_bits_out (mapped worked_map (paths_meaning 4))
 unfolding lies_under matching mapped_path
-of_32_bits_out-means = record {
-  readings = new_readings Big 4;
-  reads = of_32_bits_out-reads;
-  says = meaning-is of_32_bits_out (new_data Big 4) (new_readings Big 4) (paths_units 4 mapped_paths) unnamed of_32_bits_out-data of_32_bits_out-units of_32_bits_out-others refl refl refl refl;
-}
+of_32_bits_out-means =
+    means-made of_32_bits_out (new_readings Big 4) (mapped worked_map (paths_meaning 4)) of_32_bits_out-reads
+    (meaning-is of_32_bits_out (new_data Big 4) (new_readings Big 4) (paths_units 4 mapped_paths) unnamed of_32_bits_out-data of_32_bits_out-units of_32_bits_out-others refl refl refl refl)
 
 pub of_32_bits-kept : MeaningKept worked_map of_32_bits of_32_bits_out
 of_32_bits-kept = kept-by worked_map of_32_bits of_32_bits_out (paths_meaning 4) of_32_bits-means of_32_bits_out-means

@@ -32,6 +32,7 @@ use Rattle.dw_meaning.proofs.WorkedFiles.{all_texts, mapped_paths, one_unit, one
 use Rattle.dw_meaning.proofs.WorkedNotes.{with_id, with_id_out}
 use Rattle.dw_meaning.proofs.WorkedParts.{changed, worked_map}
 use Rattle.dw_meaning.proofs.WorkedSections.{data_in, notes_with, readings_in, units_in, with_id-means, with_id-new_reads, with_id-units, with_id_meaning}
+use Rattle.dw_meaning.proofs.MeansLaws.{means-made}
 use Rattle.dw_base.specs.RelocationSectionFails.{relocates_read}
 use Rattle.dw_base.specs.SectionRelocations.{relocates, relocation_section, relocations_of}
 
@@ -118,11 +119,11 @@ unmapped_directory-others = refl
 unmapped_directory-means : Means unmapped_directory (record { units = units_in 1 unmapped_directory_attributes; slots = []; lines = []; macros = []; names = []; others = bytes_named unnamed })
 unfolding spelled e_type e_phnum e_phoff e_phentsize e_shoff e_shentsize e_shnum e_shstrndx class_of order_of nth_section section_at section_count
     name_index name_table section_name contents_of contents_at text_in ends_in debug_section is_listed elf_test names_test segments_of nth_segment segment_at sections_of padding
-unmapped_directory-means = record {
-  readings = (readings_in 1 22 13 all_texts);
-  reads = file-reads unmapped_directory (data_in 1 22 13 all_texts) (readings_in 1 22 13 all_texts) unmapped_directory-data refl refl refl unmapped_directory-reads;
-  says = meaning-is unmapped_directory (data_in 1 22 13 all_texts) (readings_in 1 22 13 all_texts) (units_in 1 unmapped_directory_attributes) unnamed unmapped_directory-data unmapped_directory-units unmapped_directory-others refl refl refl refl;
-}
+unmapped_directory-means =
+    means-made unmapped_directory (readings_in 1 22 13 all_texts)
+    (record { units = units_in 1 unmapped_directory_attributes; slots = []; lines = []; macros = []; names = []; others = bytes_named unnamed })
+    (file-reads unmapped_directory (data_in 1 22 13 all_texts) (readings_in 1 22 13 all_texts) unmapped_directory-data refl refl refl unmapped_directory-reads)
+    (meaning-is unmapped_directory (data_in 1 22 13 all_texts) (readings_in 1 22 13 all_texts) (units_in 1 unmapped_directory_attributes) unnamed unmapped_directory-data unmapped_directory-units unmapped_directory-others refl refl refl refl)
 
 pub unmapped_directory-not_kept : MeaningKept worked_map one_unit unmapped_directory → ⊥
 unfolding lies_under matching mapped_path
@@ -178,11 +179,11 @@ other_name-others = refl
 other_name-means : Means other_name (record { units = units_in 1 other_name_attributes; slots = []; lines = []; macros = []; names = []; others = bytes_named unnamed })
 unfolding spelled e_type e_phnum e_phoff e_phentsize e_shoff e_shentsize e_shnum e_shstrndx class_of order_of nth_section section_at section_count
     name_index name_table section_name contents_of contents_at text_in ends_in debug_section is_listed elf_test names_test segments_of nth_segment segment_at sections_of padding
-other_name-means = record {
-  readings = (readings_in 1 22 43 other_texts);
-  reads = file-reads other_name (data_in 1 22 43 other_texts) (readings_in 1 22 43 other_texts) other_name-data refl refl refl other_name-reads;
-  says = meaning-is other_name (data_in 1 22 43 other_texts) (readings_in 1 22 43 other_texts) (units_in 1 other_name_attributes) unnamed other_name-data other_name-units other_name-others refl refl refl refl;
-}
+other_name-means =
+    means-made other_name (readings_in 1 22 43 other_texts)
+    (record { units = units_in 1 other_name_attributes; slots = []; lines = []; macros = []; names = []; others = bytes_named unnamed })
+    (file-reads other_name (data_in 1 22 43 other_texts) (readings_in 1 22 43 other_texts) other_name-data refl refl refl other_name-reads)
+    (meaning-is other_name (data_in 1 22 43 other_texts) (readings_in 1 22 43 other_texts) (units_in 1 other_name_attributes) unnamed other_name-data other_name-units other_name-others refl refl refl refl)
 
 pub other_name-not_kept : MeaningKept worked_map one_unit other_name → ⊥
 unfolding lies_under matching mapped_path
@@ -214,11 +215,11 @@ other_comment-others = refl
 other_comment-means : Means other_comment (record { units = units_in 2 mapped_paths; slots = []; lines = []; macros = []; names = []; others = bytes_named other_named })
 unfolding spelled e_type e_phnum e_phoff e_phentsize e_shoff e_shentsize e_shnum e_shstrndx class_of order_of nth_section section_at section_count
     name_index name_table section_name contents_of contents_at text_in ends_in debug_section is_listed elf_test names_test segments_of nth_segment segment_at sections_of padding
-other_comment-means = record {
-  readings = readings_in 2 22 43 all_texts;
-  reads = file-reads other_comment (data_in 2 22 43 all_texts) (readings_in 2 22 43 all_texts) other_comment-data refl refl refl with_id-new_reads;
-  says = meaning-is other_comment (data_in 2 22 43 all_texts) (readings_in 2 22 43 all_texts) (units_in 2 mapped_paths) other_named other_comment-data with_id-units.1 other_comment-others refl refl refl refl;
-}
+other_comment-means =
+    means-made other_comment (readings_in 2 22 43 all_texts)
+    (record { units = units_in 2 mapped_paths; slots = []; lines = []; macros = []; names = []; others = bytes_named other_named })
+    (file-reads other_comment (data_in 2 22 43 all_texts) (readings_in 2 22 43 all_texts) other_comment-data refl refl refl with_id-new_reads)
+    (meaning-is other_comment (data_in 2 22 43 all_texts) (readings_in 2 22 43 all_texts) (units_in 2 mapped_paths) other_named other_comment-data with_id-units.1 other_comment-others refl refl refl refl)
 
 pub other_comment-not_kept : MeaningKept worked_map with_id other_comment → ⊥
 other_comment-not_kept h =

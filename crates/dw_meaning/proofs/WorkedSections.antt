@@ -38,6 +38,7 @@ use Rattle.dw_base.specs.RelocationSectionFails.{relocates_read}
 use Rattle.dw_base.specs.SectionRelocations.{relocates, relocation_section, relocations_of}
 use Rattle.dw_meaning.proofs.PlainFileLaws.{file-addends}
 use Rattle.dw_meaning.proofs.DataParts.{found_with}
+use Rattle.dw_meaning.proofs.MeansLaws.{means-made}
 
 -- debug data like those of the smallest file, with .debug_info in the section of a number, its abbreviations in the next, and
 -- its texts in the one after that: the offsets of the name and of the directory, and the texts
@@ -169,19 +170,15 @@ abbrev pub with_id_meaning : Meaning
 with_id_meaning = record { units = units_in 2 paths; slots = []; lines = []; macros = []; names = []; others = bytes_named with_id_named }
 
 pub with_id-means : Means with_id with_id_meaning
-with_id-means = record {
-  readings = (readings_in 2 0 13 path_texts);
-  reads = with_id-reads;
-  says = meaning-is with_id (data_in 2 0 13 path_texts) (readings_in 2 0 13 path_texts) (units_in 2 paths) with_id_named with_id-data.0 with_id-units.0 with_id-others.0 refl refl refl refl;
-}
+with_id-means =
+    means-made with_id (readings_in 2 0 13 path_texts) with_id_meaning with_id-reads
+    (meaning-is with_id (data_in 2 0 13 path_texts) (readings_in 2 0 13 path_texts) (units_in 2 paths) with_id_named with_id-data.0 with_id-units.0 with_id-others.0 refl refl refl refl)
 
 pub with_id_out-means : Means with_id_out (mapped worked_map with_id_meaning)
 unfolding lies_under matching mapped_path
-with_id_out-means = record {
-  readings = (readings_in 2 22 43 all_texts);
-  reads = with_id_out-reads;
-  says = meaning-is with_id_out (data_in 2 22 43 all_texts) (readings_in 2 22 43 all_texts) (units_in 2 mapped_paths) with_id_named with_id-data.1 with_id-units.1 with_id-others.1 refl refl refl refl;
-}
+with_id_out-means =
+    means-made with_id_out (readings_in 2 22 43 all_texts) (mapped worked_map with_id_meaning) with_id_out-reads
+    (meaning-is with_id_out (data_in 2 22 43 all_texts) (readings_in 2 22 43 all_texts) (units_in 2 mapped_paths) with_id_named with_id-data.1 with_id-units.1 with_id-others.1 refl refl refl refl)
 
 pub with_id-kept : MeaningKept worked_map with_id with_id_out
 with_id-kept = kept-by worked_map with_id with_id_out with_id_meaning with_id-means with_id_out-means
@@ -331,19 +328,15 @@ abbrev pub with_a_segment_meaning : Meaning
 with_a_segment_meaning = record { units = units_in 3 paths; slots = []; lines = []; macros = []; names = []; others = bytes_named unnamed }
 
 pub with_a_segment-means : Means with_a_segment with_a_segment_meaning
-with_a_segment-means = record {
-  readings = (readings_in 3 0 13 path_texts);
-  reads = with_a_segment-reads;
-  says = meaning-is with_a_segment (data_in 3 0 13 path_texts) (readings_in 3 0 13 path_texts) (units_in 3 paths) unnamed with_a_segment-data.0 with_a_segment-units.0 with_a_segment-others.0 refl refl refl refl;
-}
+with_a_segment-means =
+    means-made with_a_segment (readings_in 3 0 13 path_texts) with_a_segment_meaning with_a_segment-reads
+    (meaning-is with_a_segment (data_in 3 0 13 path_texts) (readings_in 3 0 13 path_texts) (units_in 3 paths) unnamed with_a_segment-data.0 with_a_segment-units.0 with_a_segment-others.0 refl refl refl refl)
 
 pub with_a_segment_out-means : Means with_a_segment_out (mapped worked_map with_a_segment_meaning)
 unfolding lies_under matching mapped_path
-with_a_segment_out-means = record {
-  readings = (readings_in 3 22 43 all_texts);
-  reads = with_a_segment_out-reads;
-  says = meaning-is with_a_segment_out (data_in 3 22 43 all_texts) (readings_in 3 22 43 all_texts) (units_in 3 mapped_paths) unnamed with_a_segment-data.1 with_a_segment-units.1 with_a_segment-others.1 refl refl refl refl;
-}
+with_a_segment_out-means =
+    means-made with_a_segment_out (readings_in 3 22 43 all_texts) (mapped worked_map with_a_segment_meaning) with_a_segment_out-reads
+    (meaning-is with_a_segment_out (data_in 3 22 43 all_texts) (readings_in 3 22 43 all_texts) (units_in 3 mapped_paths) unnamed with_a_segment-data.1 with_a_segment-units.1 with_a_segment-others.1 refl refl refl refl)
 
 pub with_a_segment-kept : MeaningKept worked_map with_a_segment with_a_segment_out
 with_a_segment-kept = kept-by worked_map with_a_segment with_a_segment_out with_a_segment_meaning with_a_segment-means with_a_segment_out-means

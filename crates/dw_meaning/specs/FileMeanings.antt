@@ -1,7 +1,7 @@
 -- What a file means, its output, and that an output means what the file meant, mapped.
 use Rattle.std.specs.Prelude.{◌≡◌, ℕ, if◌then◌else◌, List}
 use Rattle.dw_meaning.specs.DataOutput.{DataReads, DataFits, body_in, new_bodies}
-use Rattle.dw_base.specs.DebugData.{DebugData, DataReadings}
+use Rattle.dw_base.specs.DebugData.{DebugData, DataReadings, around_of}
 use Rattle.dw_base.specs.DebugSectionFails.{DebugSectionsRead}
 use Rattle.dw_base.specs.Elf.{contents_of}
 use Rattle.dw_base.specs.ElfFails.{ElfReads}
@@ -12,6 +12,7 @@ use Rattle.dw_base.specs.RelocationSectionFails.{relocates_read}
 use Rattle.dw_base.specs.ViewData.{debug_data, Meaning, meaning_of, mapped}
 use Rattle.dw_meaning.specs.RelocatedBodies.{new_cells, relocated_body}
 use Rattle.dw_meaning.specs.RelocationFails.{RelocationsRead}
+use Rattle.dw_meaning.specs.SpelledUnits.{AllSpelled}
 
 -- the debug data of a file
 abbrev pub file_data : List ℕ → DebugData
@@ -25,17 +26,20 @@ pub record FileReads (b : List ℕ) (r : DataReadings) : Type 0 where
   pub relocations : RelocationsRead b
   pub data_reads : DataReads (file_data b) r
 
--- it can be read, and means this
+-- it can be read, and means this. The bytes of each unit are a header and marks that spell the forest of its entries (DWARF 5, 7.5.1 to 7.5.3).
 pub record Means (b : List ℕ) (x : Meaning) : Type 0 where
   pub readings : DataReadings
   pub reads : FileReads b readings
   pub says : meaning_of (view_of b) readings ≡ x
+  pub spells : AllSpelled (around_of (file_data b) readings) readings.units x.units
 
--- the debug data of a view, which may be that of a pair, can be read, and mean this
+-- the debug data of a view, which may be that of a pair, can be read, and mean this; the bytes of each unit, whose section may be in either part,
+-- spell its forest
 pub record ViewMeans (v : View) (x : Meaning) : Type 0 where
   pub readings : DataReadings
   pub reads : DataReads (debug_data v) readings
   pub says : meaning_of v readings ≡ x
+  pub spells : AllSpelled (around_of (debug_data v) readings) readings.units x.units
 
 -- the body of the section of a number in the output, where it holds no relocations of one that is read
 unfoldable pub new_body : PathMap → List ℕ → DataReadings → ℕ → List ℕ

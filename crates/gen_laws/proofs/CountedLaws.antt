@@ -10,6 +10,7 @@ use Rattle.dw_base.specs.ViewData.{Meaning, meaning_of}
 use Rattle.dw_base.proofs.ListLaws.{get_or-tabulate}
 use Rattle.dw_meaning.specs.FileMeanings.{Means}
 use Rattle.dw_meaning.proofs.DataOneLaws.{means-one}
+use Rattle.dw_meaning.proofs.MeansLaws.{means-made}
 use Rattle.dbg_gen.specs.Asked.{AreFew}
 use Rattle.dbg_gen.specs.GeneratedFiles.{file_of_counts, generated}
 use Rattle.dbg_gen.specs.GeneratedTexts.{texts_of}
@@ -56,11 +57,9 @@ counts-meant counts units b few w =
     }
 
 pub counted-means : (counts : List ℕ) → length counts ≤ 10000 → AreFew counts → Means (file_of_counts counts) (meant counts (length counts) (file_of_counts counts))
-counted-means counts small few = record {
-  readings = counted_readings counts (length counts);
-  reads = file-reads counts (length counts) (file_of_counts counts) small few (counted-file counts small few);
-  says = refl;
-}
+counted-means counts small few =
+    means-made (file_of_counts counts) (counted_readings counts (length counts)) (meant counts (length counts) (file_of_counts counts))
+    (file-reads counts (length counts) (file_of_counts counts) small few (counted-file counts small few)) refl
 
 -- the variables of a seed
 variables-are : (seed units k : ℕ) → k ≤ units → all_variables (variable_counts seed units) k ≡ variables_counted seed k
