@@ -1,6 +1,6 @@
 -- What becomes of a string table: which texts get a new place in it, and where. Fields that name texts
 -- are mentions, in the order of the file; whether a mention is of a path decides what its new text is.
-use Rattle.std.specs.Prelude.{Bool, ℕ, ◌+◌, ◌&&◌, not, if◌then◌else◌, List, [], ◌∷◌, ◌++◌, length, suc, Option, Some, None}
+use Rattle.std.specs.Prelude.{Bool, true, ℕ, ◌+◌, ◌&&◌, not, if◌then◌else◌, List, [], ◌∷◌, ◌++◌, length, suc, Option, Some, None}
 use Rattle.dw_base.specs.Paths.{PathMap, mapped_path}
 use Rattle.dw_base.specs.Texts.{is_in, same_text, laid_texts}
 
@@ -21,6 +21,10 @@ new_text m x = if x.path then mapped_path m x.text else x.text
 -- old bytes are kept, and each path whose mapped text differs gets a new place
 abbrev pub appending : PathMap → List ℕ → Plan
 appending m table = record { kept = table; asks = λ x. x.path && not (same_text (mapped_path m x.text) x.text) }
+
+-- nothing of the old bytes is kept, and each mention gets a new place: the table is built from the texts that fields name after mapping
+abbrev pub rebuilding : Plan
+rebuilding = record { kept = []; asks = λ x. true }
 
 -- a list of texts with one more at its end, if it isn't there yet
 abbrev pub with_text : List (List ℕ) → List ℕ → List (List ℕ)

@@ -438,7 +438,7 @@ units-changed-all m d r w =
     (slots-move (new_line_cells (changes_of m (around_of d r) r) d r) (changes_of m (around_of d r) r) (around_of d r) r.units (mapped_path-none m w.map) (data-apart m d r w) refl)
 
 -- string offsets and name tables, changed
-offsets-changed : (m : PathMap) (d : DebugData) (r : DataReadings) → DataMoves m d r
+pub offsets-changed : (m : PathMap) (d : DebugData) (r : DataReadings) → DataMoves m d r
     → RolesChanged (slot_role (path_slots (around_of d r))) (data_shift m d r) r.offsets (offsets_after (changes_of m (around_of d r) r) (around_of d r) r)
 offsets-changed m d r w =
     roles-changed (new_line_cells (changes_of m (around_of d r) r) d r) (slot_role (path_slots (around_of d r))) (changes_of m (around_of d r) r) (around_of d r)
@@ -448,7 +448,7 @@ offsets-changed m d r w =
     w.reads.offsets.chain w.fits.addends.slots)
     w.reads.slot_texts
 
-names-changed-all : (m : PathMap) (d : DebugData) (r : DataReadings) → DataMoves m d r
+pub names-changed-all : (m : PathMap) (d : DebugData) (r : DataReadings) → DataMoves m d r
     → RolesChanged name_role (data_shift m d r) r.names (names_after (changes_of m (around_of d r) r) (around_of d r) r)
 names-changed-all m d r w =
     let all = behind-macros m d r in
@@ -549,7 +549,7 @@ places-edited m d r w =
     ap (λ (n : ℕ). macro_places_with n (macro_starts qs)) (same-first (d.found Macro) qs)
     ∙ ap (macro_places_with (first_macros (d.found Macro))) (all-starts (data_shift m d r) r.macros qs (macros-changed-all m d r w))
 
-around-edited : (m : PathMap) (d : DebugData) (r : DataReadings) (w : DataMoves m d r)
+pub around-edited : (m : PathMap) (d : DebugData) (r : DataReadings) (w : DataMoves m d r)
     → around_of (edited_data (changes_of m (around_of d r) r) d r) (after_reads m d r w) ≡ (data_shift m d r).new
 around-edited m d r w =
     let c : TableChanges = changes_of m (around_of d r) r in

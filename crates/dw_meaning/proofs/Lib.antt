@@ -115,3 +115,6 @@ pub mod RunLaws
 pub mod UnitRunLaws
 pub mod WholeUnitLaws
 pub mod WorkedMeanings
+pub mod RebuiltLaws
+pub mod MentionLaws
+pub mod LeavingLaws

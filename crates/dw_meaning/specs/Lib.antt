@@ -12,3 +12,5 @@ pub mod RelocatedBodies
 pub mod LineStretches
 pub mod NewAddends
 pub mod PieceRuns
+pub mod RebuiltTables
+pub mod Leavings
