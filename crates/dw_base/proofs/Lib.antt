@@ -72,3 +72,4 @@ pub mod WorkedMacroUnits
 pub mod HeaderOfLaws
 pub mod StartFormLaws
 pub mod TableRelocationLaws
+pub mod CarriedLaws

@@ -96,3 +96,4 @@ pub mod MacroMeanings
 pub mod MacroUnits
 pub mod MacroFails
 pub mod MacroOffsets
+pub mod CarriedRelocations
