@@ -89,7 +89,6 @@ fn node_in(nodes: &[EntryNode], number: usize) -> &EntryNode
 impl EntryArena {
     /// Reads the entries of a unit of the view, with the table at the unit's `abbrevs`. Refused as a pass over them is:
     /// `Entry` at the entry, value or unit's end, `Form` and `Supplementary` at the value, `SplitDwarf` at the first entry.
-    #[tactic(auto, using(crate::proofs::ScanLaws::arena_laws))]
     pub fn read(
         alloc: Global,
         view: &View,
@@ -101,8 +100,25 @@ impl EntryArena {
         ensures none { OnOk result ((r : RefusalOf) → EntryFails unit.now table.now (bytes_up_to (unit_section_at view.now unit.now.section) unit.now) r → ⊥) }
         ensures refused { IfErr result (Blames (EntryFails unit.now table.now (bytes_up_to (unit_section_at view.now unit.now.section) unit.now))) }
     {
+        EntryArena::read_counted(alloc, view, unit, table, 0)
+    }
+
+    /// The same, where so many entries were counted: these take no more memory than they fill.
+    #[tactic(auto, using(crate::proofs::ScanLaws::arena_laws))]
+    pub fn read_counted(
+        alloc: Global,
+        view: &View,
+        unit: &UnitHeader,
+        table: &AbbrevTable,
+        count: usize,
+    ) -> Result<EntryArena, Fault>
+        requires unit { HasUnit (debug_data view.now) (unit_section_at view.now unit.now.section) unit.now }
+        ensures arena { IfOk result (IsArenaOf unit.now table.now (bytes_up_to (unit_section_at view.now unit.now.section) unit.now)) }
+        ensures none { OnOk result ((r : RefusalOf) → EntryFails unit.now table.now (bytes_up_to (unit_section_at view.now unit.now.section) unit.now) r → ⊥) }
+        ensures refused { IfErr result (Blames (EntryFails unit.now table.now (bytes_up_to (unit_section_at view.now unit.now.section) unit.now))) }
+    {
         let scan = CodedScan::new(view, unit, table);
-        let scanned = scanned_nodes(alloc, scan, table)?;
+        let scanned = scanned_nodes(alloc, scan, table, count)?;
         let nodes = linked_nodes(alloc, scanned)?;
         Ok(EntryArena { nodes })
     }

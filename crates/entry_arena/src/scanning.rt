@@ -96,12 +96,13 @@ fn with_entry(
     })
 }
 
-/// The nodes of the entries that a pass gives.
+/// The nodes of the entries that a pass gives, with room for so many.
 #[tactic(auto, using(crate::proofs::ScanLaws::scan_rules))]
 pub(crate) fn scanned_nodes(
     alloc: Global,
     scan: CodedScan,
     table: &AbbrevTable,
+    count: usize,
 ) -> Result<ScannedNodes, Fault>
     requires start { scan ≡ scan_start scan.unit table.now scan.bytes }
     requires small { length scan.bytes ≤ 2 ^ 31 }
@@ -110,8 +111,8 @@ pub(crate) fn scanned_nodes(
     ensures refused { IfErr result (Blames (EntryFails scan.entry.unit table.now scan.entry.bytes)) }
 {
     let mut scanned = ScannedNodes {
-        nodes: Vec::new(alloc),
-        depths: Vec::new(alloc),
+        nodes: Vec::with_capacity(alloc, count)?,
+        depths: Vec::with_capacity(alloc, count)?,
         above: Vec::new(alloc),
     };
     for coded in scan {

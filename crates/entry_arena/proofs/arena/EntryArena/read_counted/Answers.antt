@@ -3,7 +3,7 @@ use Rattle.dw_base.specs.EntryValues.{bytes_up_to}
 use Rattle.dw_entries.specs.ViewUnits.{unit_section_at}
 use Rattle.entry_arena.proofs.NextLaws.{linked-small}
 use Rattle.entry_arena.proofs.ScanLaws.{arena-excludes, arena-fits, arena-of, begun-same, started-begun}
-use Rattle.entry_arena.proofs.arena.EntryArena.read.Goals as goal
+use Rattle.entry_arena.proofs.arena.EntryArena.read_counted.Goals as goal
 
 pub linked_nodes-requires-clause-same : goal.linked_nodes-requires-clause-same
 linked_nodes-requires-clause-same c =
