@@ -1,5 +1,5 @@
 -- Laws of a pass over the fields of entries, while they are scanned.
-use Rattle.std.proofs.Common.{◌≡◌, ℕ, ◌+◌, ◌<◌, ◌≤◌, List, [], ◌∷◌, ◌++◌, length, Option, Some, None, Result, Ok, refl, sym, ap, ◌∙◌, subst, arith}
+use Rattle.std.proofs.Common.{◌≡◌, ℕ, ◌+◌, ◌<◌, ◌≤◌, List, [], ◌∷◌, ◌++◌, length, get_or, Option, Some, None, Result, Ok, refl, sym, ap, ◌∙◌, subst, arith}
 use Rattle.std.proofs.lemmas.List.{length-append}
 use Rattle.dw_base.specs.AbbreviationTables.{Abbreviation, abbreviation_of}
 use Rattle.dw_base.specs.Cells.{Cell}
@@ -11,7 +11,10 @@ use Rattle.dw_base.specs.declared.shared.Params.{Params}
 use Rattle.dw_base.specs.declared.units.Scanned.{Scanned}
 use Rattle.dw_base.specs.declared.units.UnitHeader.{UnitHeader}
 use Rattle.dw_base.specs.declared.values.Spec.{Spec}
-use Rattle.dw_entries.specs.ScanStates.{Gives, GivesEntry, GivesNothing, GivesRefusal, HasGiven, ScanState, scan_start}
+use Rattle.dw_abbrev.proofs.CodedLaws.{get-here, index-within}
+use Rattle.dw_entries.specs.CodedEntries.{GivesCode, GivesCoded, HasCode}
+use Rattle.dw_entries.specs.declared.scan.Coded.{Coded}
+use Rattle.dw_entries.specs.ScanStates.{GivesEntry, GivesNothing, GivesRefusal, HasGiven, ScanState, scan_start}
 use Rattle.dw_fields.specs.FieldWalks.{Goes, Ground, StandsAt}
 use Rattle.dw_fields.specs.UnitFields.{entries_fields, entry_fields, of_entry, of_value, values_fields}
 use Rattle.dw_fields.specs.UnitPasses.{EntriesPassed, EntriesSo, IsGiven, end_of}
@@ -34,20 +37,17 @@ pair-once a b c d e = (ap (λ (o : Option (ℕ × ℕ)). first o) e, ap (λ (o :
     second None = 0
     second (Some p) = p.1
 
-pub code-there : (params : Params) (table : List Abbreviation) (bytes : List ℕ) (e : Scanned) → IsGiven params table bytes e → None ≡ uleb_at bytes e.offset → ⊥
-code-there params table bytes e h none = let both = none ∙ h.entry.spells in absurd cc
+pub index-inside : (table : List Abbreviation) (bytes : List ℕ) (e : Scanned) (index from : ℕ) → HasCode table bytes e index from → index < length table
+index-inside table bytes e index from h = index-within table e.code index (sym h.listed)
 
-pub abbreviation-there : (params : Params) (table : List Abbreviation) (bytes : List ℕ) (e : Scanned) (code size : ℕ) (o : Option Abbreviation)
-    → IsGiven params table bytes e → Some (code, size) ≡ uleb_at bytes e.offset → o ≡ abbreviation_of table code → o ≡ None → ⊥
-abbreviation-there params table bytes e code size o h is own none =
-    let same = pair-once h.entry.code h.entry.size code size (sym h.entry.spells ∙ sym is) in
-    let both : Some h.abbreviation ≡ None = sym h.entry.listed ∙ ap (abbreviation_of table) same.0 ∙ sym own ∙ none in
-    absurd cc
+own-abbreviation : (table : List Abbreviation) (bytes : List ℕ) (e : Scanned) (index from : ℕ) (a : Abbreviation) → HasCode table bytes e index from
+    → a ≡ get_or table index a → Some a ≡ abbreviation_of table e.code
+own-abbreviation table bytes e index from a h is = get-here table e.code index a (sym h.listed) (index-inside table bytes e index from h) is
 
 some-once : (a b : Abbreviation) → Some a ≡ Some b → a ≡ b
 some-once a b e = cc
 
-pub values-there : (params : Params) (table : List Abbreviation) (bytes : List ℕ) (e : Scanned) (code size : ℕ) (a : Abbreviation) (specs : List Spec)
+values-there : (params : Params) (table : List Abbreviation) (bytes : List ℕ) (e : Scanned) (code size : ℕ) (a : Abbreviation) (specs : List Spec)
     → IsGiven params table bytes e → Some (code, size) ≡ uleb_at bytes e.offset → Some a ≡ abbreviation_of table code → specs ≡ a.specs
     → values_end params bytes specs (e.offset + size) ≡ Some e.after
 values-there params table bytes e code size a specs h is own list =
@@ -58,7 +58,7 @@ values-there params table bytes e code size a specs h is own list =
     ∙ ap (λ (n : ℕ). values_end params bytes h.abbreviation.specs (e.offset + n)) (sym same.1)
     ∙ spells-end params bytes (e.offset + h.entry.size) h.abbreviation.specs e.after h.entry.values
 
-pub values-stand : (cells : List Cell) (place size : ℕ) (p : Result Marks Refusal) → StandsAt cells place p → StandsAt cells (place + size) p
+values-stand : (cells : List Cell) (place size : ℕ) (p : Result Marks Refusal) → StandsAt cells place p → StandsAt cells (place + size) p
 values-stand cells place size p h = stands-on cells place (place + size) p (omega arith) h
 
 fields-coded : (params : Params) (table : List Abbreviation) (bytes : List ℕ) (number : ℕ) (e : Scanned) (code size : ℕ) (a : Abbreviation)
@@ -69,7 +69,7 @@ fields-coded params table bytes number e code size a is own =
     ap (listed_out of_entry (of_value params bytes) params bytes number e (e.offset + size)) own
     ∙ ap (coded_out of_entry (of_value params bytes) params table bytes number e) is
 
-pub entry-goes : (g : Ground) (params : Params) (table : List Abbreviation) (bytes : List ℕ) (number : ℕ) (e : Scanned) (code size tag : ℕ) (a : Abbreviation)
+entry-goes : (g : Ground) (params : Params) (table : List Abbreviation) (bytes : List ℕ) (number : ℕ) (e : Scanned) (code size tag : ℕ) (a : Abbreviation)
     (specs : List Spec) (p q : Result Marks Refusal) → Some (code, size) ≡ uleb_at bytes e.offset → Some a ≡ abbreviation_of table code → tag ≡ a.tag → specs ≡ a.specs
     → Goes g (e.offset + size) e.after (values_fields params bytes number tag specs (e.offset + size)) p q
     → Goes g e.offset e.after (entry_fields params table bytes number e) p q
@@ -80,7 +80,26 @@ entry-goes g params table bytes number e code size tag a specs p q is own t s h 
     goes-from g e.offset (e.offset + size) e.after (entry_fields params table bytes number e) p q (omega arith)
     (subst (λ (fs : List FieldPlace). Goes g (e.offset + size) e.after fs p q) said h)
 
-pub ruleset entry_rules = (code-there, abbreviation-there, values-there, values-stand, entry-goes)
+-- by what the scan read of the code
+pub code-values : (params : Params) (table : List Abbreviation) (bytes : List ℕ) (e : Scanned) (index from : ℕ) (a : Abbreviation) (specs : List Spec)
+    → IsGiven params table bytes e → HasCode table bytes e index from → a ≡ get_or table index a → specs ≡ a.specs → values_end params bytes specs from ≡ Some e.after
+code-values params table bytes e index from a specs given h is list =
+    ap (λ (n : ℕ). values_end params bytes specs n) h.from_is
+    ∙ values-there params table bytes e e.code h.size a specs given (sym h.spells) (own-abbreviation table bytes e index from a h is) list
+
+pub code-stand : (cells : List Cell) (table : List Abbreviation) (bytes : List ℕ) (e : Scanned) (index from : ℕ) (p : Result Marks Refusal)
+    → HasCode table bytes e index from → StandsAt cells e.offset p → StandsAt cells from p
+code-stand cells table bytes e index from p h stands =
+    subst (λ (n : ℕ). StandsAt cells n p) (sym h.from_is) (values-stand cells e.offset h.size p stands)
+
+pub code-goes : (g : Ground) (params : Params) (table : List Abbreviation) (bytes : List ℕ) (number : ℕ) (e : Scanned) (index from tag : ℕ) (a : Abbreviation)
+    (specs : List Spec) (p q : Result Marks Refusal) → HasCode table bytes e index from → a ≡ get_or table index a → tag ≡ a.tag → specs ≡ a.specs
+    → Goes g from e.after (values_fields params bytes number tag specs from) p q → Goes g e.offset e.after (entry_fields params table bytes number e) p q
+code-goes g params table bytes number e index from tag a specs p q h is t s goes =
+    entry-goes g params table bytes number e e.code h.size tag a specs p q (sym h.spells) (own-abbreviation table bytes e index from a h is) t s
+    (subst (λ (n : ℕ). Goes g n e.after (values_fields params bytes number tag specs n) p q) h.from_is goes)
+
+pub ruleset entry_rules = (index-inside)
 
 -- where entries end
 end_of-more : (first : ℕ) (items : List Scanned) (e : Scanned) → end_of first (items ++ e ∷ []) ≡ e.after
@@ -110,8 +129,8 @@ scan-starts g h table bytes s p is stands =
     })
 
 -- what a step gave
-pub gave-entry : (s u : ScanState) (r : Result Scanned Refusal) (e : Scanned) → Gives s (Some r) u → r ≡ Ok e → GivesEntry s e u
-gave-entry s u r e g is = subst (λ (x : Result Scanned Refusal). Gives s (Some x) u) is g
+pub gave-code : (s u : ScanState) (r : Result Coded Refusal) (k : Coded) → GivesCoded s (Some r) u → r ≡ Ok k → GivesCode s k u
+gave-code s u r k g is = subst (λ (x : Result Coded Refusal). GivesCoded s (Some x) u) is g
 
 last-of : (g : Ground) (h : UnitHeader) (table : List Abbreviation) (bytes : List ℕ) (s u : ScanState) (number : ℕ) (e : Scanned) (p q : Result Marks Refusal)
     → (so : EntriesSo g h table bytes s number p q) → GivesEntry s e u → LastEntry h table bytes so.items e
@@ -126,19 +145,19 @@ last-of g h table bytes s u number e p q so gives =
     (subst (λ (x : List ℕ). Scans u.unit u.table x (so.items ++ e ∷ []) u.place u.depth) own more.scans)) in
     last-entry h table bytes (so.items ++ e ∷ []) so.items e u.place u.depth scans refl
 
-pub scan-given : (g : Ground) (h : UnitHeader) (table : List Abbreviation) (bytes : List ℕ) (s u : ScanState) (number : ℕ) (e : Scanned) (p q : Result Marks Refusal)
+scan-given : (g : Ground) (h : UnitHeader) (table : List Abbreviation) (bytes : List ℕ) (s u : ScanState) (number : ℕ) (e : Scanned) (p q : Result Marks Refusal)
     → EntriesSo g h table bytes s number p q → GivesEntry s e u → IsGiven h.params table bytes e
 scan-given g h table bytes s u number e p q so gives =
     let last = last-of g h table bytes s u number e p q so gives in
     record { abbreviation = last.abbreviation; entry = last.is }
 
-pub scan-stands : (g : Ground) (h : UnitHeader) (table : List Abbreviation) (bytes : List ℕ) (s u : ScanState) (number : ℕ) (e : Scanned) (p q : Result Marks Refusal)
+scan-stands : (g : Ground) (h : UnitHeader) (table : List Abbreviation) (bytes : List ℕ) (s u : ScanState) (number : ℕ) (e : Scanned) (p q : Result Marks Refusal)
     → EntriesSo g h table bytes s number p q → GivesEntry s e u → StandsAt g.cells e.offset q
 scan-stands g h table bytes s u number e p q so gives =
     let last = last-of g h table bytes s u number e p q so gives in
     stands-on g.cells (end_of h.first so.items) e.offset q (scans-end h table bytes so.items e.offset last.depth last.scans) so.goes.stands
 
-pub scan-more : (g : Ground) (h : UnitHeader) (table : List Abbreviation) (bytes : List ℕ) (s u : ScanState) (number : ℕ) (e : Scanned) (p q r : Result Marks Refusal)
+scan-more : (g : Ground) (h : UnitHeader) (table : List Abbreviation) (bytes : List ℕ) (s u : ScanState) (number : ℕ) (e : Scanned) (p q r : Result Marks Refusal)
     → EntriesSo g h table bytes s number p q → GivesEntry s e u → Goes g e.offset e.after (entry_fields h.params table bytes number e) q r
     → EntriesSo g h table bytes u (number + 1) p r
 scan-more g h table bytes s u number e p q r so gives goes =
@@ -159,6 +178,26 @@ scan-more g h table bytes s u number e p q r so gives goes =
           subst (λ (n : ℕ). Goes g h.first n (entries_fields h.params table bytes 0 (so.items ++ e ∷ [])) p r) (sym (end_of-more h.first so.items e))
           (subst (λ (fs : List FieldPlace). Goes g h.first e.after fs p r) (sym (entries_fields-more h.params table bytes 0 so.items e)) all);
     }
+
+-- by what it read of the code
+pub code-given : (g : Ground) (h : UnitHeader) (table : List Abbreviation) (bytes : List ℕ) (s u : ScanState) (number : ℕ) (k : Coded) (p q : Result Marks Refusal)
+    → EntriesSo g h table bytes s number p q → GivesCode s k u → IsGiven h.params table bytes k.entry
+code-given g h table bytes s u number k p q so gives = scan-given g h table bytes s u number k.entry p q so gives.gives
+
+pub code-stands : (g : Ground) (h : UnitHeader) (table : List Abbreviation) (bytes : List ℕ) (s u : ScanState) (number : ℕ) (k : Coded) (p q : Result Marks Refusal)
+    → EntriesSo g h table bytes s number p q → GivesCode s k u → StandsAt g.cells k.entry.offset q
+code-stands g h table bytes s u number k p q so gives = scan-stands g h table bytes s u number k.entry p q so gives.gives
+
+pub code-has : (g : Ground) (h : UnitHeader) (table : List Abbreviation) (bytes : List ℕ) (s u : ScanState) (number : ℕ) (k : Coded) (p q : Result Marks Refusal)
+    → EntriesSo g h table bytes s number p q → GivesCode s k u → HasCode table bytes k.entry k.index k.from
+code-has g h table bytes s u number k p q so gives =
+    subst (λ (x : List Abbreviation). HasCode x bytes k.entry k.index k.from) so.table_is
+    (subst (λ (x : List ℕ). HasCode s.table x k.entry k.index k.from) so.bytes_are gives.has)
+
+pub code-more : (g : Ground) (h : UnitHeader) (table : List Abbreviation) (bytes : List ℕ) (s u : ScanState) (number : ℕ) (k : Coded) (p q r : Result Marks Refusal)
+    → EntriesSo g h table bytes s number p q → GivesCode s k u → Goes g k.entry.offset k.entry.after (entry_fields h.params table bytes number k.entry) q r
+    → EntriesSo g h table bytes u (number + 1) p r
+code-more g h table bytes s u number k p q r so gives goes = scan-more g h table bytes s u number k.entry p q r so gives.gives goes
 
 pub scan-fails : (g : Ground) (h : UnitHeader) (table : List Abbreviation) (bytes : List ℕ) (s u : ScanState) (number : ℕ) (r : Refusal) (p q : Result Marks Refusal)
     → EntriesSo g h table bytes s number p q → GivesRefusal s r u → EntryFails h table bytes r
@@ -193,4 +232,4 @@ scan-few g h table bytes s number p q so le =
     let count = so.count in
     omega (arith, count, room.0, room.1)
 
-pub ruleset scan_rules = (scan-starts, scan-given, scan-stands, scan-more, scan-fails, scan-ends)
+pub ruleset scan_rules = (scan-starts, code-given, code-stands, code-has, code-more, scan-fails, scan-ends)

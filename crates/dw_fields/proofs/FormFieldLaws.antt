@@ -42,19 +42,18 @@ kind-field (text_offset table n) place start = refl
 kind-field (number_of class n) place start = number-field place n (use_of_number class n start)
 kind-field k place start = refl
 
--- the field of a form by the kind that the table of forms says
-pub field-of : (params : Params) (form : ℕ) (start : Bool) (k g : FormKind) (x : Option FieldForm)
-    → ((params : Params) → as_kind params k ≡ kind_in params form) → k ≡ g → x ≡ form_of (as_kind params g) start
-    → x ≡ form_of (kind_in params form) start
-field-of params form start k g x all is e = e ∙ ap (λ (j : FormKind). form_of (as_kind params j) start) (sym is) ∙ ap (λ (j : ValueKind). form_of j start) (all params)
+-- the field of a value of a kind, case by case
+pub field-of : (params : Params) (start : Bool) (k g : FormKind) (x : Option FieldForm) → k ≡ g → x ≡ form_of (as_kind params g) start
+    → x ≡ form_of (as_kind params k) start
+field-of params start k g x is e = e ∙ ap (λ (j : FormKind). form_of (as_kind params j) start) (sym is)
 
 -- the field of a text's offset
-pub text-of : (params : Params) (form : ℕ) (start : Bool) (k g : FormKind) (f : FieldForm) (table : TextSection)
-    → ((params : Params) → as_kind params k ≡ kind_in params form) → k ≡ g → as_kind params g ≡ text_offset table (width_size params.width)
-    → f.size ≡ width_size params.width → f.offset ≡ true → Some f ≡ form_of (kind_in params form) start
-text-of params form start k g f table all is kind size offset =
+pub text-of : (params : Params) (start : Bool) (k g : FormKind) (f : FieldForm) (table : TextSection) → k ≡ g
+    → as_kind params g ≡ text_offset table (width_size params.width) → f.size ≡ width_size params.width → f.offset ≡ true
+    → Some f ≡ form_of (as_kind params k) start
+text-of params start k g f table is kind size offset =
     ap (λ (n : ℕ). Some (record { size = n; offset = f.offset })) size ∙ ap (λ (t : Bool). Some (record { size = width_size params.width; offset = t })) offset
-    ∙ ap (λ (j : ValueKind). form_of j start) (sym kind ∙ ap (as_kind params) (sym is) ∙ all params)
+    ∙ ap (λ (j : ValueKind). form_of j start) (sym kind) ∙ ap (λ (j : FormKind). form_of (as_kind params j) start) (sym is)
 
 pub ruleset form_rules = (field-of, text-of)
 
@@ -75,12 +74,19 @@ not-front params InAbbreviation h = refl
 not-front params Supplementary h = refl
 not-front params Unlisted h = refl
 
-pub front-of : (params : Params) (form : ℕ) (k : FormKind) → ((params : Params) → as_kind params k ≡ kind_in params form) → k ≡ FormInFront
-    → true ≡ is_front (kind_in params form)
-front-of params form k all is = ap (λ (j : FormKind). is_front (as_kind params j)) (sym is) ∙ ap is_front (all params)
+pub front-of : (params : Params) (k : FormKind) → k ≡ FormInFront → true ≡ is_front (as_kind params k)
+front-of params k is = ap (λ (j : FormKind). is_front (as_kind params j)) (sym is)
 
-pub other-of : (params : Params) (form : ℕ) (k : FormKind) → ((params : Params) → as_kind params k ≡ kind_in params form) → (k ≡ FormInFront → ⊥)
-    → false ≡ is_front (kind_in params form)
-other-of params form k all other = sym (not-front params k other) ∙ ap is_front (all params)
+pub other-of : (params : Params) (k : FormKind) → (k ≡ FormInFront → ⊥) → false ≡ is_front (as_kind params k)
+other-of params k other = sym (not-front params k other)
 
 pub ruleset front_rules = (front-of, other-of)
+
+-- the same of the form whose kind it is
+pub front-by : (params : Params) (form : ℕ) (k : FormKind) (b t : Bool) → ((params : Params) → as_kind params k ≡ kind_in params form)
+    → b ≡ is_front (as_kind params k) → b ≡ t → is_front (kind_in params form) ≡ t
+front-by params form k b t all is e = ap is_front (sym (all params)) ∙ sym is ∙ e
+
+pub form-by : (params : Params) (form : ℕ) (start : Bool) (k : FormKind) (x : Option FieldForm) → ((params : Params) → as_kind params k ≡ kind_in params form)
+    → x ≡ form_of (as_kind params k) start → x ≡ form_of (kind_in params form) start
+form-by params form start k x all is = is ∙ ap (λ (j : ValueKind). form_of j start) (all params)

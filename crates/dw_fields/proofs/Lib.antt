@@ -20,6 +20,7 @@ pub mod RelocationLaws
 pub mod RowLaws
 pub mod RowListLaws
 pub mod SlotFieldLaws
+pub mod StillLaws
 pub mod UnitCheckLaws
 pub mod UnitFieldLaws
 pub mod UnitListLaws

@@ -39,7 +39,7 @@ next-is : (cells : List Cell) (m : Marks) (p : ℕ) → AreMarks cells m → m.n
 next-is cells m p h e = subst (λ (o : Option ℕ). MatchOption o (HasNone cells m.place) (IsNext cells m.place)) e h.next
 
 -- none lies before a place
-none-before : (cells : List Cell) (m : Marks) (to : ℕ) → AreMarks cells m → None ≡ place_before m.next to
+pub none-before : (cells : List Cell) (m : Marks) (to : ℕ) → AreMarks cells m → None ≡ place_before m.next to
     → (p : ℕ) → m.place ≤ p → p < to → relocation_at cells p ≡ None
 none-before cells m to h e = by_next m.next h.next e
   where
@@ -53,7 +53,7 @@ none-before cells m to h e = by_next m.next h.next e
         by_test false t e = let over = ltb-false q to t in next.first p le (omega (arith, over, lt))
 
 -- marks that are moved on over places at which none begins
-marks-on : (cells : List Cell) (m : Marks) (to : ℕ) → AreMarks cells m → m.place ≤ to → None ≡ place_before m.next to
+pub marks-on : (cells : List Cell) (m : Marks) (to : ℕ) → AreMarks cells m → m.place ≤ to → None ≡ place_before m.next to
     → AreMarks cells (record { place = to; next = m.next })
 marks-on cells m to h le e = by_next m.next h.next e
   where
@@ -69,7 +69,7 @@ marks-on cells m to h le e = by_next m.next h.next e
             record { next = record { from_there = omega (arith, over); begins = next.begins; first = λ p from lt. next.first p (omega (arith, from, le)) lt } }
 
 -- a relocation that begins somewhere
-none-some : (cells : List Cell) (p : ℕ) (r : Relocation) → relocation_at cells p ≡ None → relocation_at cells p ≡ Some r → ⊥
+pub none-some : (cells : List Cell) (p : ℕ) (r : Relocation) → relocation_at cells p ≡ None → relocation_at cells p ≡ Some r → ⊥
 none-some cells p r none e = cc
 
 record Begins (cells : List Cell) (p : ℕ) : Type 0 where

@@ -16,10 +16,11 @@ use Rattle.dw_base.specs.declared.values.ValueClass.{ValueClass}
 use Rattle.dw_base.proofs.FormLaws.{value_by-own}
 use Rattle.dw_forms.proofs.InsideLaws.{value_at-inside}
 use Rattle.dw_meaning.proofs.ScanPieceLaws.{chosen-read}
-use Rattle.std.specs.Prelude.{ℤ}
+use Rattle.std.specs.Prelude.{ℤ, is_some}
 use Rattle.dw_fields.specs.FieldForms.{fields_by, form_by_use, form_end, form_of, is_front, use_by}
 use Rattle.dw_fields.specs.FieldWalks.{Goes, Ground, StandsAt}
 use Rattle.dw_fields.specs.UnitFields.{chosen_fields, fields_of_kind, of_value, value_fields, values_fields}
+use Rattle.dw_fields.specs.UnitPasses.{ValuePassed}
 use Rattle.dw_fields.specs.declared.forms.FieldForm.{FieldForm}
 use Rattle.dw_fields.specs.declared.marks.Marks.{Marks}
 use Rattle.dw_fields.proofs.FormFieldLaws.{kind-field}
@@ -276,6 +277,27 @@ values-over g params bytes number tag specs from after i place p q over h =
     subst (λ (n : ℕ). Goes g from n (values_fields params bytes number tag specs from) p q) place_is
     (subst (λ (l : List FieldPlace). Goes g from place l p q) whole h.goes)
 
+-- the next value stands there
+behind-there : (f : ℕ → Option ℕ) (place : ℕ) (o : Option Value) (after : ℕ) → end_behind f place o ≡ Some after → is_some o ≡ true
+behind-there f place None after e = absurd cc
+behind-there f place (Some v) after e = refl
+
+pub next-there : (params : Params) (bytes : List ℕ) (specs : List Spec) (x : Spec) (after i place : ℕ) → i < length specs → x ≡ get_or specs i x
+    → values_end params bytes (drop i specs) place ≡ Some after → is_some (value_at params x bytes place) ≡ true
+next-there params bytes specs x after i place lt is e =
+    behind-there (λ n. values_end params bytes (drop (i + 1) specs) n) place (value_at params x bytes place) after
+    (next-ends params bytes specs x after i place lt is e)
+
+-- and has been passed
+pub values-passed : (g : Ground) (params : Params) (bytes : List ℕ) (number tag : ℕ) (specs : List Spec) (x : Spec) (from after i place to : ℕ) (start : Bool)
+    (p q r : Result Marks Refusal) → i < length specs → x ≡ get_or specs i x → ValuesSo g params bytes number tag specs from after i place p q
+    → start ≡ is_section_offset number tag x.name → ValuePassed g params x bytes start place to q r
+    → ValuesSo g params bytes number tag specs from after (i + 1) to p r
+values-passed g params bytes number tag specs x from after i place to start p q r lt is so said h =
+    subst (λ (n : ℕ). ValuesSo g params bytes number tag specs from after (i + 1) n p r) (sym h.behind)
+    (values-step g params bytes number tag specs x from after i place h.size start p q r lt is so h.value said
+    (subst (λ (n : ℕ). Goes g place n (fields_of_kind (kind_in params x.form) params bytes start place) q r) h.behind h.goes))
+
 -- the size that was found of the bytes up to their end
 pub size-whole : (params : Params) (x : Spec) (bytes : List ℕ) (place size end : ℕ) → value_size (value_at params x (take end bytes) place) ≡ Some size
     → end ≡ length bytes → value_size (value_at params x bytes place) ≡ Some size
@@ -286,4 +308,4 @@ pub none-whole : (params : Params) (x : Spec) (bytes : List ℕ) (place end : �
     → end ≡ length bytes → value_at params x bytes place ≡ None
 none-whole params x bytes place end e is = ap (λ (bs : List ℕ). value_at params x bs place) (sym (take_all end bytes (omega (arith, is)))) ∙ e
 
-pub ruleset values_rules = (values-start, values-stand, values-over, size-whole, none-whole, value-room)
+pub ruleset values_rules = (values-start, values-stand, values-over)

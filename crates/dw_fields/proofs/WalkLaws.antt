@@ -103,7 +103,7 @@ not-there f p lt =
     ap (λ (t : Bool). if is_offset_use f.use_is && t then true else false) (ne_eqb f.place p (λ e. omega (arith, e, lt)))
     ∙ ap (λ (t : Bool). if t then true else false) (and-no (is_offset_use f.use_is))
 
-begin-later : (fs : List FieldPlace) (place to : ℕ) → BeginBefore fs place → place ≤ to → BeginBefore fs to
+pub begin-later : (fs : List FieldPlace) (place to : ℕ) → BeginBefore fs place → place ≤ to → BeginBefore fs to
 begin-later [] place to h le = tt
 begin-later (f ∷ fs) place to h le = let lt = h.0 in (omega (arith, lt, le), begin-later fs place to h.1 le)
 

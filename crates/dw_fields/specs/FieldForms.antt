@@ -1,5 +1,6 @@
 -- The field of a value of a form: how many bytes it has, and whether it is an offset into another section (DWARF 5, 7.5.5).
-use Rattle.std.specs.Prelude.{Bool, true, false, ℕ, ◌+◌, if◌then◌else◌, List, [], ◌∷◌, Option, Some, None}
+use Rattle.std.specs.Prelude.{Bool, true, false, ℕ, ◌+◌, ◌<◌, ◌||◌, if◌then◌else◌, List, [], ◌∷◌, Option, Some, None}
+use Rattle.dw_abbrev.specs.QuietSpecs.{is_text_form}
 use Rattle.dw_base.specs.Forms.{ValueKind, form_in_front, number_of, text_offset}
 use Rattle.dw_base.specs.RelocationRows.{FieldPlace, FieldUse, field_place, is_offset_use, offset_field, plain_field, use_of_number}
 use Rattle.dw_fields.specs.declared.forms.FieldForm.{FieldForm}
@@ -31,3 +32,13 @@ form_end place (Some f) = place + f.size
 abbrev pub is_front : ValueKind → Bool
 is_front form_in_front = true
 is_front k = false
+
+-- a value of a form of most values that may be an offset into another section: that of a text, and one of an attribute that says where something
+-- starts
+abbrev pub is_followed : Bool → ℕ → Bool
+is_followed start form = start || is_text_form form
+
+-- the fields of a value of n bytes at a place that holds no offset: none, or that of a number that is meant as it stands
+pub data IsStill (place n : ℕ) : List FieldPlace → Type 0 where
+  no_field : IsStill place n []
+  number_field : 0 < n → IsStill place n (field_place place n plain_field ∷ [])

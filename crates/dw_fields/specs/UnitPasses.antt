@@ -1,22 +1,32 @@
 -- A pass over the fields of a unit's entries, while they are scanned.
-use Rattle.std.specs.Prelude.{false, ◌≡◌, ℕ, ⊤, List, [], ◌∷◌, length, take, drop, Option, Result}
+use Rattle.std.specs.Prelude.{Bool, false, ◌≡◌, ℕ, ◌+◌, ⊤, List, [], ◌∷◌, length, take, drop, Option, Some, Result}
 use Rattle.dw_abbrev.specs.Kept.{AreKept}
 use Rattle.dw_base.specs.AbbreviationTables.{Abbreviation}
 use Rattle.dw_base.specs.DebugData.{DebugData}
 use Rattle.dw_base.specs.EntryScans.{AreEntries, IsEntry}
 use Rattle.dw_base.specs.EntryValues.{bytes_up_to}
+use Rattle.dw_base.specs.Forms.{kind_in}
 use Rattle.dw_base.specs.RelocationRows.{FieldPlace}
 use Rattle.dw_base.specs.UnitHeaders.{IsUnit, UnitBase, UnitSection}
 use Rattle.dw_base.specs.UnitTables.{IsUnitTable}
+use Rattle.dw_base.specs.Values.{value_at, value_size}
 use Rattle.dw_base.specs.declared.fault.Refusal.{Refusal}
 use Rattle.dw_base.specs.declared.shared.Params.{Params}
 use Rattle.dw_base.specs.declared.units.Scanned.{Scanned}
 use Rattle.dw_base.specs.declared.units.UnitHeader.{UnitHeader}
+use Rattle.dw_base.specs.declared.values.Spec.{Spec}
 use Rattle.dw_entries.specs.ScanStates.{HasGiven, ScanState}
 use Rattle.dw_fields.specs.FieldWalks.{Goes, Ground}
 use Rattle.dw_fields.specs.LeftChecks.{UnitsHold}
-use Rattle.dw_fields.specs.UnitFields.{UnitsFields, entries_fields, one_fields}
+use Rattle.dw_fields.specs.UnitFields.{UnitsFields, entries_fields, fields_of_kind, one_fields}
 use Rattle.dw_fields.specs.declared.marks.Marks.{Marks}
+
+-- the value of an attribute at a place has been passed, up to where it ends
+pub record ValuePassed (g : Ground) (params : Params) (x : Spec) (bytes : List ℕ) (start : Bool) (place to : ℕ) (p q : Result Marks Refusal) : Type 0 where
+  pub size : ℕ
+  pub value : value_size (value_at params x bytes place) ≡ Some size
+  pub behind : to ≡ place + size
+  pub goes : Goes g place to (fields_of_kind (kind_in params x.form) params bytes start place) p q
 
 -- an entry that a scan gave stands there
 pub record IsGiven (params : Params) (table : List Abbreviation) (bytes : List ℕ) (e : Scanned) : Type 0 where

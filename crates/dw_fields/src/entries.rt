@@ -6,6 +6,7 @@ ghost use Rattle.std.specs.Prelude.{◌≡◌, ◌<◌, ◌≤◌, ◌^◌, true
 ghost use Rattle.dw_base.specs.EntryScans.{EntryFails};
 ghost use Rattle.dw_base.specs.FileViews.{kind_at, section_bytes, view_cells};
 ghost use Rattle.dw_base.specs.UnitHeaders.{is_address_size};
+ghost use Rattle.dw_entries.specs.CodedEntries.{HasCode};
 ghost use Rattle.dw_entries.specs.ScanStates.{scan_start};
 ghost use Rattle.dw_fields.specs.FieldWalks.{Goes, StandsAt, ground_of};
 ghost use Rattle.dw_fields.specs.UnitFields.{entry_fields};
@@ -14,8 +15,8 @@ ghost use Rattle.dw_fields.specs.UnitPasses.{EntriesPassed, IsGiven};
 use crate::marks::Marks;
 use crate::values::pass_values;
 use dw_abbrev::{Abbrev, AbbrevTable};
-use dw_base::{Params, Refusal, Scanned, Spec, UnitHeader, uleb_at};
-use dw_entries::EntryScan;
+use dw_base::{Params, Refusal, Spec, UnitHeader};
+use dw_entries::{Coded, CodedScan};
 use dw_view::View;
 
 /// The tag of an abbreviation.
@@ -42,26 +43,21 @@ fn pass_entry(
     table: &AbbrevTable,
     bytes: &[u8],
     number: u64,
-    entry: &Scanned,
+    entry: &Coded,
 ) -> Result<Marks, Refusal>
     requires there { section < length view.now.sections }
     requires read { is_some (kind_at view.now section) ≡ true }
-    requires stands { StandsAt (view_cells view.now section) entry.now.offset pass }
+    requires stands { StandsAt (view_cells view.now section) entry.now.entry.offset pass }
     requires address { IsTrue (is_address_size params.now.address) }
-    requires given { IsGiven params.now table.now bytes.now entry.now }
+    requires given { IsGiven params.now table.now bytes.now entry.now.entry }
+    requires code { HasCode table.now bytes.now entry.now.entry entry.now.index entry.now.from }
     requires whole { length bytes.now ≤ length (section_bytes view.now section) }
     requires small { length (section_bytes view.now section) ≤ 2 ^ 31 }
-    ensures goes { Goes (ground_of view.now section) entry.now.offset entry.now.after (entry_fields params.now table.now bytes.now number entry.now) pass result }
+    ensures goes { Goes (ground_of view.now section) entry.now.entry.offset entry.now.entry.after (entry_fields params.now table.now bytes.now number entry.now.entry) pass result }
 {
-    let Some((code, size)) = uleb_at(bytes, entry.offset) else {
-        unreachable!()
-    };
-    let Some(abbrev) = table.get(code) else {
-        unreachable!()
-    };
+    let abbrev = table.abbrev(entry.index);
     let tag = tag_of(abbrev);
     let specs = specs_of(abbrev);
-    let from = entry.offset + size;
     pass_values(
         view,
         section,
@@ -71,8 +67,8 @@ fn pass_entry(
         number,
         tag,
         specs,
-        from,
-        entry.after,
+        entry.from,
+        entry.entry.after,
     )
 }
 
@@ -85,7 +81,7 @@ pub(crate) fn pass_entries(
     unit: &UnitHeader,
     table: &AbbrevTable,
     bytes: &[u8],
-    scan: EntryScan,
+    scan: CodedScan,
 ) -> Result<Result<Marks, Refusal>, Refusal>
     requires there { section < length view.now.sections }
     requires read { is_some (kind_at view.now section) ≡ true }

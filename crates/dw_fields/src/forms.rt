@@ -1,13 +1,15 @@
 //! The field of a value of a form: how many bytes it has, and whether it is an offset into another section (DWARF 5, 7.5.5).
 
 ghost use Rattle.std.specs.Prelude.{◌≡◌, ◌<◌, ◌≤◌, IfSome, IsTrue, true};
-ghost use Rattle.dw_base.specs.Forms.{kind_in, width_size};
+ghost use Rattle.dw_base.specs.Forms.{width_size};
 ghost use Rattle.dw_base.specs.RelocationRows.{use_of_number};
 ghost use Rattle.dw_base.specs.UnitHeaders.{is_address_size};
-ghost use Rattle.dw_fields.specs.FieldForms.{form_by_use, form_of, is_front};
+ghost use Rattle.dw_fields.specs.FieldForms.{form_by_use, form_of, is_followed, is_front};
+ghost use Rattle.dw_forms.specs.Kinds.{HasFields, as_kind};
 
+use dw_abbrev::is_text_form;
 use dw_base::{Params, ValueClass, Width, can_be_offset};
-use dw_forms::{FormKind, form_kind};
+use dw_forms::FormKind;
 
 /// The field of a value.
 #[derive(Clone, Copy, Drop)]
@@ -48,27 +50,36 @@ fn number_form(class: ValueClass, size: u8, start: bool) -> Option<FieldForm>
     }
 }
 
-/// The form stands in front of a value.
-#[tactic(auto, using(crate::proofs::FormFieldLaws::front_rules))]
-pub(crate) fn is_front(params: &Params, form: u64) -> bool
-    ensures { result ≡ is_front (kind_in params.now form) }
+/// A value of a form of most values may be an offset into another section: that of a text, and one of an attribute that says where
+/// something starts.
+pub(crate) fn is_followed(start: bool, form: u64) -> bool
+    ensures { result ≡ is_followed start form }
 {
-    match form_kind(form) {
+    start || is_text_form(form)
+}
+
+/// A form of a kind stands in front of a value.
+#[tactic(auto, using(crate::proofs::FormFieldLaws::front_rules))]
+pub(crate) fn is_front(params: &Params, kind: FormKind) -> bool
+    ensures { result ≡ is_front (as_kind params.now kind) }
+{
+    match kind {
         FormKind::FormInFront => true,
         _ => false,
     }
 }
 
-/// The field of a value of a form, in a unit of these parameters, where its attribute says where something starts, or doesn't: none of an
+/// The field of a value of a kind, in a unit of these parameters, where its attribute says where something starts, or doesn't: none of an
 /// address, a block, a text, a number in LEB128.
 #[tactic(auto, using(crate::proofs::FormFieldLaws::form_rules))]
-pub(crate) fn field_form(params: &Params, form: u64, start: bool) -> Option<FieldForm>
+pub(crate) fn field_form(params: &Params, kind: FormKind, start: bool) -> Option<FieldForm>
     requires address { IsTrue (is_address_size params.now.address) }
-    ensures form { result ≡ form_of (kind_in params.now form) start }
+    requires fields { HasFields kind }
+    ensures form { result ≡ form_of (as_kind params.now kind) start }
     ensures some { IfSome result (λ f. 0 < f.size) }
     ensures few { IfSome result (λ f. f.size ≤ 8) }
 {
-    match form_kind(form) {
+    match kind {
         FormKind::Number(class, size) => number_form(class, size.bytes(params), start),
         FormKind::StrOffset => Some(text_form(params.width)),
         FormKind::LineStrOffset => Some(text_form(params.width)),

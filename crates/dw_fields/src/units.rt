@@ -25,7 +25,7 @@ use crate::marks::{Marks, pass_end, pass_offset, pass_start};
 use crate::slots::has_relocations;
 use dw_abbrev::AbbrevTable;
 use dw_base::{Fault, Refusal, UnitHeader, Width};
-use dw_entries::{EntryScan, read_table, shared_units, table_offset, unit_sections};
+use dw_entries::{CodedScan, read_table, shared_units, table_offset, unit_sections};
 use dw_view::View;
 use std::alloc::Global;
 use std::collections::HashMap;
@@ -72,7 +72,7 @@ fn pass_unit(
 {
     let bytes = &view.bytes(unit.section)[..unit.end as usize];
     let front = pass_front(view, unit, pass);
-    let scan = EntryScan::new(view, unit, table);
+    let scan = CodedScan::new(view, unit, table);
     pass_entries(view, unit.section, front, unit, table, bytes, scan)
 }
 
