@@ -1,2 +1,3 @@
 pub mod RisingLaws
 pub mod Sayings
+pub mod WriteLaws

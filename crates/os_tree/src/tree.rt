@@ -2,7 +2,7 @@
 //!
 //! This layer promises: a call fails only where the count of faults rose, and what it finds is within
 //! the limits and in order. It does not promise what the system keeps: that is trusted.
-ghost use Rattle.std.specs.Prelude.{◌≡◌, ◌≤◌, ◌+◌, false, IfOk, OnOk, Ok, IsErrOf};
+ghost use Rattle.std.specs.Prelude.{◌≡◌, ◌≤◌, ◌+◌, ◌↔◌, false, IfOk, IsOk, OnOk, Ok, IsErrOf};
 ghost use Rattle.file_tree.specs.Seen.{no_past};
 ghost use Rattle.file_tree.specs.Causes.{Rose};
 
@@ -54,6 +54,7 @@ impl<R: Files + AllocGlobal + Clone + Drop> OsTree<R> {
     /// The answer of a call or of a part of it that changes no path: want of memory is no fault.
     fn answered<T: Drop>(&mut self, given: io::Result<T>) -> Result<T, TreeErr>
         ensures same { IfOk result (λ v. given ≡ Ok v) }
+        ensures gives { OnOk given (IsOk result) }
         ensures well { OnOk result (self.new.faults ≡ self.old.faults) }
         ensures later { self.old.faults ≤ self.new.faults }
         ensures failed { IsErrOf result TreeErr.Failed → Rose self.old.faults self.new.faults }
@@ -70,6 +71,8 @@ impl<R: Files + AllocGlobal + Clone + Drop> OsTree<R> {
 
     /// The answer of a call that may have changed something.
     fn done(&mut self, given: io::Result<()>) -> Result<(), TreeErr>
+        ensures same { IsOk result ↔ IsOk given }
+        ensures well { OnOk result (self.new.faults ≡ self.old.faults) }
         ensures later { self.old.faults ≤ self.new.faults }
         ensures failed { IsErrOf result TreeErr.Failed → Rose self.old.faults self.new.faults }
         ensures no_memory { IsErrOf result TreeErr.NoMemory → self.new.faults ≡ self.old.faults }
