@@ -3,9 +3,9 @@ use Rattle.std.proofs.Common.{Bool, true, false, ◌≡◌, ◌||◌, ◌⊎◌,
 use Rattle.std.specs.Prelude.{unwrap_or, ⊤, not, ◌&&◌, nat_lt, slice_index, option_map, Result, Ok}
 use Rattle.std.proofs.lemmas.Bool.{eqb-true, eq-eqb, ne_eqb}
 use Rattle.dw_base.specs.Lebs.{uleb_at}
-use Rattle.dw_base.specs.LineEntries.{column_at, columns, entries_at, entry_at, file_of, first_of, with_column}
+use Rattle.dw_base.specs.LineEntries.{column_at, columns, entries_at, entry_at, file_of, first_of, with_column, list_end, place_behind}
 use Rattle.dw_base.specs.LineFormats.{format_at, is_column, is_index_form, is_column_form, is_text_form, next_spec, spec_at, with_spec}
-use Rattle.dw_base.specs.LineMeanings.{LineColumn, FileText, column_value, column_there, columns_there, columns_counted, columns_formed, dir_columns, dir_texts, entries_columns, entries_with, file_columns, file_path, file_text, file_texts, further_columns, is_there, list_end, listed_columns, old_columns, place_behind}
+use Rattle.dw_base.specs.LineMeanings.{LineColumn, FileText, column_value, column_there, columns_there, columns_counted, columns_formed, dir_columns, dir_texts, entries_columns, entries_with, file_columns, file_path, file_text, file_texts, further_columns, is_there, listed_columns, old_columns}
 use Rattle.dw_base.specs.LineReadings.{LineReading, ReadsTable}
 use Rattle.dw_base.specs.LineSources.{LineSource}
 use Rattle.dw_base.specs.LineTables.{table_bytes, HasLists, old_lists, new_lists}

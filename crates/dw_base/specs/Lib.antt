@@ -66,6 +66,7 @@ pub mod LineTexts
 pub mod OldLineLists
 pub mod LineFormats
 pub mod LineEntries
+pub mod TableTexts
 pub mod LinePrograms
 pub mod LineTables
 pub mod LineFails

@@ -111,3 +111,11 @@ entries_behind g h table (Some f) = counted_entries g h table f.0 f.1 (uleb_at t
 -- the entries from a place on: their format, their count, and as many of them; and the place behind them
 unfoldable pub entries_at : LineSource → LineHeader → List ℕ → ℕ → Result (List FilePlace × ℕ) Refusal
 entries_at g h table place = entries_behind g h table (format_at table place)
+
+-- where the entries of version 5 end whose format stands at a place
+abbrev pub place_behind : ℕ → Result (List FilePlace × ℕ) Refusal → ℕ
+place_behind place (Err r) = place
+place_behind place (Ok x) = x.1
+
+abbrev pub list_end : LineSource → LineHeader → List ℕ → ℕ → ℕ
+list_end g h table place = place_behind place (entries_at g h table place)

@@ -3,7 +3,7 @@
 use Rattle.std.specs.Prelude.{Bool, true, false, ℕ, zero, suc, ◌+◌, ◌-◌, ◌==◌, ◌&&◌, not, if◌then◌else◌, List, [], ◌∷◌, ◌++◌, take, drop, map, Option, Some, None, Result, Ok, Err}
 use Rattle.dw_base.specs.Cells.{Cell}
 use Rattle.dw_base.specs.Lebs.{uleb_at}
-use Rattle.dw_base.specs.LineEntries.{column_at, entry_at, entries_at}
+use Rattle.dw_base.specs.LineEntries.{column_at, entry_at, list_end}
 use Rattle.dw_base.specs.LineFormats.{format_at}
 use Rattle.dw_base.specs.LineOperations.{operations}
 use Rattle.dw_base.specs.LineReadings.{LineReading}
@@ -103,14 +103,6 @@ columns_formed g h table (Some f) = columns_counted g h table f.0 f.1 (uleb_at t
 
 abbrev pub listed_columns : LineSource → LineHeader → List ℕ → ℕ → List (List LineColumn)
 listed_columns g h table place = columns_formed g h table (format_at table place)
-
--- where the entries of version 5 end whose format stands at a place
-abbrev pub place_behind : ℕ → Result (List FilePlace × ℕ) Refusal → ℕ
-place_behind place (Err r) = place
-place_behind place (Ok x) = x.1
-
-abbrev pub list_end : LineSource → LineHeader → List ℕ → ℕ → ℕ
-list_end g h table place = place_behind place (entries_at g h table place)
 
 -- numbers in LEB128 from a place on, as columns of these names
 abbrev pub leb_columns : List ℕ → List ℕ → ℕ → List LineColumn

@@ -36,7 +36,7 @@ AreTables g rs = TablesTo g 0 rs (length g.bytes)
 
 -- the table of a reading
 abbrev pub table_read : LineSource → LineReading → LineTable
-table_read g r = table_with g.number r.header r.dirs r.files r.defined
+table_read g r = table_with g r.header r.dirs r.files r.defined
 
 -- where the tables start
 abbrev pub table_starts : List LineReading → List ℕ

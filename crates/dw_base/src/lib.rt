@@ -46,7 +46,7 @@ pub use fault::{Fault, Kind, NoMemory, Refusal};
 pub use lebs::{FIRST_RESERVED_LENGTH, initial_length_at, sleb_at, uleb_at};
 pub use limits::{FILE_LIMIT, OUTPUT_LIMIT};
 pub use line_rows::{LineParams, Operation, Row};
-pub use line_tables::{FilePlace, LineHeader, TextPlace};
+pub use line_tables::{FilePlace, LineHeader, LineText, TextPlace};
 pub use macro_units::{MacroEvent, MacroHeader, MacroOperation, MacroUnit};
 pub use name_tables::{NameCounts, NameTable};
 pub use numbers::{fits_size, number_at, number_in, push_long, push_word, put_number};

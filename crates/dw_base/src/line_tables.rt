@@ -17,6 +17,15 @@ pub struct TextPlace {
     pub field: u64,
 }
 
+/// A text of a line table's directories and files.
+#[derive(Clone, Copy, Debug, PartialEq, Eq)]
+pub struct LineText {
+    /// Where it stands.
+    pub place: TextPlace,
+    /// Whether it is the path of its entry.
+    pub path: bool,
+}
+
 /// A file of a line table.
 #[derive(Clone, Copy, Debug, PartialEq, Eq)]
 pub struct FilePlace {

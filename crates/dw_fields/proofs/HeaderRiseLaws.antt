@@ -3,9 +3,8 @@ use Rattle.std.proofs.Common.{Bool, false, ◌≡◌, ℕ, ◌+◌, ◌<◌, ◌
 use Rattle.std.specs.Prelude.{Result, Ok}
 use Rattle.std.proofs.lemmas.Bool.{eq-eqb, ne_eqb}
 use Rattle.dw_base.specs.Forms.{width_size}
-use Rattle.dw_base.specs.LineEntries.{columns, entries_at, entry_at, with_column}
+use Rattle.dw_base.specs.LineEntries.{columns, entries_at, entry_at, with_column, list_end, place_behind}
 use Rattle.dw_base.specs.LineFields.{column_field, entries_fields, entry_fields, fields_behind, fields_counted, fields_formed, fields_there, list_fields, table_fields}
-use Rattle.dw_base.specs.LineMeanings.{list_end, place_behind}
 use Rattle.dw_base.specs.LineReadings.{LineReading, ReadsTable}
 use Rattle.dw_base.specs.LineSources.{LineSource}
 use Rattle.dw_base.specs.LineTables.{HasLists, LineTable, new_lists, old_lists, table_bytes}

@@ -2,7 +2,7 @@
 use Rattle.std.proofs.Common.{◌≡◌, ℕ, zero, suc, ◌+◌, ◌-◌, ◌<◌, ◌≤◌, List, [], ◌∷◌, ◌++◌, length, take, drop, get_or, Some, None, refl, sym, ap, ◌∙◌, subst, arith}
 use Rattle.std.specs.Prelude.{Result, Ok, Err}
 use Rattle.std.proofs.Math.Seq.{drop-cons}
-use Rattle.std.proofs.lemmas.List.{take_all, drop_all}
+use Rattle.std.proofs.lemmas.List.{take_all}
 use Rattle.dw_base.specs.LineSources.{LineSource}
 use Rattle.dw_base.specs.Lebs.{uleb_at}
 use Rattle.dw_base.specs.Values.{value_at}
@@ -46,30 +46,12 @@ value-none section order h table spec place e =
 pub ruleset value_laws = (value-inside, value-some, value-none)
 
 -- the columns one after another
-columns-step : (g : LineSource) (h : LineHeader) (table : List ℕ) (specs : List Spec) (i : ℕ) (d : Spec) (e : Entry) → i < length specs
+pub columns-step : (g : LineSource) (h : LineHeader) (table : List ℕ) (specs : List Spec) (i : ℕ) (d : Spec) (e : Entry) → i < length specs
     → columns g h table (drop i specs) e ≡ or_refused (columns g h table (drop (i + 1) specs)) (next_column g h table (get_or specs i d) e)
 columns-step g h table specs i d e lt =
     let one : suc i ≡ i + 1 = omega arith in
     ap (λ (ss : List Spec). columns g h table ss e) (drop-cons specs i d lt)
     ∙ ap (λ (k : ℕ). or_refused (columns g h table (drop k specs)) (next_column g h table (get_or specs i d) e)) one
-
-pub columns-more : (whole : Result Entry Refusal) (g : LineSource) (h : LineHeader) (table : List ℕ) (specs : List Spec) (i : ℕ) (d : Spec) (e next : Entry)
-    → whole ≡ columns g h table (drop i specs) e → i < length specs → Ok next ≡ next_column g h table (get_or specs i d) e
-    → whole ≡ columns g h table (drop (i + 1) specs) next
-columns-more whole g h table specs i d e next w lt n =
-    w ∙ columns-step g h table specs i d e lt ∙ ap (or_refused (columns g h table (drop (i + 1) specs))) (sym n)
-
-pub columns-refused : (whole : Result Entry Refusal) (g : LineSource) (h : LineHeader) (table : List ℕ) (specs : List Spec) (i : ℕ) (d : Spec) (e : Entry) (r : Refusal)
-    → whole ≡ columns g h table (drop i specs) e → i < length specs → Err r ≡ next_column g h table (get_or specs i d) e → Err r ≡ whole
-columns-refused whole g h table specs i d e r w lt n =
-    sym (w ∙ columns-step g h table specs i d e lt ∙ ap (or_refused (columns g h table (drop (i + 1) specs))) (sym n))
-
-pub columns-over : (whole : Result Entry Refusal) (g : LineSource) (h : LineHeader) (table : List ℕ) (specs : List Spec) (e : Entry)
-    → whole ≡ columns g h table (drop (length specs) specs) e → Ok e ≡ whole
-columns-over whole g h table specs e w =
-    sym (w ∙ ap (λ (ss : List Spec). columns g h table ss e) (drop_all (length specs) specs (omega arith)))
-
-pub ruleset column_laws = (columns-more, columns-refused, columns-over)
 
 -- the entries are what so many behind those so far make of them
 pub record EntriesFrom (g : LineSource) (h : LineHeader) (table : List ℕ) (specs : List Spec) (place left : ℕ) (files : List FilePlace) (next : ℕ) : Type 0 where

@@ -6,12 +6,11 @@ use Rattle.std.proofs.lemmas.Bool.Decides.{nat_tests}
 use Rattle.std.proofs.lemmas.List.{append-nil, append_assoc, drop_all}
 use Rattle.dw_base.specs.FileViews.{View, section_bytes}
 use Rattle.dw_base.specs.Lebs.{uleb_at}
-use Rattle.dw_base.specs.LineEntries.{column_at, counted_entries, entries_at, entry_at}
+use Rattle.dw_base.specs.LineEntries.{column_at, counted_entries, entries_at, entry_at, list_end, place_behind}
 use Rattle.dw_base.specs.LineFails.{ListsFail, new_dirs, new_files}
 use Rattle.dw_base.specs.LineFields.{column_field, entries_fields, entry_fields, fields_behind, fields_counted, list_fields, table_fields}
 use Rattle.dw_base.specs.LineFormats.{format_at}
 use Rattle.dw_base.specs.LineHeaders.{line_header}
-use Rattle.dw_base.specs.LineMeanings.{list_end, place_behind}
 use Rattle.dw_base.specs.LineReadings.{LineReading, ReadsTable}
 use Rattle.dw_base.specs.LineSources.{LineSource}
 use Rattle.dw_base.specs.LineTables.{HasLists, IsLineTable, LineTable, new_lists, table_bytes, texts_of}
@@ -29,7 +28,8 @@ use Rattle.dw_base.specs.declared.shared.Width.{Width}
 use Rattle.dw_base.specs.declared.values.Spec.{Spec}
 use Rattle.dw_lines.specs.HeaderFields.{AreHeaderFields, EntriesEnd, HasTable, HeaderHas, ListEnds, ListsEnd, header_fields, offset_places, offsets_at}
 use Rattle.dw_lines.specs.ViewSources.{view_source}
-use Rattle.dw_lines.proofs.EntryLaws.{EntriesFrom, entries-more, entries-over, entries-refused, entries-start}
+use Rattle.dw_lines.proofs.EntryLaws.{EntriesFrom, entries-more, entries-over, entries-start}
+use Rattle.dw_lines.proofs.EntryTextLaws.{read-refused}
 use Rattle.dw_lines.proofs.ReadingLaws.{reading_of, reading-reads, reading-table}
 use Rattle.dw_lines.proofs.TableLaws.{header-once, lists-end, lists-exclude}
 
@@ -121,7 +121,7 @@ entries-step g h table specs n next behind f e = rw (← e) refl
 
 pub go-more : (g : LineSource) (h : LineHeader) (table : List ℕ) (specs : List Spec) (place left next behind : ℕ) (f : FilePlace) (before so more : List ℕ)
     → EntriesGo g h table specs place left before so next → 0 < left → offsets_at h.width more ≡ offsets_at h.width so ++ entry_fields g h table specs next
-    → Ok (f, behind) ≡ entry_at g h table specs next → EntriesGo g h table specs place (left - 1) before more behind
+    → entry_at g h table specs next ≡ Ok (f, behind) → EntriesGo g h table specs place (left - 1) before more behind
 go-more g h table specs place zero next behind f before so more go lt m e = absurd (omega (arith, lt))
 go-more g h table specs place (suc n) next behind f before so more go lt m e =
     let same : n ≡ suc n - 1 = omega arith in
@@ -130,10 +130,10 @@ go-more g h table specs place (suc n) next behind f before so more go lt m e =
     (record {
       files = go.files ++ f ∷ [];
       read = subst (λ (k : ℕ). EntriesFrom g h table specs place k (go.files ++ f ∷ []) behind) (sym same)
-          (entries-more g h table specs place (suc n) next behind go.files (go.files ++ f ∷ []) f go.read lt e refl);
+          (entries-more g h table specs place (suc n) next behind go.files (go.files ++ f ∷ []) f go.read lt (sym e) refl);
       fields = ap (λ (fs : List FieldPlace). fs ++ rest) m
           ∙ append_assoc (offsets_at h.width so) (entry_fields g h table specs next) rest
-          ∙ ap (λ (fs : List FieldPlace). offsets_at h.width so ++ fs) (sym (entries-step g h table specs n next behind f e))
+          ∙ ap (λ (fs : List FieldPlace). offsets_at h.width so ++ fs) (sym (entries-step g h table specs n next behind f (sym e)))
           ∙ go.fields;
     })
 
@@ -147,10 +147,10 @@ pub go-over : (g : LineSource) (h : LineHeader) (table : List ℕ) (specs : List
 go-over g h table specs place zero next before so go le = sym (append-nil (offsets_at h.width so)) ∙ go.fields
 go-over g h table specs place (suc n) next before so go le = absurd (omega (arith, le))
 
-pub go-refused : (g : LineSource) (h : LineHeader) (table : List ℕ) (specs : List Spec) (place left next : ℕ) (before so : List ℕ) (r : Refusal)
-    → EntriesGo g h table specs place left before so next → 0 < left → Err r ≡ entry_at g h table specs next
-    → counted_entries g h table specs place (uleb_at table place) ≡ Err r
-go-refused g h table specs place left next before so r go lt e = entries-refused g h table specs place left next go.files r go.read lt e
+pub go-refused : (g : LineSource) (h : LineHeader) (table : List ℕ) (specs : List Spec) (place left next : ℕ) (before so : List ℕ) (f : Fault)
+    → EntriesGo g h table specs place left before so next → 0 < left → Blames (λ r. entry_at g h table specs next ≡ Err r) f
+    → Blames (λ r. counted_entries g h table specs place (uleb_at table place) ≡ Err r) f
+go-refused g h table specs place left next before so f go lt b = read-refused g h table specs place left next go.files f go.read lt b
 
 pub ruleset entry_laws = (go-start, go-more, go-end, go-over, go-refused)
 

@@ -7,6 +7,7 @@ pub mod ShortLaws
 pub mod DiscriminatorLaws
 pub mod FormatLaws
 pub mod EntryLaws
+pub mod EntryTextLaws
 pub mod WalkLaws
 pub mod TableLaws
 pub mod PartLaws

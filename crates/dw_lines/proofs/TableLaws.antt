@@ -1,6 +1,7 @@
 -- Laws of a whole line table: what was read is the table, and what refuses it; one excludes the other.
-use Rattle.std.proofs.Common.{◌≡◌, ◌≢◌, ℕ, ◌+◌, ◌<◌, ◌≤◌, List, [], ◌∷◌, ◌++◌, length, take, get_or, Option, Some, None, sym, ap, ◌∙◌, subst, arith}
+use Rattle.std.proofs.Common.{Bool, false, ◌≡◌, ◌≢◌, ◌==◌, if◌then◌else◌, ℕ, ◌+◌, ◌<◌, ◌≤◌, List, [], ◌∷◌, ◌++◌, length, take, get_or, Option, Some, None, sym, ap, ◌∙◌, subst, arith}
 use Rattle.std.specs.Prelude.{Result, Ok, Err}
+use Rattle.std.proofs.lemmas.Bool.{ne_eqb}
 use Rattle.std.proofs.lemmas.List.{take_more, take_all, map-append}
 use Rattle.dw_base.specs.FileViews.{View, section_bytes}
 use Rattle.dw_base.specs.LineSources.{LineSource}
@@ -12,15 +13,18 @@ use Rattle.dw_base.specs.declared.fault.Kind.TheVariants.{Line}
 use Rattle.dw_base.specs.declared.fault.Refusal.{Refusal}
 use Rattle.dw_base.specs.declared.shared.Order.{Order}
 use Rattle.dw_base.specs.declared.line_tables.TextPlace.{TextPlace}
-use Rattle.dw_base.specs.LineEntries.{bad_table, entries_at}
+use Rattle.dw_base.specs.LineEntries.{bad_table, entries_at, list_end}
 use Rattle.dw_base.specs.LineFails.{ListsFail, old_dirs, old_files, new_dirs, new_files, LineFails, no_header, lists, passes, program}
 use Rattle.dw_base.specs.LineHeaders.{line_header}
-use Rattle.dw_base.specs.LineTables.{LineTable, table_with, table_bytes, texts_of, HasLists, old_lists, new_lists, IsLineTable}
+use Rattle.dw_base.specs.LineTables.{LineTable, table_made, table_bytes, texts_of, HasLists, old_lists, new_lists, IsLineTable}
+use Rattle.dw_base.specs.TableTexts.{as_path, as_paths, list_texts, texts_by}
 use Rattle.dw_base.specs.OldLineLists.{next_dir, next_file}
 use Rattle.dw_base.specs.LinePrograms.{next_opcode}
 use Rattle.dw_base.specs.Walks.{ComesTo, Breaks, Since}
 use Rattle.dw_base.specs.declared.line_tables.LineHeader.{LineHeader}
+use Rattle.dw_base.specs.declared.line_tables.LineText.{LineText}
 use Rattle.dw_base.specs.declared.line_tables.FilePlace.{FilePlace}
+use Rattle.dw_lines.proofs.EntryTextLaws.{texts-new}
 use Rattle.dw_lines.proofs.WalkLaws.{comes-one, comes-whole}
 
 -- the texts of entries, one after another
@@ -32,6 +36,16 @@ texts-more files i d texts more t lt m =
 
 pub texts-over : (files : List FilePlace) (i : ℕ) (texts : List TextPlace) → texts ≡ texts_of (take i files) → length files ≤ i → texts ≡ texts_of files
 texts-over files i texts t le = t ∙ ap texts_of (take_all i files le)
+
+-- and paths as texts
+pub paths-more : (paths : List TextPlace) (i : ℕ) (d : TextPlace) (texts more : List LineText) → texts ≡ as_paths (take i paths) → i < length paths
+    → more ≡ texts ++ as_path (get_or paths i d) ∷ [] → more ≡ as_paths (take (i + 1) paths)
+paths-more paths i d texts more t lt m =
+    m ∙ ap (λ (ts : List LineText). ts ++ as_path (get_or paths i d) ∷ []) t
+    ∙ sym (ap as_paths (take_more paths i d lt) ∙ map-append as_path (take i paths) (get_or paths i d ∷ []))
+
+pub paths-over : (paths : List TextPlace) (i : ℕ) (texts : List LineText) → texts ≡ as_paths (take i paths) → length paths ≤ i → texts ≡ as_paths paths
+paths-over paths i texts t le = t ∙ ap as_paths (take_all i paths le)
 
 -- version 5
 pub new-read : (g : LineSource) (h : LineHeader) (table : List ℕ) (dirs files : List FilePlace) (texts : List TextPlace) (place behind : ℕ) → h.version ≡ 5
@@ -49,7 +63,7 @@ pub new-files-fault : (g : LineSource) (h : LineHeader) (table : List ℕ) (dirs
 new-files-fault g h table dirs place NoMemory five d b = tt
 new-files-fault g h table dirs place (Refused r) five d b = new_files dirs place five d b
 
-pub ruleset new_laws = (new-read, new-dirs-fault, new-files-fault)
+pub ruleset new_laws = (new-read, texts-new, new-dirs-fault, new-files-fault)
 
 -- before version 5
 pub old-read : (v : View) (section : ℕ) (h : LineHeader) (table : List ℕ) (dirs : List TextPlace) (files : List FilePlace) (place behind : ℕ) → h.version ≢ 5
@@ -68,7 +82,14 @@ pub old-files-fault : (v : View) (section : ℕ) (h : LineHeader) (table : List 
 old-files-fault v section h table dirs place NoMemory other d b = tt
 old-files-fault v section h table dirs place (Refused r) other d b = rw b.same (old_files dirs place other d b.why)
 
-pub ruleset old_laws = (old-read, old-dirs-fault, old-files-fault)
+pub old-texts : (g : LineSource) (h : LineHeader) (table : List ℕ) (dirs paths : List TextPlace) (files : List FilePlace) (texts : List LineText) → h.version ≢ 5
+    → paths ≡ dirs ++ texts_of files → texts ≡ as_paths paths → texts ≡ texts_by g h table (dirs ++ texts_of files)
+old-texts g h table dirs paths files texts other p t =
+    let test : (h.version == 5) ≡ false = ne_eqb h.version 5 other in
+    t ∙ ap as_paths p
+    ∙ sym (ap (λ (b : Bool). if b then list_texts g h table h.lists ++ list_texts g h table (list_end g h table h.lists) else as_paths (dirs ++ texts_of files)) test)
+
+pub ruleset old_laws = (old-read, old-texts, old-dirs-fault, old-files-fault)
 
 -- lists are one thing, and what refuses them excludes them
 some-pair : {X : Type 0} (a b : X) (p q : ℕ) → ◌≡◌ {A = X × ℕ} (a, p) (b, q) → p ≡ q
@@ -148,11 +169,11 @@ table-excludes g start t r is (program h dirs files behind e l b) =
     (subst (λ (x : LineHeader). Breaks (next_opcode g.number x (table_bytes g x)) ([], x.program)) same b)
 
 -- what was read
-pub table-read : (v : View) (section start behind : ℕ) (order : Order) (bytes table : List ℕ) (h : LineHeader) (dirs : List TextPlace) (files defined : List FilePlace) (t : LineTable)
-    → order ≡ v.order → bytes ≡ section_bytes v section → Some h ≡ line_header order bytes start → table ≡ take h.end bytes
-    → HasLists (view_source v section) h table dirs files behind → behind ≤ h.program → ComesTo (next_opcode section h table) ([], h.program) defined
-    → t ≡ table_with section h dirs files defined → IsLineTable (view_source v section) start t
-table-read v section start behind order bytes table h dirs files defined t o b e tb l le p is =
+pub table-read : (v : View) (section start behind : ℕ) (order : Order) (bytes table : List ℕ) (h : LineHeader) (dirs : List TextPlace) (files defined : List FilePlace)
+    (texts : List LineText) (t : LineTable) → order ≡ v.order → bytes ≡ section_bytes v section → Some h ≡ line_header order bytes start → table ≡ take h.end bytes
+    → HasLists (view_source v section) h table dirs files behind → texts ≡ texts_by (view_source v section) h table (dirs ++ texts_of files) → behind ≤ h.program
+    → ComesTo (next_opcode section h table) ([], h.program) defined → t ≡ table_made section h dirs files defined texts → IsLineTable (view_source v section) start t
+table-read v section start behind order bytes table h dirs files defined texts t o b e tb l x le p is =
     let same : table ≡ table_bytes (view_source v section) h = tb ∙ ap (take h.end) b in
     record {
       header = h;
@@ -160,7 +181,9 @@ table-read v section start behind order bytes table h dirs files defined t o b e
       files = files;
       defined = defined;
       behind = behind;
-      is = is;
+      is =
+          is ∙ ap (table_made section h dirs files defined)
+          (x ∙ ap (λ (bs : List ℕ). texts_by (view_source v section) h bs (dirs ++ texts_of files)) same);
       header_is = sym (e ∙ ap (λ (x : Order). line_header x bytes start) o ∙ ap (λ (bs : List ℕ). line_header v.order bs start) b);
       lists = subst (λ (x : List ℕ). HasLists (view_source v section) h x dirs files behind) same l;
       before = le;

@@ -131,44 +131,44 @@ number-behind h =
     omega (arith, place)
 
 header-runs : (g : LineSource) (m : PathMap) (places : TextPlace → Option ℕ) (h : LineHeader) (dirs : List TextPlace) (files defined : List FilePlace) (new : ℕ)
-    → PathsInOrder g m places (table_with g.number h dirs files defined)
-    → runs_from h.start new (table_stretches g m places (table_with g.number h dirs files defined))
+    → PathsInOrder g m places (table_with g h dirs files defined)
+    → runs_from h.start new (table_stretches g m places (table_with g h dirs files defined))
     ≡ header_runs h new (all_path_stretches g m places h.width (dirs ++ texts_of files))
 unfolding table_stretches
 header-runs g m places h dirs files defined new order =
     parts-runs h.start (length_size h.width) (header_length_place h.start h.width h.version) (width_size h.width) h.program h.end new
-    (length_bytes g.order h.width (length (rest_cells g (table_with g.number h dirs files defined) (header_cells g m places (table_with g.number h dirs files defined)))))
-    (number_bytes g.order (width_size h.width) (length (header_cells g m places (table_with g.number h dirs files defined))))
+    (length_bytes g.order h.width (length (rest_cells g (table_with g h dirs files defined) (header_cells g m places (table_with g h dirs files defined)))))
+    (number_bytes g.order (width_size h.width) (length (header_cells g m places (table_with g h dirs files defined))))
     (all_path_stretches g m places h.width (dirs ++ texts_of files))
-    (length-bytes g.order h.width (length (rest_cells g (table_with g.number h dirs files defined) (header_cells g m places (table_with g.number h dirs files defined)))))
-    (length-number_bytes g.order (width_size h.width) (length (header_cells g m places (table_with g.number h dirs files defined)))) (number-behind h) order
+    (length-bytes g.order h.width (length (rest_cells g (table_with g h dirs files defined) (header_cells g m places (table_with g h dirs files defined)))))
+    (length-number_bytes g.order (width_size h.width) (length (header_cells g m places (table_with g h dirs files defined)))) (number-behind h) order
 
 header-offsets : (g : LineSource) (m : PathMap) (places : TextPlace → Option ℕ) (h : LineHeader) (dirs : List TextPlace) (files defined : List FilePlace)
-    → PathsInOrder g m places (table_with g.number h dirs files defined)
-    → offsets_from h.start (table_stretches g m places (table_with g.number h dirs files defined)) ≡ placed_offsets (all_path_stretches g m places h.width (dirs ++ texts_of files))
+    → PathsInOrder g m places (table_with g h dirs files defined)
+    → offsets_from h.start (table_stretches g m places (table_with g h dirs files defined)) ≡ placed_offsets (all_path_stretches g m places h.width (dirs ++ texts_of files))
 unfolding table_stretches
 header-offsets g m places h dirs files defined order =
     parts-offsets h.start (length_size h.width) (header_length_place h.start h.width h.version) (width_size h.width) h.program h.end
-    (length_bytes g.order h.width (length (rest_cells g (table_with g.number h dirs files defined) (header_cells g m places (table_with g.number h dirs files defined)))))
-    (number_bytes g.order (width_size h.width) (length (header_cells g m places (table_with g.number h dirs files defined))))
+    (length_bytes g.order h.width (length (rest_cells g (table_with g h dirs files defined) (header_cells g m places (table_with g h dirs files defined)))))
+    (number_bytes g.order (width_size h.width) (length (header_cells g m places (table_with g h dirs files defined))))
     (all_path_stretches g m places h.width (dirs ++ texts_of files)) (number-behind h) order
 
 header-new : (g : LineSource) (m : PathMap) (places : TextPlace → Option ℕ) (h : LineHeader) (dirs : List TextPlace) (files defined : List FilePlace) (new : ℕ)
     → (passed (header_start h new) (all_path_stretches g m places h.width (dirs ++ texts_of files))).new
-    ≤ new_end new (table_stretches g m places (table_with g.number h dirs files defined))
+    ≤ new_end new (table_stretches g m places (table_with g h dirs files defined))
 unfolding table_stretches
 header-new g m places h dirs files defined new =
     let is = parts-new h.start (length_size h.width) (header_length_place h.start h.width h.version) (width_size h.width) h.program h.end new
-    (length_bytes g.order h.width (length (rest_cells g (table_with g.number h dirs files defined) (header_cells g m places (table_with g.number h dirs files defined)))))
-    (number_bytes g.order (width_size h.width) (length (header_cells g m places (table_with g.number h dirs files defined))))
+    (length_bytes g.order h.width (length (rest_cells g (table_with g h dirs files defined) (header_cells g m places (table_with g h dirs files defined)))))
+    (number_bytes g.order (width_size h.width) (length (header_cells g m places (table_with g h dirs files defined))))
     (all_path_stretches g m places h.width (dirs ++ texts_of files))
-    (length-bytes g.order h.width (length (rest_cells g (table_with g.number h dirs files defined) (header_cells g m places (table_with g.number h dirs files defined)))))
-    (length-number_bytes g.order (width_size h.width) (length (header_cells g m places (table_with g.number h dirs files defined)))) (number-behind h) in
+    (length-bytes g.order h.width (length (rest_cells g (table_with g h dirs files defined) (header_cells g m places (table_with g h dirs files defined)))))
+    (length-number_bytes g.order (width_size h.width) (length (header_cells g m places (table_with g h dirs files defined)))) (number-behind h) in
     subst (λ (e : ℕ). (passed (header_start h new) (all_path_stretches g m places h.width (dirs ++ texts_of files))).new ≤ e) (sym is) (omega arith)
 
 -- and of one that was read
 pub table-runs : (g : LineSource) (m : PathMap) (places : TextPlace → Option ℕ) (h : LineHeader) (dirs ps : List TextPlace) (files : List FilePlace) (t : LineTable) (new : ℕ)
-    (runs more : List Run) → t ≡ table_with g.number h dirs files t.defined → ps ≡ dirs ++ texts_of files → PathsInOrder g m places t
+    (runs more : List Run) → t ≡ table_with g h dirs files t.defined → ps ≡ dirs ++ texts_of files → PathsInOrder g m places t
     → more ≡ runs ++ header_runs h new (all_path_stretches g m places h.width ps) → more ≡ runs ++ runs_from t.start new (table_stretches g m places t)
 table-runs g m places h dirs ps files t new runs more e p order is =
     is ∙ ap (λ (rs : List Run). runs ++ rs)
@@ -177,7 +177,7 @@ table-runs g m places h dirs ps files t new runs more e p order is =
     ∙ ap (λ (x : LineTable). runs_from x.start new (table_stretches g m places x)) (sym e))
 
 pub table-offsets : (g : LineSource) (m : PathMap) (places : TextPlace → Option ℕ) (h : LineHeader) (dirs ps : List TextPlace) (files : List FilePlace) (t : LineTable)
-    (offsets more : List NewFieldOffset) → t ≡ table_with g.number h dirs files t.defined → ps ≡ dirs ++ texts_of files → PathsInOrder g m places t
+    (offsets more : List NewFieldOffset) → t ≡ table_with g h dirs files t.defined → ps ≡ dirs ++ texts_of files → PathsInOrder g m places t
     → more ≡ offsets ++ placed_offsets (all_path_stretches g m places h.width ps) → more ≡ offsets ++ offsets_from t.start (table_stretches g m places t)
 table-offsets g m places h dirs ps files t offsets more e p order is =
     is ∙ ap (λ (fs : List NewFieldOffset). offsets ++ fs)
@@ -186,17 +186,17 @@ table-offsets g m places h dirs ps files t offsets more e p order is =
     ∙ ap (λ (x : LineTable). offsets_from x.start (table_stretches g m places x)) (sym e))
 
 pub table-order : (g : LineSource) (m : PathMap) (places : TextPlace → Option ℕ) (h : LineHeader) (dirs ps : List TextPlace) (files : List FilePlace) (t : LineTable)
-    → t ≡ table_with g.number h dirs files t.defined → ps ≡ dirs ++ texts_of files → PathsInOrder g m places t
+    → t ≡ table_with g h dirs files t.defined → ps ≡ dirs ++ texts_of files → PathsInOrder g m places t
     → InOrder (behind_lengths h.start h.width h.version) h.program (all_path_stretches g m places h.width ps)
 table-order g m places h dirs ps files t e p order =
     subst (λ (xs : List TextPlace). InOrder (behind_lengths h.start h.width h.version) h.program (all_path_stretches g m places h.width xs)) (sym p) (subst (PathsInOrder g m places) e order)
 
 pub table-fits : (g : LineSource) (m : PathMap) (places : TextPlace → Option ℕ) (h : LineHeader) (dirs ps : List TextPlace) (files : List FilePlace) (t : LineTable) (new : ℕ)
-    → t ≡ table_with g.number h dirs files t.defined → ps ≡ dirs ++ texts_of files → h.program ≤ 2 ^ 31 → new_end new (table_stretches g m places t) < 2 ^ 63
+    → t ≡ table_with g h dirs files t.defined → ps ≡ dirs ++ texts_of files → h.program ≤ 2 ^ 31 → new_end new (table_stretches g m places t) < 2 ^ 63
     → (passed (header_start h new) (all_path_stretches g m places h.width ps)).new + h.program < 2 ^ 64
 table-fits g m places h dirs ps files t new e p small fits =
     let last = header-new g m places h dirs files t.defined new in
-    let same : new_end new (table_stretches g m places t) ≡ new_end new (table_stretches g m places (table_with g.number h dirs files t.defined)) =
+    let same : new_end new (table_stretches g m places t) ≡ new_end new (table_stretches g m places (table_with g h dirs files t.defined)) =
     ap (λ (x : LineTable). new_end new (table_stretches g m places x)) e in
     subst (λ (xs : List TextPlace). (passed (header_start h new) (all_path_stretches g m places h.width xs)).new + h.program < 2 ^ 64) (sym p) (omega (arith, last, same, small, fits))
 

@@ -22,7 +22,7 @@ use Rattle.dw_base.specs.LineSources.{LineSource}
 use Rattle.dw_lines.specs.OffsetRooms.{AllHaveRoom}
 use Rattle.dw_lines.specs.ViewSources.{view_source}
 use Rattle.dw_lines.proofs.RoomLaws.{table-room}
-use Rattle.dw_base.specs.LineTables.{LineTable, IsLineTable, table_bytes, table_with, texts_of}
+use Rattle.dw_base.specs.LineTables.{LineTable, IsLineTable, table_bytes, table_made, table_with, texts_of}
 use Rattle.dw_base.specs.LinePrograms.{next_opcode}
 use Rattle.dw_base.specs.Walks.{ComesTo, Since}
 use Rattle.dw_base.specs.LineWriteFails.{ProgramFails, WideOffset, wide, WriteFails, wide_table, wide_header, wide_offset, program, length_field, length_limit}
@@ -88,19 +88,19 @@ table-here v section start t is s p =
     subst (λ (n : ℕ). IsLineTable (view_source v n) start t) (sym s) (subst (λ (n : ℕ). IsLineTable (view_source v t.section) n t) (sym p) is)
 
 pub same-table : (g : LineSource) (start : ℕ) (t : LineTable) (h : LineHeader) (dirs : List TextPlace) (files : List FilePlace) → IsLineTable g start t → dirs ≡ t.dirs → files ≡ t.files
-    → Some h ≡ line_header g.order g.bytes start → t ≡ table_with g.number h dirs files t.defined
+    → Some h ≡ line_header g.order g.bytes start → t ≡ table_with g h dirs files t.defined
 same-table g start t h dirs files is d f e =
     let same : is.header ≡ h = header-once is.header h (line_header g.order g.bytes start) is.header_is (sym e) in
-    let fields : t ≡ table_with g.number h t.dirs t.files t.defined =
-    by_parts is.dirs is.files is.defined (is.is ∙ ap (λ (x : LineHeader). table_with g.number x is.dirs is.files is.defined) same) in
-    fields ∙ ap (λ (x : List TextPlace). table_with g.number h x t.files t.defined) (sym d)
-    ∙ ap (λ (x : List FilePlace). table_with g.number h dirs x t.defined) (sym f)
+    let fields : t ≡ table_with g h t.dirs t.files t.defined =
+    by_parts is.dirs is.files is.defined (is.is ∙ ap (λ (x : LineHeader). table_with g x is.dirs is.files is.defined) same) in
+    fields ∙ ap (λ (x : List TextPlace). table_with g h x t.files t.defined) (sym d)
+    ∙ ap (λ (x : List FilePlace). table_with g h dirs x t.defined) (sym f)
   where
-    by_parts : (ds : List TextPlace) (fs es : List FilePlace) → t ≡ table_with g.number h ds fs es → t ≡ table_with g.number h t.dirs t.files t.defined
+    by_parts : (ds : List TextPlace) (fs es : List FilePlace) → t ≡ table_with g h ds fs es → t ≡ table_with g h t.dirs t.files t.defined
     by_parts ds fs es q =
-        q ∙ ap (λ (x : List TextPlace). table_with g.number h x fs es) (sym (ap (λ (x : LineTable). x.dirs) q))
-        ∙ ap (λ (x : List FilePlace). table_with g.number h t.dirs x es) (sym (ap (λ (x : LineTable). x.files) q))
-        ∙ ap (λ (x : List FilePlace). table_with g.number h t.dirs t.files x) (sym (ap (λ (x : LineTable). x.defined) q))
+        q ∙ ap (λ (x : List TextPlace). table_with g h x fs es) (sym (ap (λ (x : LineTable). x.dirs) q))
+        ∙ ap (λ (x : List FilePlace). table_with g h t.dirs x es) (sym (ap (λ (x : LineTable). x.files) q))
+        ∙ ap (λ (x : List FilePlace). table_with g h t.dirs t.files x) (sym (ap (λ (x : LineTable). x.defined) q))
 
 -- and the files that it defines are those that its program does
 pub same-defined : (v : View) (section start : ℕ) (t : LineTable) (h : LineHeader) (files : List FilePlace) → IsLineTable (view_source v t.section) t.start t → section ≡ t.section
@@ -115,14 +115,14 @@ same-defined v section start t h files own s p d e =
 
 -- the offsets of its paths lie in the section
 pub paths-room : (g : LineSource) (start : ℕ) (t : LineTable) (h : LineHeader) (dirs paths : List TextPlace) (files : List FilePlace) → IsLineTable g start t
-    → t ≡ table_with g.number h dirs files t.defined → paths ≡ dirs ++ texts_of files → AllHaveRoom g.number h.width (length g.bytes) paths
+    → t ≡ table_with g h dirs files t.defined → paths ≡ dirs ++ texts_of files → AllHaveRoom g.number h.width (length g.bytes) paths
 paths-room g start t h dirs paths files is e p =
     subst (AllHaveRoom g.number h.width (length g.bytes)) (sym p)
     (subst (λ (x : LineTable). AllHaveRoom g.number x.width (length g.bytes) (x.dirs ++ texts_of x.files)) e (table-room g start t is))
 
 -- its parts
 pub lists-are : (g : LineSource) (m : PathMap) (places : TextPlace → Option ℕ) (h : LineHeader) (dirs paths : List TextPlace) (files defined : List FilePlace) (t : LineTable) (lists : List ℕ)
-    → t ≡ table_with g.number h dirs files defined → paths ≡ dirs ++ texts_of files
+    → t ≡ table_with g h dirs files defined → paths ≡ dirs ++ texts_of files
     → lists ≡ changed g.bytes (behind_lengths h.start h.width h.version) h.program (all_changes g m places h.width paths) → lists ≡ written_header g m places t
 unfolding written_header
 lists-are g m places h dirs paths files defined t lists e p l =
@@ -130,52 +130,52 @@ lists-are g m places h dirs paths files defined t lists e p l =
     (l ∙ ap (λ (xs : List TextPlace). changed g.bytes (behind_lengths h.start h.width h.version) h.program (all_changes g m places h.width xs)) p)
 
 pub front-is : (g : LineSource) (m : PathMap) (places : TextPlace → Option ℕ) (h : LineHeader) (dirs : List TextPlace) (files defined : List FilePlace) (t : LineTable) (lists front : List ℕ)
-    → t ≡ table_with g.number h dirs files defined → lists ≡ written_header g m places t → front ≡ with_header_length g (table_with g.number h [] [] []) lists
+    → t ≡ table_with g h dirs files defined → lists ≡ written_header g m places t → front ≡ with_header_length g (table_made g.number h [] [] [] []) lists
     → front ≡ written_front g m places t
 front-is g m places h dirs files defined t lists front e l f =
-    f ∙ subst (λ (x : LineTable). with_header_length g (table_with g.number h [] [] []) lists ≡ with_header_length g x lists) (sym e) refl
+    f ∙ subst (λ (x : LineTable). with_header_length g (table_made g.number h [] [] [] []) lists ≡ with_header_length g x lists) (sym e) refl
     ∙ ap (with_header_length g t) l
 
 rest-is : (g : LineSource) (m : PathMap) (places : TextPlace → Option ℕ) (h : LineHeader) (dirs : List TextPlace) (files defined : List FilePlace) (t : LineTable) (front : List ℕ)
-    → t ≡ table_with g.number h dirs files defined → front ≡ written_front g m places t → with_program g (table_with g.number h [] [] []) front ≡ written_rest g m places t
+    → t ≡ table_with g h dirs files defined → front ≡ written_front g m places t → with_program g (table_made g.number h [] [] [] []) front ≡ written_rest g m places t
 rest-is g m places h dirs files defined t front e f =
-    subst (λ (x : LineTable). with_program g (table_with g.number h [] [] []) front ≡ with_program g x front) (sym e) refl ∙ ap (with_program g t) f
+    subst (λ (x : LineTable). with_program g (table_made g.number h [] [] [] []) front ≡ with_program g x front) (sym e) refl ∙ ap (with_program g t) f
 
-width-is : (s : ℕ) (h : LineHeader) (dirs : List TextPlace) (files defined : List FilePlace) (t : LineTable) → t ≡ table_with s h dirs files defined → h.width ≡ t.width
-width-is s h dirs files defined t e = sym (ap (λ (x : LineTable). x.width) e)
+width-is : (g : LineSource) (h : LineHeader) (dirs : List TextPlace) (files defined : List FilePlace) (t : LineTable) → t ≡ table_with g h dirs files defined → h.width ≡ t.width
+width-is g h dirs files defined t e = sym (ap (λ (x : LineTable). x.width) e)
 
 pub table-is : (g : LineSource) (m : PathMap) (places : TextPlace → Option ℕ) (h : LineHeader) (dirs : List TextPlace) (files defined : List FilePlace) (t : LineTable) (front bytes : List ℕ)
-    → t ≡ table_with g.number h dirs files defined → front ≡ written_front g m places t
-    → bytes ≡ length_bytes g.order h.width (length (with_program g (table_with g.number h [] [] []) front)) ++ with_program g (table_with g.number h [] [] []) front
+    → t ≡ table_with g h dirs files defined → front ≡ written_front g m places t
+    → bytes ≡ length_bytes g.order h.width (length (with_program g (table_made g.number h [] [] [] []) front)) ++ with_program g (table_made g.number h [] [] [] []) front
     → bytes ≡ written_table g m places t
 unfolding written_table
 table-is g m places h dirs files defined t front bytes e f b =
     b ∙ ap (λ (xs : List ℕ). length_bytes g.order h.width (length xs) ++ xs) (rest-is g m places h dirs files defined t front e f)
-    ∙ ap (λ (x : Width). length_bytes g.order x (length (written_rest g m places t)) ++ written_rest g m places t) (width-is g.number h dirs files defined t e)
+    ∙ ap (λ (x : Width). length_bytes g.order x (length (written_rest g m places t)) ++ written_rest g m places t) (width-is g h dirs files defined t e)
 
 pub program-is : (g : LineSource) (m : PathMap) (places : TextPlace → Option ℕ) (h : LineHeader) (dirs : List TextPlace) (files defined : List FilePlace) (t : LineTable) (front : List ℕ) (p : ℕ)
-    → t ≡ table_with g.number h dirs files defined → front ≡ written_front g m places t → p ≡ length_size h.width + length front → p ≡ written_program g m places t
+    → t ≡ table_with g h dirs files defined → front ≡ written_front g m places t → p ≡ length_size h.width + length front → p ≡ written_program g m places t
 unfolding written_program
 program-is g m places h dirs files defined t front p e f b =
     b ∙ ap (λ (xs : List ℕ). length_size h.width + length xs) f
-    ∙ ap (λ (x : Width). length_size x + length (written_front g m places t)) (width-is g.number h dirs files defined t e)
+    ∙ ap (λ (x : Width). length_size x + length (written_front g m places t)) (width-is g h dirs files defined t e)
 
 -- what refuses it
 pub wide-fails : (g : LineSource) (m : PathMap) (places : TextPlace → Option ℕ) (h : LineHeader) (dirs : List TextPlace) (files defined : List FilePlace) (t : LineTable) (front : List ℕ) (f : Fault)
-    → t ≡ table_with g.number h dirs files defined → front ≡ written_front g m places t
-    → Blames (Since (at TooWide g.number (length_field h.start h.width)) (length_limit h.width ≤ length (with_program g (table_with g.number h [] [] []) front))) f
+    → t ≡ table_with g h dirs files defined → front ≡ written_front g m places t
+    → Blames (Since (at TooWide g.number (length_field h.start h.width)) (length_limit h.width ≤ length (with_program g (table_made g.number h [] [] [] []) front))) f
     → Blames (WriteFails g m places t) f
 wide-fails g m places h dirs files defined t front NoMemory e f b = tt
 wide-fails g m places h dirs files defined t front (Refused r) e f b =
     let rest = rest-is g m places h dirs files defined t front e f in
     let far : length_limit t.width ≤ length (written_rest g m places t) =
-    subst (λ (x : Width). length_limit x ≤ length (written_rest g m places t)) (width-is g.number h dirs files defined t e)
+    subst (λ (x : Width). length_limit x ≤ length (written_rest g m places t)) (width-is g h dirs files defined t e)
     (subst (λ (xs : List ℕ). length_limit h.width ≤ length xs) rest b.why) in
     let place : r ≡ at TooWide g.number (length_field t.start t.width) = b.same ∙ sym (ap (λ (x : LineTable). at TooWide g.number (length_field x.start x.width)) e) in
     rw place (wide_table far)
 
 pub offset-fails : (g : LineSource) (m : PathMap) (places : TextPlace → Option ℕ) (h : LineHeader) (dirs paths : List TextPlace) (files defined : List FilePlace) (t : LineTable) (r : Refusal)
-    → t ≡ table_with g.number h dirs files defined → paths ≡ dirs ++ texts_of files → WideOffset g.number h.width places paths r → WriteFails g m places t r
+    → t ≡ table_with g h dirs files defined → paths ≡ dirs ++ texts_of files → WideOffset g.number h.width places paths r → WriteFails g m places t r
 offset-fails g m places h dirs paths files defined t r e p w =
     subst (λ (x : LineTable). WriteFails g m places x r) (sym e) (wide_offset (subst (λ (xs : List TextPlace). WideOffset g.number h.width places xs r) p w))
 
@@ -206,19 +206,19 @@ fit-excludes s width places xs r fit (wide x place c other p far) =
     by_test false e h = grind (arith, nat_tests)
 
 pub write-excludes : (g : LineSource) (m : PathMap) (places : TextPlace → Option ℕ) (start : ℕ) (h : LineHeader) (dirs paths : List TextPlace) (files defined : List FilePlace) (t : LineTable)
-    (lists front : List ℕ) (r : Refusal) → t ≡ table_with g.number h dirs files defined → start ≡ t.start → Some h ≡ line_header g.order g.bytes start
+    (lists front : List ℕ) (r : Refusal) → t ≡ table_with g h dirs files defined → start ≡ t.start → Some h ≡ line_header g.order g.bytes start
     → paths ≡ dirs ++ texts_of files → lists ≡ written_header g m places t → front ≡ written_front g m places t
     → ((q : Refusal) → ProgramFails m g.number h (table_bytes g h) q → ⊥) → OffsetsFit g.number h.width places paths
-    → length (with_program g (table_with g.number h [] [] []) front) < length_limit h.width → WriteFails g m places t r → ⊥
+    → length (with_program g (table_made g.number h [] [] [] []) front) < length_limit h.width → WriteFails g m places t r → ⊥
 write-excludes g m places start h dirs paths files defined t lists front r e ps he p l f none fit lt (wide_table far) =
     let rest = ap length (rest-is g m places h dirs files defined t front e f) in
     let far : length_limit h.width ≤ length (written_rest g m places t) =
-    subst (λ (x : Width). length_limit x ≤ length (written_rest g m places t)) (sym (width-is g.number h dirs files defined t e)) far in
+    subst (λ (x : Width). length_limit x ≤ length (written_rest g m places t)) (sym (width-is g h dirs files defined t e)) far in
     absurd (omega (arith, rest, far, lt))
 write-excludes g m places start h dirs paths files defined t lists front r e ps he p l f none fit lt (wide_header far) =
     let rest = ap length (rest-is g m places h dirs files defined t front e f) in
     let far : 256 ^ width_size h.width ≤ length (written_header g m places t) =
-    subst (λ (x : Width). 256 ^ width_size x ≤ length (written_header g m places t)) (sym (width-is g.number h dirs files defined t e)) far in
+    subst (λ (x : Width). 256 ^ width_size x ≤ length (written_header g m places t)) (sym (width-is g h dirs files defined t e)) far in
     let limit = limit-below h.width in
     let inside = header-inside t (written_header g m places t) in
     absurd (omega (arith, rest, far, lt, limit, inside))

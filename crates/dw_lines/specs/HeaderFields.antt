@@ -2,9 +2,8 @@
 use Rattle.std.specs.Prelude.{◌≡◌, ℕ, ◌==◌, ◌||◌, if◌then◌else◌, List, [], ◌∷◌, ◌++◌, Ok}
 use Rattle.dw_base.specs.Forms.{width_size}
 use Rattle.dw_base.specs.Lebs.{uleb_at}
-use Rattle.dw_base.specs.LineEntries.{counted_entries, entries_at}
+use Rattle.dw_base.specs.LineEntries.{counted_entries, entries_at, list_end}
 use Rattle.dw_base.specs.LineFields.{list_fields, table_fields}
-use Rattle.dw_base.specs.LineMeanings.{list_end}
 use Rattle.dw_base.specs.LineReadings.{LineReading, ReadsTable, table_read}
 use Rattle.dw_base.specs.LineSources.{LineSource}
 use Rattle.dw_base.specs.LineTables.{HasLists, IsLineTable, LineTable}

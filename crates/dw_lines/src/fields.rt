@@ -75,6 +75,7 @@ fn push_columns(
 /// Appends those of the entries behind a format, by their count, and answers the place behind the entries.
 #[tactic(auto, using(crate::proofs::FieldLaws::entry_laws, crate::proofs::EntryLaws::entry_laws))]
 fn push_entries(
+    alloc: Global,
     view: &View,
     section: u32,
     header: &LineHeader,
@@ -92,13 +93,14 @@ fn push_entries(
     let Some((count, size)) = uleb_at(table, place) else {
         return Err(Fault::Refused(bad_table(section, header)));
     };
+    let mut texts = Vec::new(alloc);
     let mut left = count;
     let mut next = place + size;
     'entries: while left > 0 {
         push_columns(view, section, header, table, specs, next, places)?;
-        let (_, behind) = match entry_at(view, section, header, table, specs, next) {
+        let (_, behind) = match entry_at(view, section, header, table, specs, next, &mut texts) {
             Ok(entry) => entry,
-            Err(refusal) => return Err(Fault::Refused(refusal)),
+            Err(fault) => return Err(fault),
         };
         next = behind;
         left -= 1;
@@ -124,7 +126,7 @@ fn push_list(
     ensures refused { IfErr result (Blames (λ r. entries_at (view_source view.now section) header.now table.now place ≡ Err r)) }
 {
     let (specs, next) = format_at(alloc, table, place, bad_table(section, header))?;
-    push_entries(view, section, header, table, &specs, next, places)
+    push_entries(alloc, view, section, header, table, &specs, next, places)
 }
 
 /// Those of the lists of version 5.

@@ -40,7 +40,7 @@ mod texts;
 mod view_tables;
 mod written;
 
-pub use dw_base::{Fault, FilePlace, Kind, Refusal, TextPlace, Width};
+pub use dw_base::{Fault, FilePlace, Kind, LineText, Refusal, TextPlace, Width};
 pub use elf_relocs::Run;
 pub use fields::HeaderFields;
 pub use moves::NewFieldOffset;

@@ -1,19 +1,21 @@
 //! A line table (DWARF 5, 6.2.4).
 
-ghost use Rattle.std.specs.Prelude.{◌≡◌, ◌≢◌, ◌+◌, ◌-◌, ◌≤◌, ◌<◌, ◌^◌, length, IfOk, IfErr, OnOk};
+ghost use Rattle.std.specs.Prelude.{◌≡◌, ◌≢◌, ◌+◌, ◌-◌, ◌≤◌, ◌<◌, ◌^◌, ◌++◌, length, IfOk, IfErr, OnOk};
 ghost use Rattle.dw_base.specs.FileViews.{section_bytes};
 ghost use Rattle.dw_lines.specs.ViewSources.{view_source};
 ghost use Rattle.dw_base.specs.Refusals.{Blames};
 ghost use Rattle.dw_base.specs.declared.fault.Refusal.{Refusal as RefusalOf};
-ghost use Rattle.dw_base.specs.LineTables.{HasLists, IsLineTable, LineTable as LineTableOf, table_with, texts_of};
+ghost use Rattle.dw_base.specs.LineTables.{HasLists, IsLineTable, LineTable as LineTableOf, table_made, texts_of};
+ghost use Rattle.dw_base.specs.TableTexts.{as_paths, texts_by};
 ghost use Rattle.dw_base.specs.LineFails.{LineFails, ListsFail};
 
+use crate::changes::paths_of;
 use crate::columns::bad_table;
 use crate::entries::entries_at;
 use crate::header::line_header;
 use crate::old_lists::{old_dirs, old_files};
 use crate::program::defined_files;
-use dw_base::{Fault, FilePlace, Kind, LineHeader, Refusal, TextPlace, Width};
+use dw_base::{Fault, FilePlace, Kind, LineHeader, LineText, Refusal, TextPlace, Width};
 use dw_view::View;
 use std::alloc::{AllocError, Global};
 use std::marker::Model;
@@ -53,19 +55,22 @@ pub struct LineTable {
     pub files: Vec<FilePlace>,
     /// The files that the program defines, in the order of their places.
     pub defined: Vec<FilePlace>,
+    /// All texts of the directories and the files of the header, in the order of their places.
+    pub texts: Vec<LineText>,
 }
 
 impl Model for LineTable {
     ghost Value = { LineTableOf };
 
-    ghost view = { λ t. record { section = t.section; start = t.start; end = t.end; version = t.version; width = t.width; address = t.address; min_length = t.min_length; max_ops = t.max_ops; default_stmt = t.default_stmt; line_base = t.line_base; line_range = t.line_range; opcode_base = t.opcode_base; program = t.program; dirs = t.dirs.items; files = t.files.items; defined = t.defined.items } };
+    ghost view = { λ t. record { section = t.section; start = t.start; end = t.end; version = t.version; width = t.width; address = t.address; min_length = t.min_length; max_ops = t.max_ops; default_stmt = t.default_stmt; line_base = t.line_base; line_range = t.line_range; opcode_base = t.opcode_base; program = t.program; dirs = t.dirs.items; files = t.files.items; defined = t.defined.items; texts = t.texts.items } };
 }
 
-/// The directories and files of a header, and the place behind them.
+/// The directories and files of a header, all their texts, and the place behind them.
 #[derive(Drop)]
 pub(crate) struct Lists {
     pub(crate) dirs: Vec<TextPlace>,
     pub(crate) files: Vec<FilePlace>,
+    pub(crate) texts: Vec<LineText>,
     pub(crate) behind: u64,
 }
 
@@ -76,6 +81,20 @@ fn texts_of(alloc: Global, files: &[FilePlace]) -> Result<Vec<TextPlace>, AllocE
     let mut texts = Vec::new(alloc);
     for file in files {
         texts.push(file.text)?;
+    }
+    Ok(texts)
+}
+
+/// Paths as texts.
+fn as_paths(alloc: Global, paths: &[TextPlace]) -> Result<Vec<LineText>, AllocError>
+    ensures texts { IfOk result (λ texts. texts.items ≡ as_paths paths.now) }
+{
+    let mut texts = Vec::new(alloc);
+    for place in paths {
+        texts.push(LineText {
+            place: *place,
+            path: true,
+        })?;
     }
     Ok(texts)
 }
@@ -93,13 +112,23 @@ fn new_lists(
     requires within { length table.now ≤ length (section_bytes view.now section) }
     requires version { header.now.version ≡ 5 }
     ensures read { IfOk result (λ l. HasLists (view_source view.now section) header.now table.now l.dirs.items l.files.items l.behind) }
+    ensures texts { IfOk result (λ l. l.texts.items ≡ texts_by (view_source view.now section) header.now table.now (l.dirs.items ++ texts_of l.files.items)) }
     ensures refused { IfErr result (Blames (ListsFail (view_source view.now section) header.now table.now)) }
 {
-    let (dirs, place) = match entries_at(alloc, view, section, header, table, header.lists) {
+    let mut texts = Vec::new(alloc);
+    let (dirs, place) = match entries_at(
+        alloc,
+        view,
+        section,
+        header,
+        table,
+        header.lists,
+        &mut texts,
+    ) {
         Ok(read) => read,
         Err(fault) => return Err(fault),
     };
-    let (files, behind) = match entries_at(alloc, view, section, header, table, place) {
+    let (files, behind) = match entries_at(alloc, view, section, header, table, place, &mut texts) {
         Ok(read) => read,
         Err(fault) => return Err(fault),
     };
@@ -107,6 +136,7 @@ fn new_lists(
     Ok(Lists {
         dirs,
         files,
+        texts,
         behind,
     })
 }
@@ -122,6 +152,7 @@ pub(crate) fn old_lists(
 ) -> Result<Lists, Fault>
     requires version { header.now.version ≢ 5 }
     ensures read { IfOk result (λ l. HasLists (view_source view.now section) header.now table.now l.dirs.items l.files.items l.behind) }
+    ensures texts { IfOk result (λ l. l.texts.items ≡ texts_by (view_source view.now section) header.now table.now (l.dirs.items ++ texts_of l.files.items)) }
     ensures refused { IfErr result (Blames (ListsFail (view_source view.now section) header.now table.now)) }
 {
     let refusal = bad_table(section, header);
@@ -133,9 +164,12 @@ pub(crate) fn old_lists(
         Ok(read) => read,
         Err(fault) => return Err(fault),
     };
+    let paths = paths_of(alloc, &dirs, &files)?;
+    let texts = as_paths(alloc, &paths)?;
     Ok(Lists {
         dirs,
         files,
+        texts,
         behind,
     })
 }
@@ -151,6 +185,7 @@ fn lists_at(
     requires there { section < length view.now.sections }
     requires within { length table.now ≤ length (section_bytes view.now section) }
     ensures read { IfOk result (λ l. HasLists (view_source view.now section) header.now table.now l.dirs.items l.files.items l.behind) }
+    ensures texts { IfOk result (λ l. l.texts.items ≡ texts_by (view_source view.now section) header.now table.now (l.dirs.items ++ texts_of l.files.items)) }
     ensures refused { IfErr result (Blames (ListsFail (view_source view.now section) header.now table.now)) }
 {
     if header.version == 5 {
@@ -159,11 +194,16 @@ fn lists_at(
     old_lists(alloc, view, section, header, table)
 }
 
-/// The table of a header, with its lists.
-fn table_with(section: u32, header: &LineHeader, lists: Lists, defined: Vec<FilePlace>) -> LineTable
-    ensures table { result ≡ table_with section header.now lists.dirs.items lists.files.items defined.items }
+/// The table of a header, with its lists and their texts.
+fn table_made(section: u32, header: &LineHeader, lists: Lists, defined: Vec<FilePlace>) -> LineTable
+    ensures table { result ≡ table_made section header.now lists.dirs.items lists.files.items defined.items lists.texts.items }
 {
-    let Lists { dirs, files, .. } = lists;
+    let Lists {
+        dirs,
+        files,
+        texts,
+        ..
+    } = lists;
     LineTable {
         section,
         start: header.start,
@@ -181,6 +221,7 @@ fn table_with(section: u32, header: &LineHeader, lists: Lists, defined: Vec<File
         dirs,
         files,
         defined,
+        texts,
     }
 }
 
@@ -218,6 +259,6 @@ impl LineTable {
             Ok(defined) => defined,
             Err(fault) => return Err(fault),
         };
-        Ok(table_with(section, &header, lists, defined))
+        Ok(table_made(section, &header, lists, defined))
     }
 }

@@ -13,7 +13,7 @@ ghost use Rattle.dw_base.specs.Refusals.{Blames, at};
 ghost use Rattle.dw_base.specs.declared.debug_sections.DebugSection.TheVariants.{LineStr, Str};
 ghost use Rattle.dw_base.specs.declared.fault.Kind.TheVariants.{TooWide};
 ghost use Rattle.dw_base.specs.declared.fault.Refusal.{Refusal as RefusalOf};
-ghost use Rattle.dw_base.specs.LineTables.{IsLineTable, table_bytes, table_with};
+ghost use Rattle.dw_base.specs.LineTables.{IsLineTable, table_bytes, table_made};
 ghost use Rattle.dw_base.specs.LineHeaders.{line_header};
 ghost use Rattle.dw_base.specs.LinePrograms.{next_opcode};
 ghost use Rattle.dw_base.specs.Walks.{ComesTo, Since};
@@ -99,7 +99,7 @@ fn written_front(
 ) -> Result<Vec<u8>, AllocError>
     requires there { section < length view.now.sections }
     requires small { header.now.start ≤ 2 ^ 31 }
-    ensures bytes { IfOk result (λ out. out.items ≡ with_header_length (view_source view.now section) (table_with section header.now [] [] []) lists.now) }
+    ensures bytes { IfOk result (λ out. out.items ≡ with_header_length (view_source view.now section) (table_made section header.now [] [] [] []) lists.now) }
 {
     let version = header.start + header.width.length_size();
     let mut out = Vec::new(alloc);
@@ -142,10 +142,10 @@ fn whole_table(
 ) -> Result<WrittenTable, Fault>
     requires there { section < length view.now.sections }
     requires small { header.now.start ≤ 2 ^ 31 }
-    ensures bytes { IfOk result (λ w. w.bytes.items ≡ length_bytes view.now.order header.now.width (length (with_program (view_source view.now section) (table_with section header.now [] [] []) front.now)) ++ with_program (view_source view.now section) (table_with section header.now [] [] []) front.now) }
+    ensures bytes { IfOk result (λ w. w.bytes.items ≡ length_bytes view.now.order header.now.width (length (with_program (view_source view.now section) (table_made section header.now [] [] [] []) front.now)) ++ with_program (view_source view.now section) (table_made section header.now [] [] [] []) front.now) }
     ensures program { IfOk result (λ w. w.program ≡ length_size header.now.width + length front.now) }
-    ensures fits { OnOk result (length (with_program (view_source view.now section) (table_with section header.now [] [] []) front.now) < length_limit header.now.width) }
-    ensures refused { IfErr result (Blames (Since (at TooWide section (length_field header.now.start header.now.width)) (length_limit header.now.width ≤ length (with_program (view_source view.now section) (table_with section header.now [] [] []) front.now)))) }
+    ensures fits { OnOk result (length (with_program (view_source view.now section) (table_made section header.now [] [] [] []) front.now) < length_limit header.now.width) }
+    ensures refused { IfErr result (Blames (Since (at TooWide section (length_field header.now.start header.now.width)) (length_limit header.now.width ≤ length (with_program (view_source view.now section) (table_made section header.now [] [] [] []) front.now)))) }
 {
     let program = part(view.bytes(section), header.program, header.end);
     let len = front.len() as u64 + program.len() as u64;

@@ -6,9 +6,8 @@ use Rattle.std.proofs.lemmas.Bool.{cases_lt}
 use Rattle.std.proofs.lemmas.List.{drop-drop}
 use Rattle.dw_base.specs.Cells.{Cell, Relocation, first_relocation}
 use Rattle.dw_base.specs.Lebs.{uleb_at}
-use Rattle.dw_base.specs.LineEntries.{column_at, entry_at}
+use Rattle.dw_base.specs.LineEntries.{column_at, entry_at, list_end}
 use Rattle.dw_base.specs.LineFormats.{format_at}
-use Rattle.dw_base.specs.LineMeanings.{list_end}
 use Rattle.dw_base.specs.LineSources.{LineSource}
 use Rattle.dw_base.specs.RelocationFields.{reach_of, relocation_at}
 use Rattle.dw_base.specs.declared.dwarf_numbers.TheConstants.{DW_FORM_line_strp, DW_FORM_strp}

@@ -118,3 +118,4 @@ pub mod WorkedMeanings
 pub mod RebuiltLaws
 pub mod MentionLaws
 pub mod LeavingLaws
+pub mod LineTextLaws

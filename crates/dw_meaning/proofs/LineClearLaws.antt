@@ -6,10 +6,9 @@ use Rattle.std.proofs.lemmas.Bool.{eq-eqb, ne_eqb}
 use Rattle.dw_base.specs.Cells.{Cell, Relocation}
 use Rattle.dw_base.specs.Forms.{width_size}
 use Rattle.dw_base.specs.Lebs.{uleb_at}
-use Rattle.dw_base.specs.LineEntries.{column_at, columns, entry_at, entries_at, with_column}
+use Rattle.dw_base.specs.LineEntries.{column_at, columns, entry_at, entries_at, with_column, list_end, place_behind}
 use Rattle.dw_base.specs.LineFields.{column_field, entries_fields, entry_fields, fields_behind, fields_counted, fields_formed, fields_there, list_fields, table_fields}
 use Rattle.dw_base.specs.LineFormats.{format_at, is_column}
-use Rattle.dw_base.specs.LineMeanings.{list_end, place_behind}
 use Rattle.dw_base.specs.LineReadings.{LineReading, ReadsTable, TablesTo}
 use Rattle.dw_base.specs.LineSources.{LineSource}
 use Rattle.dw_base.specs.LineTables.{HasLists, new_lists, old_lists, table_bytes}

@@ -3,10 +3,11 @@ use Rattle.std.proofs.Common.{Bool, true, false, ◌≡◌, ℕ, zero, suc, ◌+
 use Rattle.std.specs.Prelude.{not}
 use Rattle.std.proofs.lemmas.Bool.{eq-eqb, ne_eqb}
 use Rattle.std.proofs.lemmas.List.{append-nil, length-drop, length-take-le, take-append-drop, map-append, take_all}
+use Rattle.dw_base.specs.LineEntries.{list_end, place_behind}
 use Rattle.dw_base.specs.RelocationFields.{relocation_at}
 use Rattle.dw_base.specs.Cells.{Cell, bytes_of}
 use Rattle.dw_base.specs.LineHeaders.{length_place}
-use Rattle.dw_base.specs.LineMeanings.{place_text, LineColumn, LineEntry, listed_columns, list_end, place_behind, old_columns, dir_columns, file_columns, entries_with, FileText, dir_texts, file_text, file_texts, file_path, ShownFile, item_at, dir_numbered, file_numbered, shown_in, shown_as, shown_file, ShownRow, shown_row, shown_rows, line_params, program_rows, LineMeaning, line_meaning, mapped_entry, mapped_shown, mapped_row, mapped_line}
+use Rattle.dw_base.specs.LineMeanings.{place_text, LineColumn, LineEntry, listed_columns, old_columns, dir_columns, file_columns, entries_with, FileText, dir_texts, file_text, file_texts, file_path, ShownFile, item_at, dir_numbered, file_numbered, shown_in, shown_as, shown_file, ShownRow, shown_row, shown_rows, line_params, program_rows, LineMeaning, line_meaning, mapped_entry, mapped_shown, mapped_row, mapped_line}
 use Rattle.dw_base.specs.LineReadings.{LineReading, ReadsTable, table_read}
 use Rattle.dw_base.specs.LineSources.{LineSource}
 use Rattle.dw_base.specs.LineWriteFails.{changes_path, DefinedStay}

@@ -6,9 +6,8 @@ use Rattle.std.proofs.lemmas.Bool.{cases_lt, eq-eqb, ne_eqb}
 use Rattle.std.proofs.lemmas.List.{take-append-drop}
 use Rattle.dw_base.specs.Cells.{Cell, Located, Relocation, bytes_of, cells_at, field_of, is_placed, offset_into, offset_of}
 use Rattle.dw_base.specs.Forms.{width_size}
-use Rattle.dw_base.specs.LineEntries.{columns, entries_at, with_column}
+use Rattle.dw_base.specs.LineEntries.{columns, entries_at, with_column, list_end, place_behind}
 use Rattle.dw_base.specs.LineFields.{column_field, entries_fields, entry_fields, fields_behind, fields_counted, fields_formed, fields_there, line_fields, list_fields, table_fields}
-use Rattle.dw_base.specs.LineMeanings.{list_end, place_behind}
 use Rattle.dw_base.specs.LineReadings.{LineReading, ReadsTable, TablesTo}
 use Rattle.dw_base.specs.LineSources.{LineSource}
 use Rattle.dw_base.specs.LineTexts.{named_text, text_of}

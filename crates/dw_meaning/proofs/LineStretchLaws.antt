@@ -6,8 +6,7 @@ use Rattle.std.proofs.lemmas.Bool.{eq-eqb, ne_eqb}
 use Rattle.std.proofs.lemmas.List.{append-nil}
 use Rattle.dw_base.specs.Cells.{Cell, bytes_of, cells_at, plain_cells}
 use Rattle.dw_base.specs.Forms.{width_size}
-use Rattle.dw_base.specs.LineEntries.{columns, entries_at, entry_at, with_column}
-use Rattle.dw_base.specs.LineMeanings.{list_end, place_behind}
+use Rattle.dw_base.specs.LineEntries.{columns, entries_at, entry_at, with_column, list_end, place_behind}
 use Rattle.dw_base.specs.LineReadings.{AreTables, LineReading, ReadsTable, TablesTo, table_read}
 use Rattle.dw_base.specs.LineSources.{LineSource}
 use Rattle.dw_base.specs.LineTables.{HasLists, new_lists, old_lists, table_bytes, texts_of}
