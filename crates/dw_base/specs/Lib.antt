@@ -98,3 +98,5 @@ pub mod MacroUnits
 pub mod MacroFails
 pub mod MacroOffsets
 pub mod CarriedRelocations
+pub mod TextLineChanges
+pub mod TextWriteFails

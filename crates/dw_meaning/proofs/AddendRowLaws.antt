@@ -20,7 +20,7 @@ use Rattle.dw_base.specs.declared.line_tables.TextPlace.{TextPlace}
 use Rattle.dw_base.specs.declared.shared.Width.{Width}
 use Rattle.dw_meaning.specs.NewAddends.{AddendMakes, AddendsFail, AddendsFit, EachPathMakes, EachTableMakes, Makes, MakesNew, MakesPath, MakesRole, Misses, PathMisses, PieceMisses, in_lines, in_macros, in_names, in_slots, in_unit, new_offset, places_by}
 
-makes-misses : (o : Option Relocation) (size n : ℕ) → Makes o size n → Misses o size n → ⊥
+pub makes-misses : (o : Option Relocation) (size n : ℕ) → Makes o size n → Misses o size n → ⊥
 makes-misses o size n makes m =
     let here : Makes (Some m.relocation) size n = subst (λ (x : Option Relocation). Makes x size n) m.begins makes in
     m.other (subst (λ (a : Option ℤ). AddendMakes a m.relocation size n) m.own here)

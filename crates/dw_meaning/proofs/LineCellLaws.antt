@@ -56,7 +56,7 @@ same-append [] us (y ∷ ys) vs h k = absurd h
 same-append (x ∷ xs) us [] vs h k = absurd h
 same-append (x ∷ xs) us (y ∷ ys) vs h k = (h.0, same-append xs us ys vs h.1 k)
 
-changed-bytes : (cells : List Cell) (from end : ℕ) (cs : List CellChange) (bs : List Change) → SameChanges cs bs
+pub changed-bytes : (cells : List Cell) (from end : ℕ) (cs : List CellChange) (bs : List Change) → SameChanges cs bs
     → bytes_of (changed_cells cells from end cs) ≡ changed (bytes_of cells) from end bs
 changed-bytes cells from end [] [] h = part-bytes cells from end
 changed-bytes cells from end [] (b ∷ bs) h = absurd h
@@ -72,24 +72,26 @@ changed-bytes cells from end (c ∷ cs) (b ∷ bs) h =
     (changed-bytes cells (c.at + c.old) end cs bs h.1
     ∙ ap (λ (i : ℕ). changed (bytes_of cells) (i + c.old) end bs) h.0.at ∙ ap (λ (i : ℕ). changed (bytes_of cells) (b.at + i) end bs) h.0.old))
 
--- what becomes of a path
+-- what becomes of an offset, and of a path
+pub offset-bytes : (g : LineSource) (width : Width) (field : ℕ) (o : Option ℕ) → bytes_of g.cells ≡ g.bytes
+    → SameChanges (offset_cells g.order width g.cells field o) (offset_changes g.order width g.bytes g.cells field o)
+offset-bytes g width field None own = tt
+offset-bytes g width field (Some place) own = (
+  record {
+    at = refl;
+    old = sym (length-bytes_of (cells_at g.cells field (width_size width)))
+        ∙ ap length (at-bytes g.cells field (width_size width) ∙ ap (λ (bs : List ℕ). bytes_at bs field (width_size width)) own);
+    new = refl;
+  },
+  tt,
+)
+
 pub path-bytes : (g : LineSource) (m : PathMap) (places : TextPlace → Option ℕ) (width : Width) (x : TextPlace) → bytes_of g.cells ≡ g.bytes
     → SameChanges (path_cells g m places width x) (path_changes g m places width x)
 path-bytes g m places width x own = by_section (x.section == g.number)
   where
     at : (place n : ℕ) → bytes_of (cells_at g.cells place n) ≡ bytes_at g.bytes place n
     at place n = at-bytes g.cells place n ∙ ap (λ (bs : List ℕ). bytes_at bs place n) own
-
-    by_place : (o : Option ℕ) → SameChanges (offset_cells g.order width g.cells x.field o) (offset_changes g.order width g.bytes g.cells x.field o)
-    by_place None = tt
-    by_place (Some place) = (
-      record {
-        at = refl;
-        old = sym (length-bytes_of (cells_at g.cells x.field (width_size width))) ∙ ap length (at x.field (width_size width));
-        new = refl;
-      },
-      tt,
-    )
 
     by_section : (b : Bool) → SameChanges (if b then inline_cells m g.cells x ∷ [] else offset_cells g.order width g.cells x.field (places x))
         (if b then record { at = x.at; old = bytes_at g.bytes x.at x.len; new = mapped_path m (bytes_at g.bytes x.at x.len) } ∷ []
@@ -102,7 +104,7 @@ path-bytes g m places width x own = by_section (x.section == g.number)
       },
       tt,
     )
-    by_section false = by_place (places x)
+    by_section false = offset-bytes g width x.field (places x) own
 
 pub paths-bytes : (g : LineSource) (m : PathMap) (places : TextPlace → Option ℕ) (width : Width) (xs : List TextPlace) → bytes_of g.cells ≡ g.bytes
     → SameChanges (all_path_cells g m places width xs) (all_changes g m places width xs)
@@ -137,7 +139,7 @@ number-bytes order size cells bytes is =
     ∙ ap (λ (n : ℕ). number_bytes order size n ++ bytes_of cells) (sym (length-bytes_of cells))
     ∙ ap (λ (x : List ℕ). number_bytes order size (length x) ++ x) is
 
-rest-bytes : (g : LineSource) (t : LineTable) (header : List Cell) (bytes : List ℕ) → bytes_of g.cells ≡ g.bytes → bytes_of header ≡ bytes
+pub rest-bytes : (g : LineSource) (t : LineTable) (header : List Cell) (bytes : List ℕ) → bytes_of g.cells ≡ g.bytes → bytes_of header ≡ bytes
     → bytes_of (rest_cells g t header)
     ≡ part g.bytes (t.start + length_size t.width) (header_length_place t.start t.width t.version)
     ++ (number_bytes g.order (width_size t.width) (length bytes) ++ bytes) ++ part g.bytes t.program t.end
@@ -176,34 +178,34 @@ written-bytes g m places t own =
 part-is : (cells : List Cell) (from end : ℕ) → IsPlain cells → IsPlain (cells_part cells from end)
 part-is cells from end plain = cells_at-plain cells from (end - from) plain
 
-abbrev EachPlain : List CellChange → Type 0
+abbrev pub EachPlain : List CellChange → Type 0
 EachPlain [] = ⊤
 EachPlain (c ∷ cs) = IsPlain c.new × EachPlain cs
 
-plains-append : (xs ys : List CellChange) → EachPlain xs → EachPlain ys → EachPlain (xs ++ ys)
+pub plains-append : (xs ys : List CellChange) → EachPlain xs → EachPlain ys → EachPlain (xs ++ ys)
 plains-append [] ys h k = k
 plains-append (x ∷ xs) ys h k = (h.0, plains-append xs ys h.1 k)
 
-changed-is : (cells : List Cell) (from end : ℕ) (cs : List CellChange) → IsPlain cells → EachPlain cs → IsPlain (changed_cells cells from end cs)
+pub changed-is : (cells : List Cell) (from end : ℕ) (cs : List CellChange) → IsPlain cells → EachPlain cs → IsPlain (changed_cells cells from end cs)
 changed-is cells from end [] plain h = part-is cells from end plain
 changed-is cells from end (c ∷ cs) plain h =
     plain-append (cells_part cells from c.at) (c.new ++ changed_cells cells (c.at + c.old) end cs) (part-is cells from c.at plain)
     (plain-append c.new (changed_cells cells (c.at + c.old) end cs) h.0 (changed-is cells (c.at + c.old) end cs plain h.1))
 
-path-is : (g : LineSource) (m : PathMap) (places : TextPlace → Option ℕ) (width : Width) (x : TextPlace) → IsPlain g.cells → EachPlain (path_cells g m places width x)
+pub offset-is : (g : LineSource) (width : Width) (field : ℕ) (o : Option ℕ) → IsPlain g.cells → EachPlain (offset_cells g.order width g.cells field o)
+offset-is g width field None plain = tt
+offset-is g width field (Some place) plain = (
+  subst IsPlain (sym (with_offset-is g.order (cells_at g.cells field (width_size width)) place (cells_at-plain g.cells field (width_size width) plain)))
+      (plain_cells-plain (number_bytes g.order (length (cells_at g.cells field (width_size width))) place)),
+  tt,
+)
+
+pub path-is : (g : LineSource) (m : PathMap) (places : TextPlace → Option ℕ) (width : Width) (x : TextPlace) → IsPlain g.cells → EachPlain (path_cells g m places width x)
 path-is g m places width x plain = by_section (x.section == g.number)
   where
-    by_place : (o : Option ℕ) → EachPlain (offset_cells g.order width g.cells x.field o)
-    by_place None = tt
-    by_place (Some place) = (
-      subst IsPlain (sym (with_offset-is g.order (cells_at g.cells x.field (width_size width)) place (cells_at-plain g.cells x.field (width_size width) plain)))
-          (plain_cells-plain (number_bytes g.order (length (cells_at g.cells x.field (width_size width))) place)),
-      tt,
-    )
-
     by_section : (b : Bool) → EachPlain (if b then inline_cells m g.cells x ∷ [] else offset_cells g.order width g.cells x.field (places x))
     by_section true = (plain_cells-plain (mapped_path m (bytes_of (cells_at g.cells x.at x.len))), tt)
-    by_section false = by_place (places x)
+    by_section false = offset-is g width x.field (places x) plain
 
 paths-are : (g : LineSource) (m : PathMap) (places : TextPlace → Option ℕ) (width : Width) (xs : List TextPlace) → IsPlain g.cells
     → EachPlain (all_path_cells g m places width xs)
@@ -217,7 +219,7 @@ header-is g m places t plain =
     changed-is g.cells (behind_lengths t.start t.width t.version) t.program (all_path_cells g m places t.width (paths_of t)) plain
     (paths-are g m places t.width (paths_of t) plain)
 
-rest-is : (g : LineSource) (t : LineTable) (header : List Cell) → IsPlain g.cells → IsPlain header → IsPlain (rest_cells g t header)
+pub rest-is : (g : LineSource) (t : LineTable) (header : List Cell) → IsPlain g.cells → IsPlain header → IsPlain (rest_cells g t header)
 rest-is g t header plain h =
     plain-append
     (cells_part g.cells (t.start + length_size t.width) (header_length_place t.start t.width t.version)

@@ -65,11 +65,11 @@ old-paths g table p [] e d = tt
 old-paths g table p (f ∷ fs) e d = (inline-path g table p f.text d.0.text, old-paths g table d.0.next fs e d.1)
 
 -- of entries of a format
-abbrev AnyPath : LineSource → Option TextPlace → Type 0
+abbrev pub AnyPath : LineSource → Option TextPlace → Type 0
 AnyPath g None = ⊤
 AnyPath g (Some t) = PathIs g t
 
-column-path : (g : LineSource) (h : LineHeader) (table : List ℕ) (spec : Spec) (p : ℕ) (c : Column) → ColumnIs g h table spec p c → AnyPath g c.text
+pub column-path : (g : LineSource) (h : LineHeader) (table : List ℕ) (spec : Spec) (p : ℕ) (c : Column) → ColumnIs g h table spec p c → AnyPath g c.text
 column-path g h table spec p c (inline_is form e) = stands_there _ refl
 column-path g h table spec p c (offset_is z i form room reads e) = named_there z i p e
 column-path g h table spec p c (value_is a b d v e) = tt
@@ -95,7 +95,7 @@ new-paths g h table specs p (f ∷ fs) e d =
     let x = entry-is g h table specs p f d.0.next d.0.entry in
     (subst (AnyPath g) x.text (columns-path g h table specs (record { text = None; dir = None; next = p }) x.last x.columns_are tt), new-paths g h table specs d.0.next fs e d.1)
 
-lists-paths : (g : LineSource) (h : LineHeader) (table : List ℕ) (dirs : List TextPlace) (files : List FilePlace) (behind : ℕ) → HasLists g h table dirs files behind
+pub lists-paths : (g : LineSource) (h : LineHeader) (table : List ℕ) (dirs : List TextPlace) (files : List FilePlace) (behind : ℕ) → HasLists g h table dirs files behind
     → EachPath g (dirs ++ texts_of files)
 lists-paths g h table dirs files behind (old_lists ds fs place e other d f) =
     each-append g dirs (texts_of files) (dirs-paths g table h.lists dirs place (dirs-of g.number table h.lists place dirs d))

@@ -58,21 +58,21 @@ abbrev pub Placed : List Cell → ℕ → ℕ → List PlacedStretch → Type 0
 Placed cells end p [] = p ≤ end
 Placed cells end p (c ∷ cs) = (p ≤ c.at) × StretchIs cells c.at c.stretch × Placed cells end (c.at + stretch_size c.stretch) cs
 
-placed-end : (cells : List Cell) (end p : ℕ) (cs : List PlacedStretch) → Placed cells end p cs → p ≤ end
+pub placed-end : (cells : List Cell) (end p : ℕ) (cs : List PlacedStretch) → Placed cells end p cs → p ≤ end
 placed-end cells end p [] h = h
 placed-end cells end p (c ∷ cs) h =
     let here = h.0 in
     let more = placed-end cells end (c.at + stretch_size c.stretch) cs h.2 in
     omega (arith, here, more)
 
-placed-before : (cells : List Cell) (end p q : ℕ) (cs : List PlacedStretch) → q ≤ p → Placed cells end p cs → Placed cells end q cs
+pub placed-before : (cells : List Cell) (end p q : ℕ) (cs : List PlacedStretch) → q ≤ p → Placed cells end p cs → Placed cells end q cs
 placed-before cells end p q [] le h = omega (arith, le, h)
 placed-before cells end p q (c ∷ cs) le h =
     let here = h.0 in
     (omega (arith, le, here), h.1, h.2)
 
 -- what is between them is kept
-between-are : (cells : List Cell) (end p : ℕ) (cs : List PlacedStretch) → Placed cells end p cs → StretchesAre cells p (stretches_between p end cs)
+pub between-are : (cells : List Cell) (end p : ℕ) (cs : List PlacedStretch) → Placed cells end p cs → StretchesAre cells p (stretches_between p end cs)
 between-are cells end p [] h = (tt, tt)
 between-are cells end p (c ∷ cs) h =
     let here = h.0 in
@@ -82,7 +82,7 @@ between-are cells end p (c ∷ cs) h =
           (h.1, between-are cells end (c.at + stretch_size c.stretch) cs h.2),
     )
 
-between-end : (cells : List Cell) (end p : ℕ) (cs : List PlacedStretch) → Placed cells end p cs → stretches_end p (stretches_between p end cs) ≡ end
+pub between-end : (cells : List Cell) (end p : ℕ) (cs : List PlacedStretch) → Placed cells end p cs → stretches_end p (stretches_between p end cs) ≡ end
 between-end cells end p [] h = omega (arith, h)
 between-end cells end p (c ∷ cs) h =
     let here = h.0 in
@@ -91,25 +91,25 @@ between-end cells end p (c ∷ cs) h =
     ∙ between-end cells end (c.at + stretch_size c.stretch) cs h.2
 
 -- stretches are these changes of cells
-record SameStretch (order : Order) (cells : List Cell) (c : CellChange) (s : PlacedStretch) : Type 0 where
-  at : c.at ≡ s.at
-  old : c.old ≡ length (cells_at cells s.at (stretch_size s.stretch))
-  new : c.new ≡ stretch_after order cells s.at s.stretch
+pub record SameStretch (order : Order) (cells : List Cell) (c : CellChange) (s : PlacedStretch) : Type 0 where
+  pub at : c.at ≡ s.at
+  pub old : c.old ≡ length (cells_at cells s.at (stretch_size s.stretch))
+  pub new : c.new ≡ stretch_after order cells s.at s.stretch
 
-abbrev SameStretches : Order → List Cell → List CellChange → List PlacedStretch → Type 0
+abbrev pub SameStretches : Order → List Cell → List CellChange → List PlacedStretch → Type 0
 SameStretches order cells [] [] = ⊤
 SameStretches order cells [] (s ∷ ss) = ⊥
 SameStretches order cells (c ∷ cs) [] = ⊥
 SameStretches order cells (c ∷ cs) (s ∷ ss) = SameStretch order cells c s × SameStretches order cells cs ss
 
-same-both : (order : Order) (cells : List Cell) (xs us : List CellChange) (ys vs : List PlacedStretch) → SameStretches order cells xs ys → SameStretches order cells us vs
+pub same-both : (order : Order) (cells : List Cell) (xs us : List CellChange) (ys vs : List PlacedStretch) → SameStretches order cells xs ys → SameStretches order cells us vs
     → SameStretches order cells (xs ++ us) (ys ++ vs)
 same-both order cells [] us [] vs h k = k
 same-both order cells [] us (y ∷ ys) vs h k = absurd h
 same-both order cells (x ∷ xs) us [] vs h k = absurd h
 same-both order cells (x ∷ xs) us (y ∷ ys) vs h k = (h.0, same-both order cells xs us ys vs h.1 k)
 
-same-path : (g : LineSource) (m : PathMap) (places : TextPlace → Option ℕ) (w : Width) (x : TextPlace)
+pub same-path : (g : LineSource) (m : PathMap) (places : TextPlace → Option ℕ) (w : Width) (x : TextPlace)
     → SameStretches g.order g.cells (path_cells g m places w x) (path_stretches g m places w x)
 same-path g m places w x = by_section (x.section == g.number)
   where
@@ -129,7 +129,7 @@ same-paths g m places w (x ∷ xs) =
     same-both g.order g.cells (path_cells g m places w x) (all_path_cells g m places w xs) (path_stretches g m places w x) (all_path_stretches g m places w xs)
     (same-path g m places w x) (same-paths g m places w xs)
 
-between-cells : (order : Order) (cells : List Cell) (end p : ℕ) (cs : List CellChange) (ss : List PlacedStretch) → SameStretches order cells cs ss → Placed cells end p ss
+pub between-cells : (order : Order) (cells : List Cell) (end p : ℕ) (cs : List CellChange) (ss : List PlacedStretch) → SameStretches order cells cs ss → Placed cells end p ss
     → end ≤ length cells → stretches_after order cells p (stretches_between p end ss) ≡ changed_cells cells p end cs
 between-cells order cells end p [] [] same h inside = append-nil (cells_part cells p end)
 between-cells order cells end p [] (s ∷ ss) same h inside = absurd same
@@ -187,13 +187,13 @@ inline-placed g m places w end cs p next x section at le clear h =
     )
 
 -- of an offset
-offset-placed : (g : LineSource) (w : Width) (end : ℕ) (cs : List PlacedStretch) (p : ℕ) (o : Option ℕ) → Placed g.cells end (p + width_size w) cs
+pub offset-placed : (g : LineSource) (w : Width) (end : ℕ) (cs : List PlacedStretch) (p : ℕ) (o : Option ℕ) → Placed g.cells end (p + width_size w) cs
     → Placed g.cells end p (offset_stretches w p o ++ cs)
 offset-placed g w end cs p None h = placed-before g.cells end (p + width_size w) p cs (omega arith) h
 offset-placed g w end cs p (Some to) h = (omega arith, tt, h)
 
 -- of a column
-column-placed : (g : LineSource) (m : PathMap) (old : List ℕ) (h : LineHeader) (places : TextPlace → Option ℕ) (end : ℕ) (cs : List PlacedStretch) (spec : Spec)
+pub column-placed : (g : LineSource) (m : PathMap) (old : List ℕ) (h : LineHeader) (places : TextPlace → Option ℕ) (end : ℕ) (cs : List PlacedStretch) (spec : Spec)
     (p : ℕ) (c : Column) (t : TextPlace) → TextsApart g → ColumnIs g h old spec p c → c.text ≡ Some t → Clear g.cells (clear_from spec p) c.next
     → Placed g.cells end c.next cs → Placed g.cells end p (path_stretches g m places h.width t ++ cs)
 column-placed g m old h places end cs spec p c t apart (inline_is form ends) is clear s =
@@ -328,7 +328,7 @@ stretches-append g m places w (x ∷ xs) ys =
     ap (λ (cs : List PlacedStretch). path_stretches g m places w x ++ cs) (stretches-append g m places w xs ys)
     ∙ sym (append_assoc (path_stretches g m places w x) (all_path_stretches g m places w xs) (all_path_stretches g m places w ys))
 
-lists-placed : (g : LineSource) (m : PathMap) (places : TextPlace → Option ℕ) (r : LineReading) (ds : List TextPlace) (fs : List FilePlace) (e : ℕ)
+pub lists-placed : (g : LineSource) (m : PathMap) (places : TextPlace → Option ℕ) (r : LineReading) (ds : List TextPlace) (fs : List FilePlace) (e : ℕ)
     → e ≡ r.behind → TextsApart g → TableClear g r → HasLists g r.header (table_bytes g r.header) ds fs e → e ≤ r.header.program
     → Placed g.cells r.header.program r.header.lists (all_path_stretches g m places r.header.width (ds ++ texts_of fs))
 lists-placed g m places r ds fs e same apart clear (old_lists dirs files place behind other d f) le =
@@ -371,6 +371,37 @@ table-placed g m places p r apart clear reads =
     (all_path_stretches g m places r.header.width (paths_of (table_read g r))) (header-lists g p r reads)
     (lists-placed g m places r r.dirs r.files r.behind refl apart clear reads.lists reads.before)
 
+-- a length, what stands before the length of a header, that length, the header, and the rest
+pub whole-stretched : (g : LineSource) (start n hl w program end : ℕ) (length_is number_is : List ℕ) (header : List Stretch) (cells : List Cell) → start + n ≤ hl → program ≤ end
+    → Clear g.cells start (start + n) → Clear g.cells hl (hl + w) → StretchesAre g.cells (hl + w) header → stretches_end (hl + w) header ≡ program
+    → stretches_after g.order g.cells (hl + w) header ≡ cells
+    → StretchedTo g.order g.cells start end (other_stretch n length_is ∷ kept_stretch (hl - (start + n)) ∷ other_stretch w number_is ∷ (header ++ kept_stretch (end - program) ∷ []))
+    (plain_cells length_is ++ ((cells_part g.cells (start + n) hl ++ (plain_cells number_is ++ cells)) ++ cells_part g.cells program end))
+whole-stretched g start n hl w program end length_is number_is header cells le last a b are ends same =
+    let at : hl ≡ start + n + (hl - (start + n)) = omega (arith, le) in
+    let behind : program + (end - program) ≡ end = omega (arith, last) in
+    record {
+      are = (
+        a,
+        (
+          tt,
+          subst (λ (i : ℕ). Clear g.cells i (i + w) × StretchesAre g.cells (i + w) (header ++ kept_stretch (end - program) ∷ [])) at
+              (b, are-append g.cells (hl + w) header (kept_stretch (end - program) ∷ []) are (tt, tt)),
+        ),
+      );
+      ends = ap (λ (i : ℕ). stretches_end (i + w) (header ++ kept_stretch (end - program) ∷ [])) (sym at) ∙ end-append (hl + w) header (kept_stretch (end - program) ∷ [])
+          ∙ ap (λ (i : ℕ). i + (end - program)) ends ∙ behind;
+      cells = ap (λ (l : List Cell). plain_cells length_is ++ l)
+          (ap (λ (i : ℕ). cells_part g.cells (start + n) hl ++ (plain_cells number_is ++ stretches_after g.order g.cells (i + w) (header ++ kept_stretch (end - program) ∷ []))) (sym at)
+          ∙ ap (λ (l : List Cell). cells_part g.cells (start + n) hl ++ (plain_cells number_is ++ l))
+          (after-append g.order g.cells (hl + w) header (kept_stretch (end - program) ∷ [])
+          ∙ ap (λ (l : List Cell). l ++ stretches_after g.order g.cells (stretches_end (hl + w) header) (kept_stretch (end - program) ∷ [])) same
+          ∙ ap (λ (i : ℕ). cells ++ stretches_after g.order g.cells i (kept_stretch (end - program) ∷ [])) ends
+          ∙ ap (λ (l : List Cell). cells ++ l) (append-nil (cells_part g.cells program end)))
+          ∙ ap (λ (l : List Cell). cells_part g.cells (start + n) hl ++ l) (sym (append_assoc (plain_cells number_is) cells (cells_part g.cells program end)))
+          ∙ sym (append_assoc (cells_part g.cells (start + n) hl) (plain_cells number_is ++ cells) (cells_part g.cells program end)));
+    }
+
 -- the stretches of a table are its cells
 pub table-are : (g : LineSource) (m : PathMap) (places : TextPlace → Option ℕ) (p : ℕ) (r : LineReading) → bytes_of g.cells ≡ g.bytes → TextsApart g → TableClear g r → ReadsTable g p r
     → StretchedTo g.order g.cells r.header.start r.header.end (table_stretches g m places (table_read g r)) (written_cells g m places (table_read g r))
@@ -386,7 +417,7 @@ table-are g m places p r own apart clear reads =
     let xe = x.end_is in
     let size : length g.bytes ≡ length g.cells = sym (ap length own) ∙ length-bytes_of g.cells in
     let placed = table-placed g m places p r apart clear reads in
-    go r.header.start (length_size r.header.width) (header_length_place r.header.start r.header.width r.header.version) (width_size r.header.width) r.header.program r.header.end
+    whole-stretched g r.header.start (length_size r.header.width) (header_length_place r.header.start r.header.width r.header.version) (width_size r.header.width) r.header.program r.header.end
     (length_bytes g.order r.header.width (length (rest_cells g (table_read g r) (header_cells g m places (table_read g r)))))
     (number_bytes g.order (width_size r.header.width) (length (header_cells g m places (table_read g r))))
     (stretches_between (behind_lengths r.header.start r.header.width r.header.version) r.header.program (all_path_stretches g m places r.header.width (paths_of (table_read g r))))
@@ -399,37 +430,6 @@ table-are g m places p r own apart clear reads =
     (between-end g.cells r.header.program (behind_lengths r.header.start r.header.width r.header.version) (all_path_stretches g m places r.header.width (paths_of (table_read g r))) placed)
     (between-cells g.order g.cells r.header.program (behind_lengths r.header.start r.header.width r.header.version) (all_path_cells g m places r.header.width (paths_of (table_read g r)))
     (all_path_stretches g m places r.header.width (paths_of (table_read g r))) (same-paths g m places r.header.width (paths_of (table_read g r))) placed (omega (arith, program, xw, xe, size)))
-  where
-    go : (start n hl w program end : ℕ) (length_is number_is : List ℕ) (header : List Stretch) (cells : List Cell) → start + n ≤ hl → program ≤ end
-        → Clear g.cells start (start + n) → Clear g.cells hl (hl + w) → StretchesAre g.cells (hl + w) header → stretches_end (hl + w) header ≡ program
-        → stretches_after g.order g.cells (hl + w) header ≡ cells
-        → StretchedTo g.order g.cells start end (other_stretch n length_is ∷ kept_stretch (hl - (start + n)) ∷ other_stretch w number_is ∷ (header ++ kept_stretch (end - program) ∷ []))
-        (plain_cells length_is ++ ((cells_part g.cells (start + n) hl ++ (plain_cells number_is ++ cells)) ++ cells_part g.cells program end))
-    go start n hl w program end length_is number_is header cells le last a b are ends same =
-        let at : hl ≡ start + n + (hl - (start + n)) = omega (arith, le) in
-        let behind : program + (end - program) ≡ end = omega (arith, last) in
-        record {
-          are = (
-            a,
-            (
-              tt,
-              subst (λ (i : ℕ). Clear g.cells i (i + w) × StretchesAre g.cells (i + w) (header ++ kept_stretch (end - program) ∷ [])) at
-                  (b, are-append g.cells (hl + w) header (kept_stretch (end - program) ∷ []) are (tt, tt)),
-            ),
-          );
-          ends = ap (λ (i : ℕ). stretches_end (i + w) (header ++ kept_stretch (end - program) ∷ [])) (sym at) ∙ end-append (hl + w) header (kept_stretch (end - program) ∷ [])
-              ∙ ap (λ (i : ℕ). i + (end - program)) ends ∙ behind;
-          cells = ap (λ (l : List Cell). plain_cells length_is ++ l)
-              (ap (λ (i : ℕ). cells_part g.cells (start + n) hl ++ (plain_cells number_is ++ stretches_after g.order g.cells (i + w) (header ++ kept_stretch (end - program) ∷ []))) (sym at)
-              ∙ ap (λ (l : List Cell). cells_part g.cells (start + n) hl ++ (plain_cells number_is ++ l))
-              (after-append g.order g.cells (hl + w) header (kept_stretch (end - program) ∷ [])
-              ∙ ap (λ (l : List Cell). l ++ stretches_after g.order g.cells (stretches_end (hl + w) header) (kept_stretch (end - program) ∷ [])) same
-              ∙ ap (λ (i : ℕ). cells ++ stretches_after g.order g.cells i (kept_stretch (end - program) ∷ [])) ends
-              ∙ ap (λ (l : List Cell). cells ++ l) (append-nil (cells_part g.cells program end)))
-              ∙ ap (λ (l : List Cell). cells_part g.cells (start + n) hl ++ l) (sym (append_assoc (plain_cells number_is) cells (cells_part g.cells program end)))
-              ∙ sym (append_assoc (cells_part g.cells (start + n) hl) (plain_cells number_is ++ cells) (cells_part g.cells program end)));
-        }
-
 -- and those of tables one behind another
 pub tables-are : (g : LineSource) (m : PathMap) (places : TextPlace → Option ℕ) (p e : ℕ) (rs : List LineReading) → bytes_of g.cells ≡ g.bytes → TablesApart g rs → EachClear g rs
     → TablesTo g p rs e → StretchedTo g.order g.cells p e (line_stretches g m places rs) (all_written_cells g m places rs)

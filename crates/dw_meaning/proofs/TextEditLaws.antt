@@ -409,7 +409,7 @@ mode-moves lc (at_chosen n tag start x xs) base s c around p t place f names fit
 mode-moves lc stuck base s c around p t place f names fits there = refl
 
 -- texts after mentions, and after more of them
-texts_after-append : (plan : Plan) (m : PathMap) (ts : List (List ℕ)) (xs ys : List Mention)
+pub texts_after-append : (plan : Plan) (m : PathMap) (ts : List (List ℕ)) (xs ys : List Mention)
     → texts_after plan m ts (xs ++ ys) ≡ texts_after plan m (texts_after plan m ts xs) ys
 texts_after-append plan m ts [] ys = refl
 texts_after-append plan m ts (x ∷ xs) ys = texts_after-append plan m (with_mention plan m ts x) xs ys

@@ -14,3 +14,4 @@ pub mod NewAddends
 pub mod PieceRuns
 pub mod RebuiltTables
 pub mod Leavings
+pub mod TextLineCells

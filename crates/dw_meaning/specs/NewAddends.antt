@@ -21,11 +21,13 @@ use Rattle.dw_base.specs.Roles.{Role, line_start, offset, role_of}
 use Rattle.dw_base.specs.SectionTexts.{macro_role, name_role, slot_role}
 use Rattle.dw_base.specs.StringTables.{new_place}
 use Rattle.dw_base.specs.TextChanges.{TableChanges, change_of, mention_at}
+use Rattle.dw_base.specs.TextLineChanges.{on_paths}
 use Rattle.dw_base.specs.UnitStates.{UnitState}
 use Rattle.dw_base.specs.WrittenLines.{paths_of}
 use Rattle.dw_base.specs.declared.debug_sections.DebugSection.TheVariants.{Str, LineStr, StrOffsets, Line, Names}
 use Rattle.dw_base.specs.declared.fault.Kind.TheVariants.{TooWide}
 use Rattle.dw_base.specs.declared.fault.Refusal.{Refusal}
+use Rattle.dw_base.specs.declared.line_tables.LineText.{LineText}
 use Rattle.dw_base.specs.declared.line_tables.TextPlace.{TextPlace}
 use Rattle.dw_base.specs.declared.shared.Width.{Width}
 
@@ -81,6 +83,20 @@ EachTableMakes g places [] = ⊤
 EachTableMakes g places (t ∷ ts) =
     EachPathMakes g places (table_read g t).width (paths_of (table_read g t)) × EachTableMakes g places ts
 
+-- the same of all texts of line tables: the new place of a text, as a path or beside one
+abbrev pub place_of : (LineText → Option ℕ) → LineText → Option ℕ
+place_of places x = if x.path then on_paths places x.place else places x
+
+-- the addend of each text's offset makes its new place
+abbrev pub EachTextMakes : LineSource → (LineText → Option ℕ) → Width → List LineText → Type 0
+EachTextMakes g places width [] = ⊤
+EachTextMakes g places width (x ∷ xs) =
+    MakesPath g width x.place (place_of places x) (x.place.section == g.number) × EachTextMakes g places width xs
+
+abbrev pub EachTextsMake : LineSource → (LineText → Option ℕ) → List LineReading → Type 0
+EachTextsMake g places [] = ⊤
+EachTextsMake g places (t ∷ ts) = EachTextMakes g places (table_read g t).width (table_read g t).texts × EachTextsMake g places ts
+
 -- the new places of texts of line tables
 abbrev pub places_by : TableChanges → DebugData → TextPlace → Option ℕ
 places_by changes d = line_place changes.map (changes.new Str) (changes.new LineStr) (line_source d)
@@ -111,6 +127,16 @@ pub record PathMisses (g : LineSource) (places : TextPlace → Option ℕ) (t : 
   pub place : ℕ
   pub put : places x ≡ Some place
   pub misses : Misses (relocation_at g.cells x.field) (width_size (table_read g t).width) place
+
+-- a text of a line table whose offset the addend doesn't make
+pub record TextMisses (g : LineSource) (places : LineText → Option ℕ) (t : LineReading) (x : LineText) : Type 0 where
+  pub before : List LineText
+  pub behind : List LineText
+  pub among : (table_read g t).texts ≡ before ++ x ∷ behind
+  pub named : (x.place.section == g.number) ≡ false
+  pub place : ℕ
+  pub put : place_of places x ≡ Some place
+  pub misses : Misses (relocation_at g.cells x.place.field) (width_size (table_read g t).width) place
 
 -- the row of the field whose addend doesn't make its new offset
 pub data AddendsFail (changes : TableChanges) (d : DebugData) (around : Around) (r : DataReadings) : Refusal → Type 0 where
