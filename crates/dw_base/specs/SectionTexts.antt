@@ -2,7 +2,7 @@
 -- name tables, which texts are named and in which order, and what becomes of these pieces.
 use Rattle.std.specs.Prelude.{false, ℕ, List, [], ◌∷◌, ◌++◌}
 use Rattle.dw_base.specs.DebugData.{Around, DataReadings, path_slots, source_around}
-use Rattle.dw_base.specs.LineChanges.{line_mentions}
+use Rattle.dw_base.specs.TextLineChanges.{all_texts_mentions}
 use Rattle.dw_base.specs.MacroPieces.{of_text, MacroMode, at_line, at_offset, MacroState}
 use Rattle.dw_base.specs.MacroReadings.{MacroReading}
 use Rattle.dw_base.specs.NamePieces.{NameMode, at_string, NameState}
@@ -56,7 +56,7 @@ abbrev pub file_mentions : TextSection → Around → DataReadings → List Ment
 file_mentions table around r =
     all_mentions table around r.units
     ++ (mentions_with (slot_role (path_slots around)) table around r.offsets
-    ++ (line_mentions (source_around around) table r.lines
+    ++ (all_texts_mentions (source_around around) table r.lines
     ++ (macro_mentions table around r.macros ++ mentions_with name_role table around r.names)))
 
 -- what becomes of pieces of roles

@@ -14,13 +14,12 @@ use Rattle.dw_base.specs.Roles.{Role, role_of}
 use Rattle.dw_base.specs.SectionTexts.{macro_role, name_role, slot_role}
 use Rattle.dw_base.specs.TextChanges.{TableChanges}
 use Rattle.dw_base.specs.UnitStates.{UnitState}
-use Rattle.dw_base.specs.WrittenLines.{paths_of}
 use Rattle.dw_base.specs.declared.fault.Refusal.{Refusal}
-use Rattle.dw_base.specs.declared.line_tables.TextPlace.{TextPlace}
+use Rattle.dw_base.specs.declared.line_tables.LineText.{LineText}
 use Rattle.dw_base.specs.declared.shared.Width.{Width}
-use Rattle.dw_meaning.specs.NewAddends.{AddendMakes, AddendsFail, AddendsFit, EachPathMakes, EachTableMakes, Makes, MakesNew, MakesPath, MakesRole, Misses, PathMisses, PieceMisses, in_lines, in_macros, in_names, in_slots, in_unit, new_offset, places_by}
+use Rattle.dw_meaning.specs.NewAddends.{AddendMakes, AddendsFail, AddendsFit, EachTextMakes, EachTextsMake, Makes, MakesNew, MakesPath, MakesRole, Misses, PieceMisses, TextMisses, in_lines, in_macros, in_names, in_slots, in_unit, new_offset, place_of, places_by}
 
-pub makes-misses : (o : Option Relocation) (size n : ℕ) → Makes o size n → Misses o size n → ⊥
+makes-misses : (o : Option Relocation) (size n : ℕ) → Makes o size n → Misses o size n → ⊥
 makes-misses o size n makes m =
     let here : Makes (Some m.relocation) size n = subst (λ (x : Option Relocation). Makes x size n) m.begins makes in
     m.other (subst (λ (a : Option ℤ). AddendMakes a m.relocation size n) m.own here)
@@ -41,15 +40,15 @@ macro-among : (P : Piece MacroState → Type 0) (before behind : List MacroReadi
 macro-among P [] behind q h = h.0
 macro-among P (y ∷ ys) behind q h = macro-among P ys behind q h.1
 
-table-among : (g : LineSource) (places : TextPlace → Option ℕ) (before behind : List LineReading) (t : LineReading) → EachTableMakes g places (before ++ t ∷ behind)
-    → EachPathMakes g places (table_read g t).width (paths_of (table_read g t))
+table-among : (g : LineSource) (places : LineText → Option ℕ) (before behind : List LineReading) (t : LineReading) → EachTextsMake g places (before ++ t ∷ behind)
+    → EachTextMakes g places (table_read g t).width (table_read g t).texts
 table-among g places [] behind t h = h.0
 table-among g places (y ∷ ys) behind t h = table-among g places ys behind t h.1
 
-path-among : (g : LineSource) (places : TextPlace → Option ℕ) (w : Width) (before behind : List TextPlace) (x : TextPlace) → EachPathMakes g places w (before ++ x ∷ behind)
-    → MakesPath g w x (places x) (x.section == g.number)
-path-among g places w [] behind x h = h.0
-path-among g places w (y ∷ ys) behind x h = path-among g places w ys behind x h.1
+text-among : (g : LineSource) (places : LineText → Option ℕ) (w : Width) (before behind : List LineText) (x : LineText) → EachTextMakes g places w (before ++ x ∷ behind)
+    → MakesPath g w x.place (place_of places x) (x.place.section == g.number)
+text-among g places w [] behind x h = h.0
+text-among g places w (y ∷ ys) behind x h = text-among g places w ys behind x h.1
 
 piece-misses : {S : Type 0} (role : Piece S → Role) (c : TableChanges) (around : Around) (xs : List (Piece S)) (x : Piece S)
     → EachPiece (λ y. MakesRole (role y) c around y.cells) xs → PieceMisses role c around xs x → ⊥
@@ -59,15 +58,15 @@ piece-misses {S} role c around xs x each m =
     (subst (λ (ys : List (Piece S)). EachPiece (λ y. MakesRole (role y) c around y.cells) ys) m.among each))
     m.put m.misses
 
-path-misses : (g : LineSource) (places : TextPlace → Option ℕ) (t : LineReading) (x : TextPlace) → EachPathMakes g places (table_read g t).width (paths_of (table_read g t))
-    → PathMisses g places t x → ⊥
-path-misses g places t x each m =
-    let here : MakesPath g (table_read g t).width x (places x) (x.section == g.number) =
-    path-among g places (table_read g t).width m.before m.behind x
-    (subst (λ (ys : List TextPlace). EachPathMakes g places (table_read g t).width ys) m.among each) in
-    makes-misses (relocation_at g.cells x.field) (width_size (table_read g t).width) m.place
-    (subst (λ (o : Option ℕ). MakesPath g (table_read g t).width x o false) m.put
-    (subst (λ (b : Bool). MakesPath g (table_read g t).width x (places x) b) m.named here))
+text-misses : (g : LineSource) (places : LineText → Option ℕ) (t : LineReading) (x : LineText) → EachTextMakes g places (table_read g t).width (table_read g t).texts
+    → TextMisses g places t x → ⊥
+text-misses g places t x each m =
+    let here : MakesPath g (table_read g t).width x.place (place_of places x) (x.place.section == g.number) =
+    text-among g places (table_read g t).width m.before m.behind x
+    (subst (λ (ys : List LineText). EachTextMakes g places (table_read g t).width ys) m.among each) in
+    makes-misses (relocation_at g.cells x.place.field) (width_size (table_read g t).width) m.place
+    (subst (λ (o : Option ℕ). MakesPath g (table_read g t).width x.place o false) m.put
+    (subst (λ (b : Bool). MakesPath g (table_read g t).width x.place (place_of places x) b) m.named here))
     m.misses
 
 pub addends-exclude : (c : TableChanges) (d : DebugData) (around : Around) (q : DataReadings) (r : Refusal) → AddendsFit c d around q → AddendsFail c d around q r → ⊥
@@ -82,6 +81,6 @@ addends-exclude c d around q r h (in_macros before behind u x split m) =
     (subst (λ (us : List MacroReading). EachMacro (λ y. MakesRole (macro_role y.state) c around y.cells) us) split h.macros)) m
 addends-exclude c d around q r h (in_names x m) = piece-misses (λ y. name_role y.state) c around q.names x h.names m
 addends-exclude c d around q r h (in_lines before behind t x split m) =
-    path-misses (line_source d) (places_by c d) t x
+    text-misses (line_source d) (places_by c d) t x
     (table-among (line_source d) (places_by c d) before behind t
-    (subst (λ (ts : List LineReading). EachTableMakes (line_source d) (places_by c d) ts) split h.lines)) m
+    (subst (λ (ts : List LineReading). EachTextsMake (line_source d) (places_by c d) ts) split h.lines)) m

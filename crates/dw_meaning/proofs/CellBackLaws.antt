@@ -9,7 +9,7 @@ use Rattle.dw_base.specs.DebugSections.{debug_section, name_of}
 use Rattle.dw_base.specs.Elf.{contents_of, e_type, nth_section, section_count, section_name}
 use Rattle.dw_base.specs.FileViews.{section_after, section_named, view_of, view_section}
 use Rattle.dw_base.specs.LayoutReads.{ReadsBack}
-use Rattle.dw_base.specs.LineChanges.{line_place}
+use Rattle.dw_base.specs.TextLineChanges.{text_place}
 use Rattle.dw_base.specs.LineReadings.{LineReading}
 use Rattle.dw_base.specs.Lists.{tabulate}
 use Rattle.dw_base.specs.Paths.{PathMap}
@@ -32,7 +32,7 @@ use Rattle.dw_base.proofs.RelocationBodyLaws.{CanMove}
 use Rattle.dw_base.proofs.SectionRelocationLaws.{cells_from-none}
 use Rattle.dw_base.proofs.ViewCellLaws.{view_cells-view_of}
 use Rattle.dw_meaning.specs.FileMeanings.{file_body, file_data, new_body}
-use Rattle.dw_meaning.specs.LineCells.{all_written_cells}
+use Rattle.dw_meaning.specs.TextLineCells.{all_cells_by_texts}
 use Rattle.dw_meaning.specs.RelocatedBodies.{cells_by, cells_of_number, unit_cells, new_cells, new_contents, old_contents}
 use Rattle.dw_meaning.proofs.AlikeCellLaws.{alike-length, roles-alike, units-alike}
 use Rattle.dw_meaning.proofs.BuildIdLaws.{first_below-found}
@@ -41,7 +41,7 @@ use Rattle.dw_meaning.proofs.DataKeptLaws.{edited_readings, edited_sections}
 use Rattle.dw_meaning.proofs.EditStayLaws.{AllFit, AllStay}
 use Rattle.dw_meaning.proofs.FileBackLaws.{AllAt, Back, SectionBack, is_read_name, section_name-back, plain-holder, sections-back, tabulate-at}
 use Rattle.dw_meaning.proofs.FileKeptLaws.{CanMap, IsApart, all-read, around_file, body-pieces, changes_file, differ, file-back, holder-body, line-bytes, line-place, lines-apart, lines-number, macro-apart, name-apart, named-apart, names-none, names-number, names-place, new_line_tables, new_macros, new_names, new_offsets, offsets-none, offsets-number, offsets-place, read-body, read-section, section_0, str-place, tables-place, unread-kept}
-use Rattle.dw_meaning.proofs.LineCellLaws.{all-bytes}
+use Rattle.dw_meaning.proofs.TextCellLaws.{text_tables-bytes}
 use Rattle.dw_meaning.proofs.LineRecordLaws.{lines-can}
 use Rattle.dw_meaning.proofs.LineSectionLaws.{no-tables}
 use Rattle.dw_meaning.proofs.MacroEditLaws.{edited_macro_sections}
@@ -71,7 +71,7 @@ now-bytes m b r i str line =
     body-pieces m b r i str line
     ∙ pieces-bytes ((file_data b).found StrOffsets).number ((file_data b).found Line).number ((file_data b).found Names).number (new_offsets m b r)
     (new_tables (changes_file m b r) (file_data b) (around_file b r) r) (new_names m b r) (new_line_tables m b r) (new_macros m b r) (changes_file m b r) (around_file b r) r.units
-    (contents_of b) (old_contents b i) i (old-bytes b i) (sym (all-bytes (changes_file m b r) (line_source (file_data b)) r.lines refl))
+    (contents_of b) (old_contents b i) i (old-bytes b i) (sym (text_tables-bytes (changes_file m b r) (line_source (file_data b)) r.lines refl))
 
 -- the sections of a file with their contents
 cells-self : (b : List ℕ) (i : ℕ) → i < section_count b → SectionCells b (old_contents b) i (view_section b i) (view_section b i)
@@ -221,7 +221,7 @@ zero-now m b r w lt =
   where
     lines-none : ((file_data b).found Line).contents ≡ [] → new_tables (changes_file m b r) (file_data b) (around_file b r) r ≡ []
     lines-none none =
-        ap (λ (rs : List LineReading). all_written_cells (line_source (file_data b)) m (line_place m ((changes_file m b r).new Str) ((changes_file m b r).new LineStr) (line_source (file_data b))) rs)
+        ap (λ (rs : List LineReading). all_cells_by_texts (line_source (file_data b)) m (text_place m ((changes_file m b r).new Str) ((changes_file m b r).new LineStr) (line_source (file_data b))) rs)
         (no-tables (line_source (file_data b)) r.lines (ap bytes_of none) w.reads.data_reads.lines)
 
 zero-can : (m : PathMap) (b : List ℕ) (r : DataReadings) (k : ℕ) → CanMap m b r → IsReadAt b 0 → relocation_section b 0 ≡ Some k
@@ -452,7 +452,7 @@ tables-back m b r out w back small =
     (λ i some same.
     cells-lines (changes_file m b r) (file_data b) (around_file b r) r (old_contents b i) i same (lines-offsets b i some (sym same)))
     (λ none.
-    ap (λ (rs : List LineReading). all_written_cells (line_source (file_data b)) m (line_place m ((changes_file m b r).new Str) ((changes_file m b r).new LineStr) (line_source (file_data b))) rs)
+    ap (λ (rs : List LineReading). all_cells_by_texts (line_source (file_data b)) m (text_place m ((changes_file m b r).new Str) ((changes_file m b r).new LineStr) (line_source (file_data b))) rs)
     (no-tables (line_source (file_data b)) r.lines (line-bytes b ∙ none) w.reads.data_reads.lines))
 
 names-named : (b : List ℕ) (i : ℕ) → 0 < i → i ≡ ((file_data b).found Names).number → section_name b i ≡ name_of Names

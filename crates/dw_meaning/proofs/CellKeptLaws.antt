@@ -8,7 +8,7 @@ use Rattle.dw_base.specs.DebugData.{Around, DataReadings, DebugData, ReadsAll, l
 use Rattle.dw_base.specs.DebugSections.{debug_section}
 use Rattle.dw_base.specs.Elf.{section_count, section_name}
 use Rattle.dw_base.specs.FileViews.{ViewSection, cells_of, section_after, section_named, view_cells, view_of}
-use Rattle.dw_base.specs.LineChanges.{line_place}
+use Rattle.dw_base.specs.TextLineChanges.{text_place}
 use Rattle.dw_base.specs.MacroReadings.{MacroReading, ReadsAllMacros}
 use Rattle.dw_base.specs.Pieces.{joined}
 use Rattle.dw_base.specs.Readings.{Readings}
@@ -19,7 +19,7 @@ use Rattle.dw_base.specs.ViewData.{cells_located, is_macro, macro_section, macro
 use Rattle.dw_base.specs.declared.debug_sections.DebugSection.TheVariants.{Str, LineStr, StrOffsets, Line, Names}
 use Rattle.dw_base.specs.declared.shared.Order.{Order}
 use Rattle.dw_meaning.specs.DataOutput.{macros_after, names_after, offsets_after}
-use Rattle.dw_meaning.specs.LineCells.{all_written_cells}
+use Rattle.dw_meaning.specs.TextLineCells.{all_cells_by_texts}
 use Rattle.dw_meaning.specs.RelocatedBodies.{CellBody, cell_body, cells_by, cells_of_number, macro_cells, unit_cells}
 use Rattle.dw_meaning.proofs.DataKeptLaws.{edited_readings, edited_sections}
 use Rattle.dw_meaning.proofs.FileBackLaws.{AllAt, SectionBack}
@@ -170,7 +170,7 @@ located-cells b bodies out name new all there gone =
 
 -- The new contents of a number, by the section that it is: string offsets, line tables, name tables, or what stands behind them.
 abbrev pub new_tables : TableChanges → DebugData → Around → DataReadings → List Cell
-new_tables c d around r = all_written_cells (line_source d) c.map (line_place c.map (c.new Str) (c.new LineStr) (line_source d)) r.lines
+new_tables c d around r = all_cells_by_texts (line_source d) c.map (text_place c.map (c.new Str) (c.new LineStr) (line_source d)) r.lines
 
 abbrev pub behind_named : TableChanges → Around → DataReadings → List CellBody
 behind_named c around r = macro_cells (macros_after c around r) ++ unit_cells c around r.units

@@ -5,7 +5,7 @@ use Rattle.std.proofs.lemmas.Bool.{ne_eqb, eq-eqb, eqb-true, cases_eq, lt-ltb}
 use Rattle.dw_base.specs.Cells.{Cell, Located, bytes_of}
 use Rattle.dw_meaning.specs.DataOutput.{DataFits, table_change, new_lines, changes_of, offsets_after, macros_after, names_after, Body, unit_bodies, macro_bodies, body_in, new_bodies}
 use Rattle.dw_base.specs.DebugData.{Around, DataReadings, around_of, line_source, path_slots}
-use Rattle.dw_base.specs.LineChanges.{line_mentions, lines_after}
+use Rattle.dw_base.specs.TextLineChanges.{all_texts_mentions, tables_by_texts}
 use Rattle.dw_base.specs.LineReadings.{LineReading, TablesTo, all_lines}
 use Rattle.dw_base.specs.MacroReadings.{MacroReading}
 use Rattle.dw_base.specs.Texts.{ends_in}
@@ -38,7 +38,7 @@ use Rattle.dw_base.proofs.UnitEditLaws.{length-bytes_of}
 use Rattle.dw_base.specs.declared.texts.TextSection.{TextSection}
 use Rattle.dw_base.specs.declared.texts.TextSection.TheVariants.{InStr, InLineStr}
 use Rattle.dw_meaning.proofs.LineColumnLaws.{texts_in}
-use Rattle.dw_meaning.proofs.LinePathLaws.{lines-none}
+use Rattle.dw_meaning.proofs.TextNoneLaws.{all_texts-none}
 use Rattle.dw_meaning.proofs.LineSectionLaws.{TablesApart, no-tables}
 use Rattle.std.proofs.lemmas.List.{length-append}
 use Rattle.dw_meaning.proofs.TableKeptLaws.{FoundAt, found-named, TablePlace, nowhere, lies_at, table-place, new_table-none, drop-at, found-back, sections-self}
@@ -178,9 +178,9 @@ texts-apart b at ends = by_place (line-place b)
 
 -- the mentions of line tables, where a table of texts isn't there
 lines_no : (m : PathMap) (table : TextSection) (b : List ℕ) (r : DataReadings) → CanMap m b r → (texts_in (line_source (file_data b)) table).bytes ≡ []
-    → line_mentions (line_source (file_data b)) table r.lines ≡ []
+    → all_texts_mentions (line_source (file_data b)) table r.lines ≡ []
 lines_no m table b r w none =
-    lines-none (line_source (file_data b)) table 0 (length (line_source (file_data b)).bytes) r.lines (texts-apart b) none w.reads.data_reads.lines
+    all_texts-none (line_source (file_data b)) table 0 (length (line_source (file_data b)).bytes) r.lines (texts-apart b) none w.reads.data_reads.lines
 
 -- a table that isn't there has no new bytes
 pub str-none : (m : PathMap) (b : List ℕ) (r : DataReadings) → CanMap m b r → ((file_data b).found Str).bytes ≡ [] → new_str m b r ≡ []
@@ -236,7 +236,7 @@ line-bytes b = bytes-cells (view_of b) (section_named (view_of b) (name_of Line)
 
 pub tables-none : (m : PathMap) (b : List ℕ) (r : DataReadings) → CanMap m b r → (located (view_of b) Line).bytes ≡ [] → new_line_tables m b r ≡ []
 tables-none m b r w none =
-    ap (λ (rs : List LineReading). all_lines (lines_after m (table_change m InStr (around_file b r) r) (table_change m InLineStr (around_file b r) r) (line_source (file_data b)) rs))
+    ap (λ (rs : List LineReading). all_lines (tables_by_texts m (table_change m InStr (around_file b r) r) (table_change m InLineStr (around_file b r) r) (line_source (file_data b)) rs))
     (no-tables (line_source (file_data b)) r.lines (line-bytes b ∙ none) w.reads.data_reads.lines)
 
 -- section 0 has no bytes

@@ -1,7 +1,7 @@
 -- What the fields of an output name is what those of its file name, mapped: so nothing is left in a table that is built from what fields name.
 use Rattle.std.proofs.Common.{◌≡◌, List, [], ◌∷◌, ◌++◌, refl, sym, ap, ◌∙◌}
 use Rattle.dw_base.specs.DebugData.{Around, DataReadings, DebugData, around_of, path_slots, source_around}
-use Rattle.dw_base.specs.LineChanges.{line_mentions}
+use Rattle.dw_base.specs.TextLineChanges.{all_texts_mentions}
 use Rattle.dw_base.specs.MacroReadings.{MacroReading}
 use Rattle.dw_base.specs.Paths.{PathMap}
 use Rattle.dw_base.specs.Readings.{Readings}
@@ -44,16 +44,16 @@ five m a b c d e as_ bs cs ds es f g h i j =
 
 -- what a file names after an edit, where line tables name so
 pub file-after : (m : PathMap) (d : DebugData) (r : DataReadings) (w : DataMoves m d r) (table : TextSection)
-    → line_mentions (source_around (data_shift m d r).new) table (lines-data m d r w).readings ≡ all_after m (line_mentions (source_around (around_of d r)) table r.lines)
+    → all_texts_mentions (source_around (data_shift m d r).new) table (lines-data m d r w).readings ≡ all_after m (all_texts_mentions (source_around (around_of d r)) table r.lines)
     → file_mentions table (around_of (edited_data (changes_of m (around_of d r) r) d r) (after_reads m d r w)) (after_reads m d r w) ≡ all_after m (file_mentions table (around_of d r) r)
 file-after m d r w table lines =
     let c : TableChanges = changes_of m (around_of d r) r in
     let s : Shift = data_shift m d r in
     ap (λ (a : Around). file_mentions table a (after_reads m d r w)) (around-edited m d r w)
     ∙ five m (all_mentions table (around_of d r) r.units) (mentions_with (slot_role (path_slots (around_of d r))) table (around_of d r) r.offsets)
-    (line_mentions (source_around (around_of d r)) table r.lines) (macro_mentions table (around_of d r) r.macros) (mentions_with name_role table (around_of d r) r.names)
+    (all_texts_mentions (source_around (around_of d r)) table r.lines) (macro_mentions table (around_of d r) r.macros) (mentions_with name_role table (around_of d r) r.names)
     (all_mentions table s.new (edited_readings c (around_of d r) r.units)) (mentions_with (slot_role (path_slots s.new)) table s.new (offsets_after c (around_of d r) r))
-    (line_mentions (source_around s.new) table (lines-data m d r w).readings) (macro_mentions table s.new (macros_after c (around_of d r) r))
+    (all_texts_mentions (source_around s.new) table (lines-data m d r w).readings) (macro_mentions table s.new (macros_after c (around_of d r) r))
     (mentions_with name_role table s.new (names_after c (around_of d r) r))
     (readings-after table s r.units (edited_readings c (around_of d r) r.units) (units-changed-all m d r w))
     (with-after (slot_role (path_slots (around_of d r))) table s r.offsets (offsets_after c (around_of d r) r) (offsets-changed m d r w))

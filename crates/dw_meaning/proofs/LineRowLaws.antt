@@ -11,10 +11,8 @@ use Rattle.dw_base.specs.LineTables.{table_bytes, HasLists, old_lists, new_lists
 use Rattle.dw_base.specs.LineWriteFails.{changes_path, changes_file, ProgramFails, defined, wide, WriteFails, wide_table, wide_header, wide_offset, program as defines, DefinedStay, CanWrite}
 use Rattle.dw_base.specs.OldLineLists.{next_dir, next_file}
 use Rattle.dw_base.specs.Paths.{PathMap}
-use Rattle.dw_base.specs.TextChanges.{TableChanges}
 use Rattle.dw_base.specs.Walks.{Step, goes, ends, Walks, no_step, one_more, ComesTo, Breaks}
 use Rattle.dw_base.specs.WrittenLines.{bytes_at}
-use Rattle.dw_base.specs.declared.debug_sections.DebugSection.TheVariants.{Str, LineStr}
 use Rattle.dw_base.specs.declared.fault.Refusal.{Refusal}
 use Rattle.dw_base.specs.declared.line_tables.FilePlace.{FilePlace}
 use Rattle.dw_base.specs.declared.line_tables.LineHeader.{LineHeader}
@@ -24,7 +22,6 @@ use Rattle.dw_meaning.specs.DataFails.{LinesFail, line_table as line_table_row}
 use Rattle.dw_meaning.proofs.LineHeaderLaws.{header-is}
 use Rattle.dw_meaning.proofs.LineOneLaws.{comes-one, lists-one, table-one, tables-behind}
 use Rattle.dw_meaning.proofs.LineReadLaws.{some-same}
-use Rattle.dw_meaning.proofs.LineSectionLaws.{EachCan}
 use Rattle.dw_meaning.proofs.LineTableLaws.{header-places}
 use Rattle.dw_meaning.proofs.LineWalkLaws.{Runs, at_end, further, runs-of, file_first, Opcodes, program_over, one_opcode, opcodes-read}
 use Rattle.std.proofs.lemmas.Bool.{lt-ltb}
@@ -181,8 +178,3 @@ pub record TableAmong (g : LineSource) (t : LineReading) : Type 0 where
 pub table-among : (g : LineSource) (p e : ℕ) (before behind : List LineReading) (t : LineReading) → TablesTo g p (before ++ t ∷ behind) e → TableAmong g t
 table-among g p e [] behind t h = record { start = p; reads = h.0 }
 table-among g p e (x ∷ xs) behind t h = table-among g x.header.end e xs behind t h.1
-
-pub can-among : (g : LineSource) (m : PathMap) (c : TableChanges) (before behind : List LineReading) (t : LineReading) → EachCan g m c (before ++ t ∷ behind)
-    → CanWrite g m (Rattle.dw_base.specs.LineChanges.line_place m (c.new Str) (c.new LineStr) g) (table_read g t)
-can-among g m c [] behind t h = h.0
-can-among g m c (x ∷ xs) behind t h = can-among g m c xs behind t h.1

@@ -12,18 +12,19 @@ use Rattle.dw_base.specs.RelocationFields.{relocation_at}
 use Rattle.dw_base.specs.SectionRelocations.{RelocationSource}
 use Rattle.dw_base.specs.WrittenLines.{cells_part}
 use Rattle.dw_base.specs.declared.debug_sections.DebugSection.TheVariants.{Line}
-use Rattle.dw_base.specs.declared.line_tables.TextPlace.{TextPlace}
+use Rattle.dw_base.specs.declared.line_tables.LineText.{LineText}
 use Rattle.dw_base.specs.declared.shared.Order.{Order}
-use Rattle.dw_meaning.specs.LineCells.{all_written_cells}
-use Rattle.dw_meaning.specs.LineStretches.{Stretch, kept_stretch, line_stretches, offset_stretch, other_stretch, stretch_after, stretch_size, stretches_after, stretches_end}
+use Rattle.dw_meaning.specs.LineStretches.{Stretch, kept_stretch, offset_stretch, other_stretch, stretch_after, stretch_size, stretches_after, stretches_end}
 use Rattle.dw_meaning.specs.RelocationFails.{LeftRelocationsRead}
+use Rattle.dw_meaning.specs.TextLineCells.{all_cells_by_texts, all_stretches_by_texts}
 use Rattle.dw_meaning.proofs.ClearLaws.{Clear, relocation-behind}
 use Rattle.dw_meaning.proofs.EditStayLaws.{AllFit, all-self, fit-parts, put-stays}
 use Rattle.dw_meaning.proofs.LineCellLaws.{cells-split}
 use Rattle.dw_meaning.proofs.LineClearLaws.{EachClear, each-clear}
 use Rattle.dw_meaning.proofs.LineSectionLaws.{TablesApart}
-use Rattle.dw_meaning.proofs.LineStretchLaws.{StretchIs, StretchesAre, section-are}
+use Rattle.dw_meaning.proofs.LineStretchLaws.{StretchIs, StretchesAre}
 use Rattle.dw_meaning.proofs.RecordShiftLaws.{MovesTo, moves-append, moves_new, moves_none, moves_old, stay-moves}
+use Rattle.dw_meaning.proofs.TextStretchLaws.{text_section-are}
 
 -- cells without relocations come, and others go
 pub plain-comes : (z : RelocationSource) (bs : List ℕ) (ys us : List Cell) → MovesTo z ys us → MovesTo z ys (plain_cells bs ++ us)
@@ -79,19 +80,19 @@ stretches-move z order cells p (x ∷ xs) fit h =
     (stretches_after order cells (p + stretch_size x) xs) (stretch-moves z order cells p x fit h.0) (stretches-move z order cells (p + stretch_size x) xs fit h.1))
 
 -- so do those of the whole section
-pub section-moves : (z : RelocationSource) (g : LineSource) (m : PathMap) (places : TextPlace → Option ℕ) (rs : List LineReading) → bytes_of g.cells ≡ g.bytes → AllFit z g.cells
-    → TablesApart g rs → EachClear g rs → AreTables g rs → MovesTo z g.cells (all_written_cells g m places rs)
+pub section-moves : (z : RelocationSource) (g : LineSource) (m : PathMap) (places : LineText → Option ℕ) (rs : List LineReading) → bytes_of g.cells ≡ g.bytes → AllFit z g.cells
+    → TablesApart g rs → EachClear g rs → AreTables g rs → MovesTo z g.cells (all_cells_by_texts g m places rs)
 section-moves z g m places rs own fit apart clear tables =
-    let s = section-are g m places rs own apart clear tables in
+    let s = text_section-are g m places rs own apart clear tables in
     let none : length g.cells - 0 ≡ length g.cells = omega arith in
     let whole : cells_part g.cells 0 (length g.cells) ≡ g.cells = ap (λ (n : ℕ). take n g.cells) none ∙ take_all (length g.cells) g.cells (omega arith) in
-    subst (λ (old : List Cell). MovesTo z old (all_written_cells g m places rs)) (ap (cells_part g.cells 0) s.ends ∙ whole)
-    (subst (MovesTo z (cells_part g.cells 0 (stretches_end 0 (line_stretches g m places rs)))) s.cells (stretches-move z g.order g.cells 0 (line_stretches g m places rs) fit s.are))
+    subst (λ (old : List Cell). MovesTo z old (all_cells_by_texts g m places rs)) (ap (cells_part g.cells 0) s.ends ∙ whole)
+    (subst (MovesTo z (cells_part g.cells 0 (stretches_end 0 (all_stretches_by_texts g m places rs)))) s.cells (stretches-move z g.order g.cells 0 (all_stretches_by_texts g m places rs) fit s.are))
 
 -- the line tables of debug data whose relocations are ones that are handled: each header is clear, and relocations move in order
 pub left-clear : (d : DebugData) (moving : List ℕ) (rs : List LineReading) → LeftRelocationsRead d moving → AreTables (line_source d) rs → EachClear (line_source d) rs
 left-clear d moving rs left tables = each-clear (line_source d) (length (line_source d).bytes) rs left.line_headers tables
 
-pub lines-move : (z : RelocationSource) (d : DebugData) (moving : List ℕ) (m : PathMap) (places : TextPlace → Option ℕ) (rs : List LineReading) → LeftRelocationsRead d moving
-    → AllFit z (d.found Line).contents → TablesApart (line_source d) rs → AreTables (line_source d) rs → MovesTo z (d.found Line).contents (all_written_cells (line_source d) m places rs)
+pub lines-move : (z : RelocationSource) (d : DebugData) (moving : List ℕ) (m : PathMap) (places : LineText → Option ℕ) (rs : List LineReading) → LeftRelocationsRead d moving
+    → AllFit z (d.found Line).contents → TablesApart (line_source d) rs → AreTables (line_source d) rs → MovesTo z (d.found Line).contents (all_cells_by_texts (line_source d) m places rs)
 lines-move z d moving m places rs left fit apart tables = section-moves z (line_source d) m places rs refl fit apart (left-clear d moving rs left tables) tables

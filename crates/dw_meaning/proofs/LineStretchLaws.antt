@@ -430,6 +430,7 @@ table-are g m places p r own apart clear reads =
     (between-end g.cells r.header.program (behind_lengths r.header.start r.header.width r.header.version) (all_path_stretches g m places r.header.width (paths_of (table_read g r))) placed)
     (between-cells g.order g.cells r.header.program (behind_lengths r.header.start r.header.width r.header.version) (all_path_cells g m places r.header.width (paths_of (table_read g r)))
     (all_path_stretches g m places r.header.width (paths_of (table_read g r))) (same-paths g m places r.header.width (paths_of (table_read g r))) placed (omega (arith, program, xw, xe, size)))
+
 -- and those of tables one behind another
 pub tables-are : (g : LineSource) (m : PathMap) (places : TextPlace → Option ℕ) (p e : ℕ) (rs : List LineReading) → bytes_of g.cells ≡ g.bytes → TablesApart g rs → EachClear g rs
     → TablesTo g p rs e → StretchedTo g.order g.cells p e (line_stretches g m places rs) (all_written_cells g m places rs)

@@ -9,7 +9,7 @@ use Rattle.dw_base.specs.DebugData.{Around, DataReadings, DebugData, ReadsAll, l
 use Rattle.dw_base.specs.DebugSections.{debug_section}
 use Rattle.dw_base.specs.Elf.{contents_at, contents_of, is_empty_kind, nth_section}
 use Rattle.dw_base.specs.FileViews.{ViewSection}
-use Rattle.dw_base.specs.LineChanges.{lines_after}
+use Rattle.dw_base.specs.TextLineChanges.{tables_by_texts}
 use Rattle.dw_base.specs.LineReadings.{all_lines}
 use Rattle.dw_base.specs.MacroPieces.{MacroState}
 use Rattle.dw_base.specs.MacroReadings.{MacroReading, ReadsAllMacros}
@@ -32,7 +32,7 @@ use Rattle.dw_meaning.proofs.CellKeptLaws.{SectionCells, behind_named, cells-fur
 use Rattle.dw_meaning.proofs.EditStayLaws.{AllFit, AllStay, all-self, roles-stay, units-stay}
 use Rattle.dw_meaning.proofs.FileBackLaws.{AllAt}
 use Rattle.dw_meaning.proofs.FileKeptLaws.{here-body, next-body}
-use Rattle.dw_meaning.proofs.LineCellLaws.{all-plain}
+use Rattle.dw_meaning.proofs.TextCellLaws.{text_tables-plain}
 use Rattle.dw_meaning.proofs.MacroKeptLaws.{edited-cells}
 use Rattle.dw_meaning.proofs.OffsetMoveLaws.{EachCells, cells-plain}
 use Rattle.dw_meaning.proofs.SectionKeptLaws.{edited-plain}
@@ -200,7 +200,7 @@ pub contents-plain : (b : List ℕ) (c : TableChanges) (d : DebugData) (around :
 contents-plain b c d around r i own plain =
     contents-pick IsPlain b c d around r i own
     (λ o. own-plain (slot_role (path_slots around)) c around r.offsets (old_contents b i) o plain)
-    (λ e o. subst IsPlain (sym (all-plain c (line_source d) r.lines refl (subst IsPlain (sym o) plain))) (plain_cells-plain (all_lines (lines_after c.map (c.new Str) (c.new LineStr) (line_source d) r.lines))))
+    (λ e o. subst IsPlain (sym (text_tables-plain c (line_source d) r.lines refl (subst IsPlain (sym o) plain))) (plain_cells-plain (all_lines (tables_by_texts c.map (c.new Str) (c.new LineStr) (line_source d) r.lines))))
     (λ o. own-plain name_role c around r.names (old_contents b i) o plain) (λ xs o. own-plain macro_role c around xs (old_contents b i) o plain)
     (λ xs o. units-edited-plain c around xs (cells-plain xs (subst IsPlain (sym o) plain))) plain
 

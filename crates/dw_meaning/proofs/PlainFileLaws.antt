@@ -17,8 +17,8 @@ use Rattle.dw_base.specs.SectionTexts.{macro_role, name_role, slot_role}
 use Rattle.dw_base.specs.TextChanges.{TableChanges}
 use Rattle.dw_base.specs.UnitHeaders.{UnitSection, SectionKind}
 use Rattle.dw_base.specs.ViewData.{cells_located, debug_data, located, located_at, macro_sections, unit_kind, unit_section, unit_sections, unit_sections_from}
-use Rattle.dw_base.specs.WrittenLines.{paths_of}
 use Rattle.dw_base.specs.declared.debug_sections.DebugSection.TheVariants.{Info, StrOffsets, Line, Macro, Names}
+use Rattle.dw_base.specs.declared.line_tables.LineText.{LineText}
 use Rattle.dw_base.specs.declared.line_tables.TextPlace.{TextPlace}
 use Rattle.dw_base.specs.declared.shared.Order.{Order}
 use Rattle.dw_base.specs.declared.shared.Width.{Width}
@@ -28,7 +28,7 @@ use Rattle.dw_base.proofs.RelocationSectionLaws.{relocations_read-loaded}
 use Rattle.dw_base.proofs.ViewCellLaws.{view_cells-loaded}
 use Rattle.dw_meaning.specs.DataOutput.{DataReads}
 use Rattle.dw_meaning.specs.FileMeanings.{file_data}
-use Rattle.dw_meaning.specs.NewAddends.{AddendsFit, EachPathMakes, EachTableMakes, Makes, MakesPath, MakesRole, new_offset, places_by}
+use Rattle.dw_meaning.specs.NewAddends.{AddendsFit, EachTextMakes, EachTextsMake, Makes, MakesPath, MakesRole, new_offset, place_of, places_by}
 use Rattle.dw_meaning.specs.RelocationFails.{RelocationsRead}
 use Rattle.dw_meaning.proofs.DataKeptLaws.{EachPlain, readings-move, readings-plain}
 use Rattle.dw_meaning.proofs.FileBackLaws.{AllAt, SectionBack, bare-cells}
@@ -137,18 +137,18 @@ macros-make order c around (z ∷ zs) (r ∷ rs) reads plain = (
   macros-make order c around zs rs reads.2 plain.1,
 )
 
-lines-make : (g : LineSource) (places : TextPlace → Option ℕ) (rs : List LineReading) → IsPlain g.cells → EachTableMakes g places rs
+lines-make : (g : LineSource) (places : LineText → Option ℕ) (rs : List LineReading) → IsPlain g.cells → EachTextsMake g places rs
 lines-make g places [] plain = tt
-lines-make g places (r ∷ rs) plain = (each (table_read g r).width (paths_of (table_read g r)), lines-make g places rs plain)
+lines-make g places (r ∷ rs) plain = (each (table_read g r).width (table_read g r).texts, lines-make g places rs plain)
   where
     one : (w : Width) (x : TextPlace) (o : Option ℕ) (own : Bool) → MakesPath g w x o own
     one w x None own = tt
     one w x (Some n) true = tt
     one w x (Some n) false = subst (λ (o : Option Relocation). Makes o (width_size w) n) (sym (relocation_at-plain g.cells x.field plain)) tt
 
-    each : (w : Width) (xs : List TextPlace) → EachPathMakes g places w xs
+    each : (w : Width) (xs : List LineText) → EachTextMakes g places w xs
     each w [] = tt
-    each w (x ∷ xs) = (one w x (places x) (x.section == g.number), each w xs)
+    each w (x ∷ xs) = (one w x.place (place_of places x) (x.place.section == g.number), each w xs)
 
 pub file-addends : (c : TableChanges) (b : List ℕ) (around : Around) (r : DataReadings) → is_loaded_kind b ≡ true → DataReads (file_data b) r
     → AddendsFit c (file_data b) around r

@@ -5,7 +5,7 @@ use Rattle.std.proofs.lemmas.Bool.{and_parts}
 use Rattle.dw_base.specs.Cells.{Cell, Located}
 use Rattle.dw_meaning.specs.DataOutput.{table_change}
 use Rattle.dw_base.specs.DebugData.{Around, DataReadings, path_slots, source_around, table_of}
-use Rattle.dw_base.specs.LineChanges.{line_mentions}
+use Rattle.dw_base.specs.TextLineChanges.{all_texts_mentions}
 use Rattle.dw_base.specs.MacroReadings.{MacroReading, EachMacro}
 use Rattle.dw_base.specs.Readings.{Readings, EachReading}
 use Rattle.dw_base.specs.DebugSections.{name_of}
@@ -159,16 +159,16 @@ macros-none table around (r ∷ rs) none names =
 
 pub new_table-none : (m : PathMap) (table : TextSection) (around : Around) (r : DataReadings) → (table_of around table).bytes ≡ []
     → EachReading (NamesText around) r.units → NameTexts (slot_role (path_slots around)) around r.offsets → NameTexts name_role around r.names
-    → EachMacro (λ x. NamesTextBy (macro_role x.state) around x.cells) r.macros → line_mentions (source_around around) table r.lines ≡ []
+    → EachMacro (λ x. NamesTextBy (macro_role x.state) around x.cells) r.macros → all_texts_mentions (source_around around) table r.lines ≡ []
     → new_table (table_change m table around r).plan (table_change m table around r).texts ≡ []
 unfolding table_change
 new_table-none m table around r none texts slots names macros lines_none =
     let slots_none : mentions_with (slot_role (path_slots around)) table around r.offsets ≡ [] = with-none (slot_role (path_slots around)) table around r.offsets none slots in
     let names_none : mentions_with name_role table around r.names ≡ [] = with-none name_role table around r.names none names in
     let all : file_mentions table around r ≡ [] =
-    ap (λ (ms : List Mention). ms ++ (mentions_with (slot_role (path_slots around)) table around r.offsets ++ (line_mentions (source_around around) table r.lines ++ (macro_mentions table around r.macros ++ mentions_with name_role table around r.names))))
+    ap (λ (ms : List Mention). ms ++ (mentions_with (slot_role (path_slots around)) table around r.offsets ++ (all_texts_mentions (source_around around) table r.lines ++ (macro_mentions table around r.macros ++ mentions_with name_role table around r.names))))
     (all-none table around r.units none texts)
-    ∙ ap (λ (ms : List Mention). ms ++ (line_mentions (source_around around) table r.lines ++ (macro_mentions table around r.macros ++ mentions_with name_role table around r.names))) slots_none
+    ∙ ap (λ (ms : List Mention). ms ++ (all_texts_mentions (source_around around) table r.lines ++ (macro_mentions table around r.macros ++ mentions_with name_role table around r.names))) slots_none
     ∙ ap (λ (ms : List Mention). ms ++ (macro_mentions table around r.macros ++ mentions_with name_role table around r.names)) lines_none
     ∙ ap (λ (ms : List Mention). ms ++ mentions_with name_role table around r.names) (macros-none table around r.macros none macros) ∙ names_none in
     ap (λ (ms : List Mention). new_table (appending m (table_of around table).bytes) (new_texts (appending m (table_of around table).bytes) m ms)) all

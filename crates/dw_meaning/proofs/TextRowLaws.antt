@@ -1,22 +1,19 @@
 -- Where texts that aren't paths get no new place, a line table can be written by all its texts exactly where it can by its paths, and addends
--- make the new offsets of its texts exactly where they make those of its paths; and of both ways each excludes its rows.
-use Rattle.std.proofs.Common.{Bool, true, false, ◌≡◌, ℕ, zero, suc, ◌+◌, ◌<◌, ◌≤◌, ◌^◌, ◌==◌, List, [], ◌∷◌, ◌++◌, length, Option, Some, None, Contains, refl, sym, ap, ◌∙◌, subst, arith}
+-- make the new offsets of its texts exactly where they make those of its paths; and a table that can be written so excludes its rows.
+use Rattle.std.proofs.Common.{Bool, true, false, ◌≡◌, ℕ, zero, suc, ◌+◌, ◌<◌, ◌≤◌, ◌^◌, List, [], ◌∷◌, ◌++◌, length, Option, Some, None, Contains, refl, sym, ap, ◌∙◌, subst, arith}
 use Rattle.std.specs.Prelude.{if◌then◌else◌}
 use Rattle.dw_base.specs.Forms.{width_size}
 use Rattle.dw_base.specs.LineReadings.{LineReading, ReadsTable, TablesTo, table_read}
 use Rattle.dw_base.specs.LineSources.{LineSource}
 use Rattle.dw_base.specs.LineWriteFails.{CanWrite, WriteFails, length_limit, program, wide, wide_header, wide_offset, wide_table}
 use Rattle.dw_base.specs.Paths.{PathMap}
-use Rattle.dw_base.specs.RelocationFields.{relocation_at}
 use Rattle.dw_base.specs.TableTexts.{as_path, paths_among}
 use Rattle.dw_base.specs.TextLineChanges.{on_paths}
 use Rattle.dw_base.specs.TextWriteFails.{CanWriteTexts, TextWriteFails, text_program, text_header, text_table, text_offset, wide_text}
 use Rattle.dw_base.specs.declared.fault.Refusal.{Refusal}
 use Rattle.dw_base.specs.declared.line_tables.LineText.{LineText}
 use Rattle.dw_base.specs.declared.line_tables.TextPlace.{TextPlace}
-use Rattle.dw_base.specs.declared.shared.Width.{Width}
-use Rattle.dw_meaning.specs.NewAddends.{EachPathMakes, EachTableMakes, EachTextMakes, EachTextsMake, MakesPath, PathMisses, TextMisses, place_of}
-use Rattle.dw_meaning.proofs.AddendRowLaws.{makes-misses}
+use Rattle.dw_meaning.specs.NewAddends.{EachPathMakes, EachTableMakes, EachTextsMake, PathMisses, TextMisses}
 use Rattle.dw_meaning.proofs.FurtherCellLaws.{header-same, makes-paths, makes-texts}
 use Rattle.dw_meaning.proofs.FurtherLaws.{FurtherStay}
 use Rattle.dw_meaning.proofs.FurtherTableLaws.{rest-same}
@@ -178,25 +175,3 @@ pub misses-texts : (g : LineSource) (places : LineText → Option ℕ) (start : 
 misses-texts g places start r x reads m =
     let split = split-texts (table_read g r).texts m.before m.behind x (table-paths-among g start r reads ∙ m.among) in
     record { before = split.front; behind = split.back; among = split.is; named = m.named; place = m.place; put = m.put; misses = m.misses }
-
--- one of the texts of a table
-text-among : (g : LineSource) (places : LineText → Option ℕ) (w : Width) (before behind : List LineText) (x : LineText) → EachTextMakes g places w (before ++ x ∷ behind)
-    → MakesPath g w x.place (place_of places x) (x.place.section == g.number)
-text-among g places w [] behind x h = h.0
-text-among g places w (y ∷ ys) behind x h = text-among g places w ys behind x h.1
-
-pub text-misses : (g : LineSource) (places : LineText → Option ℕ) (t : LineReading) (x : LineText) → EachTextMakes g places (table_read g t).width (table_read g t).texts
-    → TextMisses g places t x → ⊥
-text-misses g places t x each m =
-    let here : MakesPath g (table_read g t).width x.place (place_of places x) (x.place.section == g.number) =
-    text-among g places (table_read g t).width m.before m.behind x
-    (subst (λ (ys : List LineText). EachTextMakes g places (table_read g t).width ys) m.among each) in
-    makes-misses (relocation_at g.cells x.place.field) (width_size (table_read g t).width) m.place
-    (subst (λ (o : Option ℕ). MakesPath g (table_read g t).width x.place o false) m.put
-    (subst (λ (b : Bool). MakesPath g (table_read g t).width x.place (place_of places x) b) m.named here))
-    m.misses
-
-pub texts-among : (g : LineSource) (places : LineText → Option ℕ) (before behind : List LineReading) (t : LineReading) → EachTextsMake g places (before ++ t ∷ behind)
-    → EachTextMakes g places (table_read g t).width (table_read g t).texts
-texts-among g places [] behind t h = h.0
-texts-among g places (y ∷ ys) behind t h = texts-among g places ys behind t h.1

@@ -7,6 +7,8 @@ use Rattle.dw_base.specs.Forests.{no_entries, entry}
 use Rattle.dw_base.specs.Forms.{kind_in, form_rows}
 use Rattle.dw_base.specs.InlinePaths.{mapped_inline}
 use Rattle.dw_base.specs.Lebs.{initial_length_at, uleb_at, sleb_at}
+use Rattle.dw_base.specs.LineEntries.{column_at, entries_at, entry_at, offset_column}
+use Rattle.dw_base.specs.LineFormats.{format_at, is_column, spec_at}
 use Rattle.dw_base.specs.LineHeaders.{line_header, header_in, header_of_version, header_at, flags_place, length_place, header_of_length, is_header, header_with, has_standard_operands}
 use Rattle.dw_base.specs.LineOperations.{special_operation, const_operation, is_numbered, numbered, unnumbered, standard_operation, extended, extended_in, extended_operation, operation_of, operation_in}
 use Rattle.dw_base.specs.LineRegisters.{start_registers, advanced, on_line, at_address, moved, gives_row, behind_row}
@@ -20,7 +22,11 @@ use Rattle.dw_base.specs.UnitHeaders.{in_info, unit_header}
 use Rattle.dw_base.specs.UnitMeanings.{units_of}
 use Rattle.dw_base.specs.UnitStates.{before_unit, between, after_code}
 use Rattle.dw_base.specs.ValueMeanings.{address_of, string, by_offset, table_number}
-use Rattle.dw_base.specs.WrittenLines.{written_header, written_table}
+use Rattle.dw_base.specs.LineSources.{line_field}
+use Rattle.dw_base.specs.LineTexts.{named_text}
+use Rattle.dw_base.specs.RelocationFields.{partly_at}
+use Rattle.dw_base.specs.Values.{value_at, value_of}
+use Rattle.dw_base.specs.TextLineChanges.{header_by_texts, table_by_texts}
 use Rattle.dw_base.specs.declared.line_tables.LineHeader.{LineHeader}
 use Rattle.dw_base.specs.declared.shared.Order.TheVariants.{Little}
 use Rattle.dw_base.specs.declared.shared.Width.TheVariants.{W32}
@@ -131,7 +137,8 @@ pub lines-output : new_bodies lines_map lines_data lines_readings
     ∷ record { number = 4; bytes = old_table 71 49 (codes "/usr/src/debug/p/inc") ++ new_table5 14 } ∷ record { number = 0; bytes = [] }
     ∷ record { number = 1; bytes = all_bytes (line_pieces 14 75) } ∷ []
 unfolding new_bodies table_change unit_header initial_length_at number_at spelled between after_code kind_in form_rows abbreviations_at
-    uleb_at text_in offset_of field_of role_of lies_under matching mapped_path mapped_inline with_offset line_header written_header written_table
+    uleb_at text_in offset_of field_of role_of lies_under matching mapped_path mapped_inline with_offset line_header header_by_texts table_by_texts
+    format_at spec_at is_column column_at offset_column named_text line_field partly_at entry_at entries_at value_at value_of ends_in
     header_in header_of_version header_at flags_place length_place header_of_length is_header header_with has_standard_operands
 lines-output = refl
 

@@ -8,6 +8,8 @@ use Rattle.dw_base.specs.Forests.{no_entries, entry}
 use Rattle.dw_base.specs.Forms.{kind_in, form_rows}
 use Rattle.dw_base.specs.InlinePaths.{mapped_inline}
 use Rattle.dw_base.specs.Lebs.{initial_length_at, uleb_at}
+use Rattle.dw_base.specs.LineEntries.{column_at, entries_at, entry_at, offset_column}
+use Rattle.dw_base.specs.LineFormats.{format_at, is_column, spec_at}
 use Rattle.dw_base.specs.LineHeaders.{line_header, header_in, header_of_version, header_at, flags_place, length_place, header_of_length, is_header, header_with, has_standard_operands}
 use Rattle.dw_base.specs.MacroMeanings.{defined, begun, ended, brought, front_mark, macro_meanings}
 use Rattle.dw_base.specs.MacroOperations.{bring_operation, enter_behind, enter_operation, inline_behind, inline_operation, is_foreign, named_behind, named_operation, operation_of, plain_operation}
@@ -24,7 +26,11 @@ use Rattle.dw_base.specs.UnitHeaders.{in_info, unit_header}
 use Rattle.dw_base.specs.UnitMeanings.{units_of}
 use Rattle.dw_base.specs.UnitStates.{UnitState, before_unit, between, after_code}
 use Rattle.dw_base.specs.ValueMeanings.{string, by_offset, table_number, macro_number}
-use Rattle.dw_base.specs.WrittenLines.{written_header, written_table}
+use Rattle.dw_base.specs.LineSources.{line_field}
+use Rattle.dw_base.specs.LineTexts.{named_text}
+use Rattle.dw_base.specs.RelocationFields.{partly_at}
+use Rattle.dw_base.specs.Values.{value_at, value_of}
+use Rattle.dw_base.specs.TextLineChanges.{header_by_texts, table_by_texts}
 use Rattle.dw_base.specs.declared.debug_sections.DebugSection.TheVariants.{LineStr, StrOffsets, Line, Names}
 use Rattle.dw_base.specs.declared.fault.Kind.TheVariants.{Stray}
 use Rattle.dw_base.specs.declared.shared.Order.TheVariants.{Little}
@@ -159,7 +165,8 @@ pub macros-output : new_bodies lines_map sound_data sound_readings
     ∷ record { number = 4; bytes = old_table 71 49 (codes "/usr/src/debug/p/inc") ++ new_table5 14 } ∷ record { number = 0; bytes = [] }
     ∷ record { number = 5; bytes = all_bytes (macro_bytes 75 14 0) } ∷ record { number = 1; bytes = all_bytes (unit_pieces 14 75 18) } ∷ []
 unfolding new_bodies table_change unit_header initial_length_at number_at spelled between after_code kind_in form_rows abbreviations_at
-    uleb_at text_in ends_in offset_of field_of role_of lies_under matching mapped_path mapped_inline with_offset line_header written_header written_table
+    uleb_at text_in ends_in offset_of field_of role_of lies_under matching mapped_path mapped_inline with_offset line_header header_by_texts table_by_texts
+    format_at spec_at is_column column_at offset_column named_text line_field partly_at entry_at entries_at value_at value_of
     macros_from front_of front_by operation_of plain_operation enter_operation enter_behind inline_operation inline_behind named_operation named_behind bring_operation is_foreign
     header_in header_of_version header_at flags_place length_place header_of_length is_header header_with has_standard_operands
 macros-output = refl

@@ -4,9 +4,9 @@ use Rattle.std.specs.Prelude.{ℕ, ◌==◌, if◌then◌else◌, List, [], ◌�
 use Rattle.dw_base.specs.Cells.{Cell, Located, bytes_of}
 use Rattle.dw_base.specs.DebugData.{DebugData, DataReadings, Around, around_of, indexing_of, line_source, path_slots, source_around, table_of, ReadsAll}
 use Rattle.dw_base.specs.IndexFails.{SlotFits}
-use Rattle.dw_base.specs.LineChanges.{line_place, lines_after}
+use Rattle.dw_base.specs.TextLineChanges.{tables_by_texts, text_place}
 use Rattle.dw_base.specs.LineReadings.{LineReading, AreTables, all_lines, table_read}
-use Rattle.dw_base.specs.LineWriteFails.{CanWrite}
+use Rattle.dw_base.specs.TextWriteFails.{CanWriteTexts}
 use Rattle.dw_base.specs.MacroReadings.{MacroReading, ReadsAllMacros, EachMacro}
 use Rattle.dw_base.specs.NamePieces.{NameState, ReadsNames}
 use Rattle.dw_meaning.specs.NewAddends.{AddendsFit}
@@ -50,7 +50,7 @@ table_change m table around r =
 
 -- the new line tables
 abbrev pub new_lines : PathMap → Around → DataReadings → List (List ℕ)
-new_lines m around r = lines_after m (table_change m InStr around r) (table_change m InLineStr around r) (source_around around) r.lines
+new_lines m around r = tables_by_texts m (table_change m InStr around r) (table_change m InLineStr around r) (source_around around) r.lines
 
 -- what is new in the sections of a kind
 abbrev pub changed_by : PathMap → Around → DataReadings → (s : DebugSection) → Changed s
@@ -67,11 +67,11 @@ changed_by m around r Names = tt
 abbrev pub changes_of : PathMap → Around → DataReadings → TableChanges
 changes_of m around r = record { map = m; new = changed_by m around r }
 
--- each line table can be written with its paths mapped
+-- each line table can be written with its texts moved
 abbrev pub EachWritable : PathMap → TableChanges → Around → List LineReading → Type 0
 EachWritable m c around [] = ⊤
 EachWritable m c around (r ∷ rs) =
-    CanWrite (source_around around) m (line_place m (c.new Str) (c.new LineStr) (source_around around)) (table_read (source_around around) r) × EachWritable m c around rs
+    CanWriteTexts (source_around around) m (text_place m (c.new Str) (c.new LineStr) (source_around around)) (table_read (source_around around) r) × EachWritable m c around rs
 
 -- and paths outside line tables be mapped: each that stands in its value fits its room, and no slot is named by a path whose text changes
 -- and by a value that isn't a path

@@ -11,9 +11,9 @@ use Rattle.dw_meaning.specs.FileMeanings.{file_data, file_body, FileReads}
 use Rattle.dw_meaning.specs.NewAddends.{AddendsFail}
 use Rattle.dw_meaning.specs.RelocationFails.{RelocationsAreLoaded}
 use Rattle.dw_base.specs.LayoutFails.{LayoutFails, LayoutFits}
-use Rattle.dw_base.specs.LineChanges.{line_place}
+use Rattle.dw_base.specs.TextLineChanges.{text_place}
 use Rattle.dw_base.specs.LineReadings.{LineReading, table_read}
-use Rattle.dw_base.specs.LineWriteFails.{WriteFails}
+use Rattle.dw_base.specs.TextWriteFails.{TextWriteFails}
 use Rattle.dw_base.specs.Paths.{PathMap}
 use Rattle.dw_base.specs.declared.debug_sections.DebugSection.TheVariants.{Str, LineStr, StrOffsets}
 use Rattle.dw_base.specs.declared.fault.Refusal.{Refusal}
@@ -27,7 +27,7 @@ pub data EditFails (m : PathMap) (b : List ℕ) : Refusal → Type 0 where
   shared : (readings : DataReadings) {r : Refusal} → ElfReads b → IndexesRead (file_data b) readings
       → SharedFails m ((file_data b).found StrOffsets).number (around_of (file_data b) readings) readings.offsets r → EditFails m b r
   line_table : (readings : DataReadings) (before behind : List LineReading) (t : LineReading) {r : Refusal} → FileReads b readings → readings.lines ≡ before ++ t ∷ behind
-      → WriteFails (line_source (file_data b)) m (line_place m ((changes_of m (around_of (file_data b) readings) readings).new Str)
+      → TextWriteFails (line_source (file_data b)) m (text_place m ((changes_of m (around_of (file_data b) readings) readings).new Str)
       ((changes_of m (around_of (file_data b) readings) readings).new LineStr) (line_source (file_data b))) (table_read (line_source (file_data b)) t) r → EditFails m b r
   addends : (readings : DataReadings) {r : Refusal} → FileReads b readings → PathsFit m (file_data b) readings
       → AddendsFail (changes_of m (around_of (file_data b) readings) readings) (file_data b) (around_of (file_data b) readings) readings r → EditFails m b r

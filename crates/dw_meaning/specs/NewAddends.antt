@@ -5,7 +5,6 @@ use Rattle.std.specs.Prelude.{Bool, true, false, ◌≡◌, ◌≢◌, ℕ, ℤ,
 use Rattle.dw_base.specs.Cells.{Cell, Relocation, first_relocation, wrapped}
 use Rattle.dw_base.specs.DebugData.{Around, DataReadings, DebugData, line_source, line_table, path_slots}
 use Rattle.dw_base.specs.Forms.{width_size}
-use Rattle.dw_base.specs.LineChanges.{line_place}
 use Rattle.dw_base.specs.LineReadings.{LineReading, starts_from, table_read}
 use Rattle.dw_base.specs.LineSources.{LineSource}
 use Rattle.dw_base.specs.MacroPieces.{MacroState}
@@ -21,7 +20,7 @@ use Rattle.dw_base.specs.Roles.{Role, line_start, offset, role_of}
 use Rattle.dw_base.specs.SectionTexts.{macro_role, name_role, slot_role}
 use Rattle.dw_base.specs.StringTables.{new_place}
 use Rattle.dw_base.specs.TextChanges.{TableChanges, change_of, mention_at}
-use Rattle.dw_base.specs.TextLineChanges.{on_paths}
+use Rattle.dw_base.specs.TextLineChanges.{on_paths, text_place}
 use Rattle.dw_base.specs.UnitStates.{UnitState}
 use Rattle.dw_base.specs.WrittenLines.{paths_of}
 use Rattle.dw_base.specs.declared.debug_sections.DebugSection.TheVariants.{Str, LineStr, StrOffsets, Line, Names}
@@ -98,8 +97,8 @@ EachTextsMake g places [] = ⊤
 EachTextsMake g places (t ∷ ts) = EachTextMakes g places (table_read g t).width (table_read g t).texts × EachTextsMake g places ts
 
 -- the new places of texts of line tables
-abbrev pub places_by : TableChanges → DebugData → TextPlace → Option ℕ
-places_by changes d = line_place changes.map (changes.new Str) (changes.new LineStr) (line_source d)
+abbrev pub places_by : TableChanges → DebugData → LineText → Option ℕ
+places_by changes d = text_place changes.map (changes.new Str) (changes.new LineStr) (line_source d)
 
 -- addends make all offsets that an edit puts into fields
 pub record AddendsFit (changes : TableChanges) (d : DebugData) (around : Around) (r : DataReadings) : Type 0 where
@@ -107,7 +106,7 @@ pub record AddendsFit (changes : TableChanges) (d : DebugData) (around : Around)
   pub slots : EachPiece (λ x. MakesRole (slot_role (path_slots around) x.state) changes around x.cells) r.offsets
   pub macros : EachMacro (λ x. MakesRole (macro_role x.state) changes around x.cells) r.macros
   pub names : EachPiece (λ x. MakesRole (name_role x.state) changes around x.cells) r.names
-  pub lines : EachTableMakes (line_source d) (places_by changes d) r.lines
+  pub lines : EachTextsMake (line_source d) (places_by changes d) r.lines
 
 -- a piece of a list whose cells of a role get an offset that the addend at it doesn't make
 pub record PieceMisses {S : Type 0} (role : Piece S → Role) (changes : TableChanges) (around : Around) (xs : List (Piece S)) (x : Piece S) : Type 0 where
@@ -148,5 +147,5 @@ pub data AddendsFail (changes : TableChanges) (d : DebugData) (around : Around) 
       → PieceMisses (λ y. macro_role y.state) changes around q.pieces x → AddendsFail changes d around r (at TooWide q.number x.state.place)
   in_names : (x : Piece NameState) → PieceMisses (λ y. name_role y.state) changes around r.names x
       → AddendsFail changes d around r (at TooWide (d.found Names).number x.state.place)
-  in_lines : (before behind : List LineReading) (t : LineReading) (x : TextPlace) → r.lines ≡ before ++ t ∷ behind
-      → PathMisses (line_source d) (places_by changes d) t x → AddendsFail changes d around r (at TooWide (d.found Line).number x.field)
+  in_lines : (before behind : List LineReading) (t : LineReading) (x : LineText) → r.lines ≡ before ++ t ∷ behind
+      → TextMisses (line_source d) (places_by changes d) t x → AddendsFail changes d around r (at TooWide (d.found Line).number x.place.field)

@@ -4,7 +4,7 @@ use Rattle.std.specs.Prelude.{ℕ, ◌==◌, if◌then◌else◌, List, [], ◌�
 use Rattle.dw_base.specs.Cells.{Cell}
 use Rattle.dw_base.specs.DebugData.{Around, DataReadings, DebugData, around_of, line_source}
 use Rattle.dw_base.specs.Elf.{contents_of, nth_section}
-use Rattle.dw_base.specs.LineChanges.{line_place}
+use Rattle.dw_base.specs.TextLineChanges.{text_place}
 use Rattle.dw_base.specs.MacroReadings.{MacroReading}
 use Rattle.dw_base.specs.Paths.{PathMap}
 use Rattle.dw_base.specs.Pieces.{joined}
@@ -14,7 +14,7 @@ use Rattle.dw_base.specs.SectionRelocations.{relocation_source, section_cells}
 use Rattle.dw_base.specs.TextChanges.{TableChanges, edited_all}
 use Rattle.dw_base.specs.declared.debug_sections.DebugSection.TheVariants.{Str, LineStr, StrOffsets, Line, Names}
 use Rattle.dw_meaning.specs.DataOutput.{changes_of, macros_after, names_after, offsets_after}
-use Rattle.dw_meaning.specs.LineCells.{all_written_cells}
+use Rattle.dw_meaning.specs.TextLineCells.{all_cells_by_texts}
 
 -- a section and its new contents
 pub record CellBody : Type 0 where
@@ -37,8 +37,8 @@ macro_cells (r ∷ rs) = cell_body r.number (joined r.pieces) ∷ macro_cells rs
 abbrev pub cells_by : TableChanges → DebugData → Around → DataReadings → List CellBody
 cells_by changes d around r =
     cell_body (d.found StrOffsets).number (joined (offsets_after changes around r))
-    ∷ cell_body (d.found Line).number (all_written_cells (line_source d) changes.map
-    (line_place changes.map (changes.new Str) (changes.new LineStr) (line_source d)) r.lines)
+    ∷ cell_body (d.found Line).number (all_cells_by_texts (line_source d) changes.map
+    (text_place changes.map (changes.new Str) (changes.new LineStr) (line_source d)) r.lines)
     ∷ cell_body (d.found Names).number (joined (names_after changes around r))
     ∷ (macro_cells (macros_after changes around r) ++ unit_cells changes around r.units)
 

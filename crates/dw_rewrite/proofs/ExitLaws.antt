@@ -30,11 +30,12 @@ use Rattle.dw_base.specs.LayoutFails.SectionStays.{changed}
 use Rattle.dw_base.specs.LayoutFails.TooLong.{long}
 use Rattle.dw_base.specs.LayoutReads.{ReadsBack}
 use Rattle.dw_meaning.specs.Loaded.{LoadedKept}
-use Rattle.dw_base.specs.LineChanges.{line_place}
+use Rattle.dw_base.specs.TextLineChanges.{text_place}
 use Rattle.dw_base.specs.LineReadings.{all_lines, table_read}
 use Rattle.dw_base.specs.LineSources.{LineSource}
 use Rattle.dw_base.specs.LineTables.{LineTable}
-use Rattle.dw_base.specs.LineWriteFails.{WriteFails, defined, program, wide, wide_header, wide_offset, wide_table}
+use Rattle.dw_base.specs.LineWriteFails.{defined}
+use Rattle.dw_base.specs.TextWriteFails.{TextWriteFails, text_header, text_offset, text_program, text_table, wide_text}
 use Rattle.dw_base.specs.Paths.{IsPathMap, PathMap}
 use Rattle.dw_base.specs.Refusals.{Blames, at}
 use Rattle.dw_base.specs.RelocationRows.{moving_sections}
@@ -46,7 +47,7 @@ use Rattle.dw_base.specs.declared.fault.Fault.{Fault}
 use Rattle.dw_base.specs.declared.fault.Fault.TheVariants.{NoMemory, Refused}
 use Rattle.dw_base.specs.declared.fault.Kind.TheVariants.{Fixed, TooLarge}
 use Rattle.dw_base.specs.declared.fault.Refusal.{Refusal}
-use Rattle.dw_base.specs.declared.line_tables.TextPlace.{TextPlace}
+use Rattle.dw_base.specs.declared.line_tables.LineText.{LineText}
 use Rattle.dw_meaning.specs.DataFails.{LinesFail}
 use Rattle.dw_meaning.proofs.DataOneLaws.{data-one}
 use Rattle.dw_meaning.proofs.EditRowLaws.{edit-excludes}
@@ -277,11 +278,11 @@ long_at m b r bytes i small j t over false moves =
 data IsOther : Refusal → Type 0 where
   another : {r : Refusal} → ((long : Refusal) → long_or r.kind long r ≡ r) → (r.kind ≡ TooLarge → ⊥) → IsOther r
 
-write_other : (g : LineSource) (m : PathMap) (p : TextPlace → Option ℕ) (t : LineTable) (r : Refusal) → WriteFails g m p t r → IsOther r
-write_other g m p t r (wide_table far) = another (λ long. refl) (λ e. absurd cc)
-write_other g m p t r (wide_header far) = another (λ long. refl) (λ e. absurd cc)
-write_other g m p t r (wide_offset (wide x place here apart is far)) = another (λ long. refl) (λ e. absurd cc)
-write_other g m p t r (program h e (defined files place o walks lt at_ changes)) = another (λ long. refl) (λ e. absurd cc)
+write_other : (g : LineSource) (m : PathMap) (p : LineText → Option ℕ) (t : LineTable) (r : Refusal) → TextWriteFails g m p t r → IsOther r
+write_other g m p t r (text_table far) = another (λ long. refl) (λ e. absurd cc)
+write_other g m p t r (text_header far) = another (λ long. refl) (λ e. absurd cc)
+write_other g m p t r (text_offset (wide_text x place here apart is far)) = another (λ long. refl) (λ e. absurd cc)
+write_other g m p t r (text_program h e (defined files place o walks lt at_ changes)) = another (λ long. refl) (λ e. absurd cc)
 
 addend_other : (c : TableChanges) (d : DebugData) (a : Around) (q : DataReadings) (r : Refusal) → AddendsFail c d a q r → IsOther r
 addend_other c d a q r (in_unit before behind z x split misses) = another (λ long. refl) (λ e. absurd cc)
@@ -307,7 +308,7 @@ long_fails m b (Refused _) small j on (long_lines_of r reads fits some over) =
     output r (reads_checked b r j on reads) fits (long_at m b r (all_lines (new_lines m (around_of (file_data b) r) r)) _ small j t over (is_fixed b (nth_section b _)) refl)
 long_fails m b (Refused x) small j on (line_table_of r before behind t reads split fails) =
     let other : IsOther x = write_other (line_source (file_data b)) m
-    (line_place m ((changes_of m (around_of (file_data b) r) r).new Str) ((changes_of m (around_of (file_data b) r) r).new LineStr) (line_source (file_data b)))
+    (text_place m ((changes_of m (around_of (file_data b) r) r).new Str) ((changes_of m (around_of (file_data b) r) r).new LineStr) (line_source (file_data b)))
     (table_read (line_source (file_data b)) t) x fails in
     subst (EditFails m b) (sym (other_told b x other)) (line_table_row r before behind t (reads_checked b r j on reads) split fails)
 long_fails m b (Refused x) small j on (addend_of r reads fits fails) =
@@ -326,7 +327,7 @@ in_file m b (Refused _) j (long_table_of table r reads fits some over) = record 
 in_file m b (Refused _) j (long_lines_of r reads fits some over) = record { within = λ kind. (lines_body m b r j reads some).within }
 in_file m b (Refused x) j (line_table_of r before behind t reads split fails) =
     other_in b x (write_other (line_source (file_data b)) m
-    (line_place m ((changes_of m (around_of (file_data b) r) r).new Str) ((changes_of m (around_of (file_data b) r) r).new LineStr) (line_source (file_data b)))
+    (text_place m ((changes_of m (around_of (file_data b) r) r).new Str) ((changes_of m (around_of (file_data b) r) r).new LineStr) (line_source (file_data b)))
     (table_read (line_source (file_data b)) t) x fails)
 in_file m b (Refused x) j (addend_of r reads fits fails) =
     other_in b x (addend_other (changes_of m (around_of (file_data b) r) r) (file_data b) (around_of (file_data b) r) r x fails)

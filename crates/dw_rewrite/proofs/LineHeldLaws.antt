@@ -19,6 +19,8 @@ use Rattle.dw_base.specs.RelocationSectionFails.{RelocationSectionsRead}
 use Rattle.dw_base.specs.SectionRelocations.{RelocationSource, cells_from, relocation_section, relocation_source, relocations_in}
 use Rattle.dw_base.specs.StringTables.{TextTable}
 use Rattle.dw_base.specs.ViewData.{debug_data, located}
+use Rattle.dw_base.specs.TableTexts.{as_path}
+use Rattle.dw_base.specs.TextLineChanges.{on_paths}
 use Rattle.dw_base.specs.WrittenLines.{new_place, paths_of}
 use Rattle.dw_base.specs.declared.debug_sections.DebugSection.TheVariants.{StrOffsets, Line}
 use Rattle.dw_base.specs.declared.fault.Kind.TheVariants.{TooWide}
@@ -31,8 +33,13 @@ use Rattle.dw_meaning.specs.DataOutput.{changes_of, table_change}
 use Rattle.dw_meaning.specs.FileMeanings.{file_data}
 use Rattle.dw_meaning.specs.LineCells.{CellChange, all_path_cells, all_written_cells, changed_cells, header_cells, inline_cells, offset_cells, path_cells, written_cells}
 use Rattle.dw_meaning.specs.LineStretches.{all_path_stretches, inline_stretch, line_stretches, offset_stretches, path_stretches, stretches_end, table_stretches}
-use Rattle.dw_meaning.specs.NewAddends.{AddendsFail, EachPathMakes, EachTableMakes, MakesPath, Misses, in_lines, places_by}
+use Rattle.dw_meaning.specs.NewAddends.{AddendsFail, EachPathMakes, EachTableMakes, EachTextsMake, MakesPath, Misses, in_lines, places_by}
 use Rattle.dw_meaning.specs.RelocatedBodies.{new_cells, new_contents, old_contents, relocated_body}
+use Rattle.dw_meaning.specs.TextLineCells.{all_cells_by_texts}
+use Rattle.dw_meaning.proofs.DataKeptLaws.{places-stay}
+use Rattle.dw_meaning.proofs.FurtherTableLaws.{all_cells-same}
+use Rattle.dw_meaning.proofs.LineRowLaws.{table-among}
+use Rattle.dw_meaning.proofs.TextRowLaws.{misses-texts, texts-make}
 use Rattle.dw_meaning.proofs.CellKeptLaws.{cells-lines}
 use Rattle.dw_meaning.proofs.FileKeptLaws.{differ, name-apart, offsets-number, offsets-place}
 use Rattle.dw_meaning.proofs.LineClearLaws.{EachClear}
@@ -95,7 +102,7 @@ all-same g m p q (r ∷ rs) a =
 -- the new contents of the section of line tables
 line-contents : (m : PathMap) (b : List ℕ) (r : DataReadings) (i : ℕ) → section_named (view_of b) (name_of Line) ≡ Some i
     → new_contents b (new_cells m (file_data b) r) i
-    ≡ all_written_cells (line_source (file_data b)) m (places_by (changes_of m (around_of (file_data b) r) r) (file_data b)) r.lines
+    ≡ all_cells_by_texts (line_source (file_data b)) m (places_by (changes_of m (around_of (file_data b) r) r) (file_data b)) r.lines
 unfolding new_cells
 line-contents m b r i e =
     cells-lines (changes_of m (around_of (file_data b) r) r) (file_data b) (around_of (file_data b) r) r (old_contents b i) i number
@@ -129,7 +136,8 @@ held-is m b us ts ps pl ks kl i k relocations f s l e is =
     let own : (line_source (file_data b)).cells ≡ cells_from (relocations_in (relocation_source (contents_of b) b k)) 0 (contents_of b i) =
     ap (λ (x : LineSource). x.cells) (source-is (view_of b) i (sym e)) ∙ line-cells b i k e is in
     let new : all_written_cells g m (new_place g ks kl) rs ≡ new_contents b (new_cells m (file_data b) f.readings) i =
-    all-same g m (new_place g ks kl) (places_by (changes_of m (around_of (file_data b) f.readings) f.readings) (file_data b)) rs (lines-agree m (view_of b) us ts ps pl ks kl f s l)
+    all-same g m (new_place g ks kl) (on_paths (places_by (changes_of m (around_of (file_data b) f.readings) f.readings) (file_data b))) rs (lines-agree m (view_of b) us ts ps pl ks kl f s l)
+    ∙ sym (all_cells-same g m (places_by (changes_of m (around_of (file_data b) f.readings) f.readings) (file_data b)) 0 (length g.bytes) rs (places-stay m (file_data b) f.readings) f.reads.lines)
     ∙ sym (line-contents m b f.readings i e) in
     ap (λ (xs : List LineTable). moved_table z (line_runs m g ks kl xs) (said_fields (line_offsets m g ks kl xs))) f.tables
     ∙ ap (λ xs. moved_table z (runs_from 0 0 xs) (said_fields (offsets_from 0 xs))) (stretches-read m g ks kl rs)
@@ -220,22 +228,24 @@ known-fields m g ks kl ts rs is = ap (line_offsets m g ks kl) is ∙ ap (offsets
 file-makes : (m : PathMap) (b : List ℕ) (us : List SectionFields) (ts : List LineTable) (ps pl : TextTable) (ks kl : ℕ → Option ℕ) (f : PathsFound m (view_of b) us ts)
     → TableMade m (view_of b) InStr us ps ks → TableMade m (view_of b) InLineStr us pl kl
     → OffsetsMake (line_source (file_data b)).cells (line_offsets m (line_source (file_data b)) ks kl ts)
-    → EachTableMakes (line_source (file_data b)) (places_by (changes_of m (around_of (file_data b) f.readings) f.readings) (file_data b)) f.readings.lines
+    → EachTextsMake (line_source (file_data b)) (places_by (changes_of m (around_of (file_data b) f.readings) f.readings) (file_data b)) f.readings.lines
 unfolding table_change
 file-makes m b us ts ps pl ks kl f s l h =
     let g : LineSource = line_source (file_data b) in
-    tables-make g m (new_place g ks kl) (places_by (changes_of m (around_of (file_data b) f.readings) f.readings) (file_data b)) 0 (length g.bytes) f.readings.lines refl
+    texts-make g (places_by (changes_of m (around_of (file_data b) f.readings) f.readings) (file_data b)) 0 (length g.bytes) f.readings.lines
+    (places-stay m (file_data b) f.readings) f.reads.lines
+    (tables-make g m (new_place g ks kl) (on_paths (places_by (changes_of m (around_of (file_data b) f.readings) f.readings) (file_data b))) 0 (length g.bytes) f.readings.lines refl
     (file-apart b f.readings.lines f.reads.lines) (left-clear (file_data b) (moving_sections (view_of b)) f.readings.lines f.relocations.left f.reads.lines) f.reads.lines
     (lines-agree m (view_of b) us ts ps pl ks kl f s l)
-    (subst (OffsetsMake g.cells) (known-fields m g ks kl ts f.readings.lines f.tables) h)
+    (subst (OffsetsMake g.cells) (known-fields m g ks kl ts f.readings.lines f.tables) h))
 
 pub lines-fit : (m : PathMap) (b : List ℕ) (v : View) (us : List SectionFields) (ts : List LineTable) (ps pl : TextTable) (ks kl : ℕ → Option ℕ) → v ≡ view_of b → (f : PathsFound m v us ts)
     → TableMade m v InStr us ps ks → TableMade m v InLineStr us pl kl → OffsetsMake (line_source (debug_data v)).cells (line_offsets m (line_source (debug_data v)) ks kl ts)
-    → EachTableMakes (line_source (debug_data v)) (places_by (changes_of m (around_of (debug_data v) f.readings) f.readings) (debug_data v)) f.readings.lines
+    → EachTextsMake (line_source (debug_data v)) (places_by (changes_of m (around_of (debug_data v) f.readings) f.readings) (debug_data v)) f.readings.lines
 lines-fit m b v us ts ps pl ks kl file =
     subst (λ (w : View). (f : PathsFound m w us ts) → TableMade m w InStr us ps ks → TableMade m w InLineStr us pl kl
     → OffsetsMake (line_source (debug_data w)).cells (line_offsets m (line_source (debug_data w)) ks kl ts)
-    → EachTableMakes (line_source (debug_data w)) (places_by (changes_of m (around_of (debug_data w) f.readings) f.readings) (debug_data w)) f.readings.lines) (sym file)
+    → EachTextsMake (line_source (debug_data w)) (places_by (changes_of m (around_of (debug_data w) f.readings) f.readings) (debug_data w)) f.readings.lines) (sym file)
     (file-makes m b us ts ps pl ks kl)
 
 -- or the one of a path doesn't
@@ -318,14 +328,18 @@ tables-miss g m p q a e (t ∷ ts) r own apart clear reads agree h =
         record { before = t ∷ more.before; behind = more.behind; table = more.table; among = ap (λ (l : List LineReading). t ∷ l) more.among; path = more.path }
 
 -- the row of it
-row-of : (m : PathMap) (d : DebugData) (rs : DataReadings) (r : Refusal) → TableAmong (line_source d) (places_by (changes_of m (around_of d rs) rs) d) rs.lines r
+row-of : (m : PathMap) (d : DebugData) (rs : DataReadings) (r : Refusal) → TablesTo (line_source d) 0 rs.lines (length (line_source d).bytes)
+    → TableAmong (line_source d) (on_paths (places_by (changes_of m (around_of d rs) rs) d)) rs.lines r
     → AddendsFail (changes_of m (around_of d rs) rs) d (around_of d rs) rs r
-row-of m d rs r h =
+row-of m d rs r reads h =
     let x = h.path in
     let missed = x.missed in
+    let one = table-among (line_source d) 0 (length (line_source d).bytes) h.before h.behind h.table
+    (subst (λ (ts : List LineReading). TablesTo (line_source d) 0 ts (length (line_source d).bytes)) h.among reads) in
     subst (AddendsFail (changes_of m (around_of d rs) rs) d (around_of d rs) rs) (sym missed.told)
-    (in_lines h.before h.behind h.table x.path h.among
-    (record { before = x.before; behind = x.behind; among = x.among; named = missed.named; place = missed.place; put = missed.put; misses = missed.misses }))
+    (in_lines h.before h.behind h.table (as_path x.path) h.among
+    (misses-texts (line_source d) (places_by (changes_of m (around_of d rs) rs) d) one.start h.table x.path one.reads
+    (record { before = x.before; behind = x.behind; among = x.among; named = missed.named; place = missed.place; put = missed.put; misses = missed.misses })))
 
 file-misses : (m : PathMap) (b : List ℕ) (us : List SectionFields) (ts : List LineTable) (ps pl : TextTable) (ks kl : ℕ → Option ℕ) (r : Refusal) (f : PathsFound m (view_of b) us ts)
     → TableMade m (view_of b) InStr us ps ks → TableMade m (view_of b) InLineStr us pl kl
@@ -334,8 +348,8 @@ file-misses : (m : PathMap) (b : List ℕ) (us : List SectionFields) (ts : List 
 unfolding table_change
 file-misses m b us ts ps pl ks kl r f s l h =
     let g : LineSource = line_source (file_data b) in
-    row-of m (file_data b) f.readings r
-    (tables-miss g m (new_place g ks kl) (places_by (changes_of m (around_of (file_data b) f.readings) f.readings) (file_data b)) 0 (length g.bytes) f.readings.lines r refl
+    row-of m (file_data b) f.readings r f.reads.lines
+    (tables-miss g m (new_place g ks kl) (on_paths (places_by (changes_of m (around_of (file_data b) f.readings) f.readings) (file_data b))) 0 (length g.bytes) f.readings.lines r refl
     (file-apart b f.readings.lines f.reads.lines) (left-clear (file_data b) (moving_sections (view_of b)) f.readings.lines f.relocations.left f.reads.lines) f.reads.lines
     (lines-agree m (view_of b) us ts ps pl ks kl f s l)
     (subst (λ (fs : List NewFieldOffset). OffsetMisses g.number g.cells fs r) (known-fields m g ks kl ts f.readings.lines f.tables) h))

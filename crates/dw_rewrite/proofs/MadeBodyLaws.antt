@@ -8,7 +8,7 @@ use Rattle.dw_base.specs.DebugSections.{name_of}
 use Rattle.dw_base.specs.FileViews.{View, section_named}
 use Rattle.dw_base.specs.Layout.{output_limit}
 use Rattle.dw_base.specs.LineChanges.{line_place}
-use Rattle.dw_base.specs.LineReadings.{LineReading, all_lines, starts_from, table_starts}
+use Rattle.dw_base.specs.LineReadings.{LineReading, TablesTo, all_lines, starts_from, table_starts}
 use Rattle.dw_base.specs.LineSources.{LineSource}
 use Rattle.dw_base.specs.LineTables.{LineTable}
 use Rattle.dw_base.specs.Paths.{PathMap}
@@ -24,9 +24,12 @@ use Rattle.dw_base.specs.declared.texts.TextSection.{TextSection}
 use Rattle.dw_base.specs.declared.texts.TextSection.TheVariants.{InStr, InLineStr}
 use Rattle.dw_lines.specs.ViewTables.{TablesFound}
 use Rattle.dw_meaning.specs.DataOutput.{Body, DataFits, EachWritable, cells_body, changes_of, lines_body, macro_bodies, macros_after, names_after, new_bodies, new_lines, offsets_after, table_change, unit_bodies}
-use Rattle.dw_meaning.specs.NewAddends.{AddendsFit}
+use Rattle.dw_meaning.specs.NewAddends.{AddendsFit, places_by}
 use Rattle.dw_find.specs.FoundPaths.{PathsFound, without_lines}
 use Rattle.dw_find.specs.MacroSections.{HaveUnits, SectionUnits, UnitsFoundIn, macros_read}
+use Rattle.dw_meaning.proofs.DataKeptLaws.{places-stay, table-asks}
+use Rattle.dw_meaning.proofs.FurtherTableLaws.{lines-same as texts-same}
+use Rattle.dw_meaning.proofs.TextRowLaws.{can-texts}
 use Rattle.dw_rewrite.specs.Changes.{FieldSource, Knows, start_known}
 use Rattle.dw_rewrite.specs.NewStarts.{StartsFit}
 use Rattle.dw_find.specs.ViewFields.{AllHaveOffsets, AllHavePlaces, AllRoomsFit, fields_of, table_number}
@@ -169,13 +172,18 @@ known-lines m v us ts ps pl ks kl f s l =
     ap (lines_known m (line_source (debug_data v)) ks kl) f.tables
     ∙ lines-same (line_source (debug_data v)) m (change_of_table m v f.readings InStr) (change_of_table m v f.readings InLineStr) ks kl f.readings.lines
     (lines-agree m v us ts ps pl ks kl f s l)
+    ∙ sym (texts-same m (change_of_table m v f.readings InStr) (change_of_table m v f.readings InLineStr) (line_source (debug_data v)) 0 (length (line_source (debug_data v)).bytes)
+    f.readings.lines (table-asks m InStr (around_of (debug_data v) f.readings) f.readings) (table-asks m InLineStr (around_of (debug_data v) f.readings) f.readings) f.reads.lines)
 
 -- each can be written
-each-writable : (m : PathMap) (d : DebugData) (rs : DataReadings) (xs : List LineReading)
+each-writable : (m : PathMap) (d : DebugData) (rs : DataReadings) (p e : ℕ) (xs : List LineReading) → TablesTo (line_source d) p xs e
     → EachCanWrite (line_source d) m ((changes_of m (around_of d rs) rs).new Str) ((changes_of m (around_of d rs) rs).new LineStr) xs
     → EachWritable m (changes_of m (around_of d rs) rs) (around_of d rs) xs
-each-writable m d rs [] can = tt
-each-writable m d rs (x ∷ xs) can = (can.0, each-writable m d rs xs can.1)
+each-writable m d rs p e [] reads can = tt
+each-writable m d rs p e (x ∷ xs) reads can = (
+  can-texts (line_source d) m (places_by (changes_of m (around_of d rs) rs) d) p x (places-stay m d rs) reads.0 can.0,
+  each-writable m d rs x.header.end e xs reads.1 can.1,
+)
 
 pub made-fits : (m : PathMap) (v : View) (us : List SectionFields) (ts : List LineTable) (ps pl : TextTable) (ks kl : ℕ → Option ℕ) (bs ns : List ℕ) (f : PathsFound m v us ts)
     → TableMade m v InStr us ps ks → TableMade m v InLineStr us pl kl → LinesWritten m (line_source (debug_data v)) ks kl ts bs ns
@@ -184,7 +192,7 @@ pub made-fits : (m : PathMap) (v : View) (us : List SectionFields) (ts : List Li
 made-fits m v us ts ps pl ks kl bs ns f s l w addends = record {
   inline = f.inline;
   slots = f.slots;
-  lines = each-writable m (debug_data v) f.readings f.readings.lines
+  lines = each-writable m (debug_data v) f.readings 0 (length (line_source (debug_data v)).bytes) f.readings.lines f.reads.lines
       (all-can (line_source (debug_data v)) m (change_of_table m v f.readings InStr) (change_of_table m v f.readings InLineStr) ks kl f.readings.lines
       (lines-agree m v us ts ps pl ks kl f s l) (subst (AllCanWrite m (line_source (debug_data v)) ks kl) f.tables w.can));
   addends = addends;

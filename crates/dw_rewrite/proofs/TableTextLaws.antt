@@ -4,7 +4,7 @@ use Rattle.dw_base.specs.Cells.{Cell}
 use Rattle.dw_base.specs.DebugData.{DataReadings, around_of, line_source, path_slots, ReadsAll}
 use Rattle.dw_base.specs.DebugSections.{name_of}
 use Rattle.dw_base.specs.FileViews.{View, section_named}
-use Rattle.dw_base.specs.LineChanges.{line_mentions}
+use Rattle.dw_base.specs.TextLineChanges.{all_texts_mentions}
 use Rattle.dw_base.specs.LineReadings.{LineReading, AreTables}
 use Rattle.dw_base.specs.LineSources.{LineSource}
 use Rattle.dw_base.specs.LineTables.{LineTable}
@@ -21,6 +21,7 @@ use Rattle.dw_base.specs.declared.texts.TextSection.TheVariants.{InStr, InLineSt
 use Rattle.dw_lines.specs.ViewTables.{tables_read}
 use Rattle.dw_lines.proofs.ViewTableLaws.{source-none}
 use Rattle.dw_meaning.specs.DataOutput.{table_change}
+use Rattle.dw_meaning.proofs.FurtherLaws.{appending-asks, lines-ask}
 use Rattle.dw_meaning.proofs.LineSectionLaws.{no-tables}
 use Rattle.dw_find.specs.FoundPaths.{PathsFound}
 use Rattle.dw_find.specs.MacroSections.{macros_read}
@@ -57,13 +58,14 @@ same-lines g InLineStr ts = refl
 -- their texts
 lines-texts-by : (m : PathMap) (v : View) (table : TextSection) (ts : List (List ℕ)) (rs : List LineReading) (o : Option ℕ) → o ≡ section_named v (name_of Line)
     → AreTables (line_source (debug_data v)) rs
-    → texts_after (plan_in m v table) m ts (line_mentions (line_source (debug_data v)) table rs)
+    → texts_after (plan_in m v table) m ts (all_texts_mentions (line_source (debug_data v)) table rs)
     ≡ all_texts_at m v table ts (lines_by o (line_source (debug_data v)) (tables_read (line_source (debug_data v)) rs))
 lines-texts-by m v table ts rs None e are =
-    ap (λ (xs : List LineReading). texts_after (plan_in m v table) m ts (line_mentions (line_source (debug_data v)) table xs)) (lines-none v rs e are)
+    ap (λ (xs : List LineReading). texts_after (plan_in m v table) m ts (all_texts_mentions (line_source (debug_data v)) table xs)) (lines-none v rs e are)
 lines-texts-by m v table ts rs (Some i) e are =
     let us : List LineTable = tables_read (line_source (debug_data v)) rs in
-    lines-texts (line_source (debug_data v)) table (plan_in m v table) m ts 0 (length (line_source (debug_data v)).bytes) rs (lines-whole v) are
+    lines-ask (plan_in m v table) m ts (line_source (debug_data v)) table 0 (length (line_source (debug_data v)).bytes) rs (appending-asks m (texts_of v table).bytes) are
+    ∙ lines-texts (line_source (debug_data v)) table (plan_in m v table) m ts 0 (length (line_source (debug_data v)).bytes) rs (lines-whole v) are
     ∙ ap (λ (s : FieldSource). texts_at (plan_in m v table) m s ts
     (table_fields (line_source (debug_data v)).number (line_source (debug_data v)).str.number table (tables_read (line_source (debug_data v)) rs))) (same-texts v table i e)
     ∙ ap (texts_at (plan_in m v table) m (source_in v (line_source (debug_data v)).number table) ts)
@@ -90,7 +92,7 @@ unfolding table_change
 table-texts m v rs ts table reads offsets lines is =
     let us : List Mention = all_mentions table (around_of (debug_data v) rs) rs.units in
     let ss : List Mention = mentions_with (slot_role (path_slots (around_of (debug_data v) rs))) table (around_of (debug_data v) rs) rs.offsets in
-    let ls : List Mention = line_mentions (line_source (debug_data v)) table rs.lines in
+    let ls : List Mention = all_texts_mentions (line_source (debug_data v)) table rs.lines in
     let ms : List Mention = macro_mentions table (around_of (debug_data v) rs) rs.macros in
     let ns : List Mention = mentions_with name_role table (around_of (debug_data v) rs) rs.names in
     let units : List (List ℕ) = all_texts_at m v table [] (paths_of rs.units) in

@@ -6,9 +6,9 @@ use Rattle.dw_base.specs.DebugData.{DebugData, DataReadings, around_of, line_sou
 use Rattle.dw_base.specs.DebugSections.{name_of}
 use Rattle.dw_base.specs.FileViews.{View, section_named, view_of}
 use Rattle.dw_base.specs.Layout.{output_limit}
-use Rattle.dw_base.specs.LineChanges.{line_place}
+use Rattle.dw_base.specs.TextLineChanges.{text_place}
 use Rattle.dw_base.specs.LineReadings.{LineReading, all_lines, table_read}
-use Rattle.dw_base.specs.LineWriteFails.{WriteFails}
+use Rattle.dw_base.specs.TextWriteFails.{TextWriteFails}
 use Rattle.dw_base.specs.Paths.{PathMap}
 use Rattle.dw_base.specs.Refusals.{at}
 use Rattle.dw_base.specs.SectionRelocations.{relocation_section}
@@ -72,6 +72,6 @@ pub data BodiesRefuse (m : PathMap) (d : DebugData) : Refusal → Type 0 where
   long_lines_of : (r : DataReadings) → DataReads d r → PathsFit m d r → (d.found Line).number ≢ 0
       → output_limit < length (all_lines (new_lines m (around_of d r) r)) → BodiesRefuse m d (at TooLarge (d.found Line).number 0)
   line_table_of : (r : DataReadings) (before behind : List LineReading) (t : LineReading) {x : Refusal} → DataReads d r → r.lines ≡ before ++ t ∷ behind
-      → WriteFails (line_source d) m (line_place m ((changes_of m (around_of d r) r).new Str) ((changes_of m (around_of d r) r).new LineStr) (line_source d)) (table_read (line_source d) t) x
+      → TextWriteFails (line_source d) m (text_place m ((changes_of m (around_of d r) r).new Str) ((changes_of m (around_of d r) r).new LineStr) (line_source d)) (table_read (line_source d) t) x
       → BodiesRefuse m d x
   addend_of : (r : DataReadings) {x : Refusal} → DataReads d r → PathsFit m d r → AddendsFail (changes_of m (around_of d r) r) d (around_of d r) r x → BodiesRefuse m d x

@@ -3,17 +3,19 @@ use Rattle.std.proofs.Common.{◌≡◌, ◌≢◌, ℕ, zero, suc, ◌+◌, ◌
 use Rattle.std.proofs.lemmas.Bool.{eq-eqb}
 use Rattle.std.proofs.lemmas.List.{append_assoc, length-append, length-take}
 use Rattle.dw_base.specs.DebugData.{Around, source_around}
-use Rattle.dw_base.specs.LineChanges.{line_place, lines_after}
 use Rattle.dw_base.specs.LineHeaders.{length_place}
 use Rattle.dw_base.specs.LineReadings.{LineReading, all_lines, table_read}
 use Rattle.dw_base.specs.LineSources.{LineSource}
 use Rattle.dw_base.specs.LineTables.{LineTable}
-use Rattle.dw_base.specs.LineWriteFails.{CanWrite}
 use Rattle.dw_base.specs.Numbers.{number_bytes}
 use Rattle.dw_base.specs.Paths.{IsPathMap, PathMap}
+use Rattle.dw_base.specs.TableTexts.{as_path}
 use Rattle.dw_base.specs.TextChanges.{TableChange, TableChanges}
-use Rattle.dw_base.specs.WrittenLines.{Change, all_changes, bytes_at, changed, inline_change, part, with_header_length, written_header, written_rest, written_table}
+use Rattle.dw_base.specs.TextLineChanges.{header_by_texts, rest_by_texts, table_by_texts, tables_by_texts, text_place, texts_changes}
+use Rattle.dw_base.specs.TextWriteFails.{CanWriteTexts}
+use Rattle.dw_base.specs.WrittenLines.{Change, bytes_at, changed, inline_change, part, with_header_length}
 use Rattle.dw_base.specs.declared.debug_sections.DebugSection.TheVariants.{LineStr, Str}
+use Rattle.dw_base.specs.declared.line_tables.LineText.{LineText}
 use Rattle.dw_base.specs.declared.line_tables.TextPlace.{TextPlace}
 use Rattle.dw_base.specs.declared.shared.Width.TheVariants.{W32}
 use Rattle.dw_base.proofs.NumberLaws.{length-number_bytes}
@@ -56,8 +58,8 @@ length-two m bytes from end x y fit =
     omega (arith, first, second, one, two, three, last, middle, all, rest_is)
 
 -- the changes of two paths that stand in the table
-changes-are : (g : LineSource) (m : PathMap) (places : TextPlace → Option ℕ) (x y : TextPlace) → x.section ≡ g.number → y.section ≡ g.number
-    → all_changes g m places W32 (x ∷ y ∷ []) ≡ inline_change m g.bytes x ∷ inline_change m g.bytes y ∷ []
+changes-are : (g : LineSource) (m : PathMap) (places : LineText → Option ℕ) (x y : TextPlace) → x.section ≡ g.number → y.section ≡ g.number
+    → texts_changes g m places W32 (as_path x ∷ as_path y ∷ []) ≡ inline_change m g.bytes x ∷ inline_change m g.bytes y ∷ []
 changes-are g m places x y first second = rw (eq-eqb x.section g.number first, eq-eqb y.section g.number second) refl
 
 -- the table of a unit that starts at a place
@@ -68,9 +70,9 @@ table_at g start unit count = table_read g (reading_at g.number start unit count
 abbrev pub table_room : ℕ
 table_room = 8400
 
-length-header : (g : LineSource) (m : PathMap) (places : TextPlace → Option ℕ) (start unit count : ℕ) → IsPathMap m → unit < 2 ^ 32
-    → length (written_header g m places (table_at g start unit count)) ≤ 8300
-unfolding written_header length_place
+length-header : (g : LineSource) (m : PathMap) (places : LineText → Option ℕ) (start unit count : ℕ) → IsPathMap m → unit < 2 ^ 32
+    → length (header_by_texts g m places (table_at g start unit count)) ≤ 8300
+unfolding header_by_texts length_place
 length-header g m places start unit count fit small =
     let dir : TextPlace = place_of g.number (lists_place start) 12 in
     let file : TextPlace = place_of g.number (lists_place start + 12 + 1 + 1) (length (file_name unit)) in
@@ -89,37 +91,37 @@ length-front g t header width version =
     let behind = length-append (number_bytes g.order 4 (length header)) header in
     omega (arith, size, one, behind, length-append (part g.bytes (t.start + 4) (t.start + 4 + 2)) (number_bytes g.order 4 (length header) ++ header)))
 
-length-rest : (g : LineSource) (m : PathMap) (places : TextPlace → Option ℕ) (start unit count : ℕ) → IsPathMap m → unit < 2 ^ 32 → count ≤ 16
-    → length (written_rest g m places (table_at g start unit count)) ≤ 8390
+length-rest : (g : LineSource) (m : PathMap) (places : LineText → Option ℕ) (start unit count : ℕ) → IsPathMap m → unit < 2 ^ 32 → count ≤ 16
+    → length (rest_by_texts g m places (table_at g start unit count)) ≤ 8390
 length-rest g m places start unit count fit small few =
     let t : LineTable = table_at g start unit count in
     let header = length-header g m places start unit count fit small in
-    let front = length-front g t (written_header g m places t) refl refl in
+    let front = length-front g t (header_by_texts g m places t) refl refl in
     let rows = length-line_program unit count in
     let program = length-part g.bytes t.program t.end in
-    omega (arith, header, front, rows, program, length-append (with_header_length g t (written_header g m places t)) (part g.bytes t.program t.end))
+    omega (arith, header, front, rows, program, length-append (with_header_length g t (header_by_texts g m places t)) (part g.bytes t.program t.end))
 
-pub length-table : (g : LineSource) (m : PathMap) (places : TextPlace → Option ℕ) (start unit count : ℕ) → IsPathMap m → unit < 2 ^ 32 → count ≤ 16
-    → length (written_table g m places (table_at g start unit count)) ≤ table_room
-unfolding written_table
+pub length-table : (g : LineSource) (m : PathMap) (places : LineText → Option ℕ) (start unit count : ℕ) → IsPathMap m → unit < 2 ^ 32 → count ≤ 16
+    → length (table_by_texts g m places (table_at g start unit count)) ≤ table_room
+unfolding table_by_texts
 length-table g m places start unit count fit small few =
     let t : LineTable = table_at g start unit count in
     let rest = length-rest g m places start unit count fit small few in
-    let size = length-number_bytes g.order 4 (length (written_rest g m places t)) in
-    omega (arith, rest, size, length-append (number_bytes g.order 4 (length (written_rest g m places t))) (written_rest g m places t))
+    let size = length-number_bytes g.order 4 (length (rest_by_texts g m places t)) in
+    omega (arith, rest, size, length-append (number_bytes g.order 4 (length (rest_by_texts g m places t))) (rest_by_texts g m places t))
 
--- no path of it is named by an offset
-own-cases : (number : ℕ) (d f x : TextPlace) (k : ℕ) → k < length (d ∷ f ∷ []) → slice_index_or (d ∷ f ∷ []) k x ≡ x → d.section ≡ number → f.section ≡ number
-    → x.section ≡ number
-own-cases number d f x zero lt e dir file = ap (λ (y : TextPlace). y.section) (sym e) ∙ dir
-own-cases number d f x (suc zero) lt e dir file = ap (λ (y : TextPlace). y.section) (sym e) ∙ file
+-- no text of it is named by an offset
+own-cases : (number : ℕ) (d f x : LineText) (k : ℕ) → k < length (d ∷ f ∷ []) → slice_index_or (d ∷ f ∷ []) k x ≡ x → d.place.section ≡ number → f.place.section ≡ number
+    → x.place.section ≡ number
+own-cases number d f x zero lt e dir file = ap (λ (y : LineText). y.place.section) (sym e) ∙ dir
+own-cases number d f x (suc zero) lt e dir file = ap (λ (y : LineText). y.place.section) (sym e) ∙ file
 own-cases number d f x (suc (suc k)) lt e dir file = absurd (omega arith)
 
-none-elsewhere : (number : ℕ) (d f x : TextPlace) → d.section ≡ number → f.section ≡ number → Contains (d ∷ f ∷ []) x → x.section ≢ number → ⊥
+none-elsewhere : (number : ℕ) (d f x : LineText) → d.place.section ≡ number → f.place.section ≡ number → Contains (d ∷ f ∷ []) x → x.place.section ≢ number → ⊥
 none-elsewhere number d f x dir file among other = other (own-cases number d f x among.0 among.1 among.2 dir file)
 
-pub can-write : (g : LineSource) (m : PathMap) (places : TextPlace → Option ℕ) (start unit count : ℕ) → IsPathMap m → unit < 2 ^ 32 → count ≤ 16
-    → CanWrite g m places (table_at g start unit count)
+pub can-write : (g : LineSource) (m : PathMap) (places : LineText → Option ℕ) (start unit count : ℕ) → IsPathMap m → unit < 2 ^ 32 → count ≤ 16
+    → CanWriteTexts g m places (table_at g start unit count)
 can-write g m places start unit count fit small few =
     let header = length-header g m places start unit count fit small in
     let rest = length-rest g m places start unit count fit small few in
@@ -127,7 +129,8 @@ can-write g m places start unit count fit small few =
       table = omega (arith, rest);
       header = omega (arith, header);
       offsets = λ x place among other put.
-          absurd (none-elsewhere g.number (place_of g.number (lists_place start) 12) (place_of g.number (lists_place start + 12 + 1 + 1) (length (file_name unit))) x refl refl among other);
+          absurd (none-elsewhere g.number (as_path (place_of g.number (lists_place start) 12)) (as_path (place_of g.number (lists_place start + 12 + 1 + 1) (length (file_name unit)))) x
+          refl refl among other);
       defined = tt;
     }
 
@@ -144,25 +147,25 @@ tables-writable m c around counts (suc unit) fit small few =
     let start = length (lines_of counts unit) in
     writable-append m c around (readings_of g.number counts unit) (reading_at g.number start unit (slice_index counts unit) ∷ [])
     (tables-writable m c around counts unit fit (omega arith) few)
-    (can-write g m (line_place m (c.new Str) (c.new LineStr) g) start unit (slice_index counts unit) fit (omega arith) (few.each unit), tt)
+    (can-write g m (text_place m (c.new Str) (c.new LineStr) g) start unit (slice_index counts unit) fit (omega arith) (few.each unit), tt)
 
 after-append : (m : PathMap) (str line_str : TableChange) (g : LineSource) (rs qs : List LineReading)
-    → all_lines (lines_after m str line_str g (rs ++ qs)) ≡ all_lines (lines_after m str line_str g rs) ++ all_lines (lines_after m str line_str g qs)
+    → all_lines (tables_by_texts m str line_str g (rs ++ qs)) ≡ all_lines (tables_by_texts m str line_str g rs) ++ all_lines (tables_by_texts m str line_str g qs)
 after-append m str line_str g [] qs = refl
 after-append m str line_str g (r ∷ rs) qs =
-    let table : List ℕ = written_table g m (line_place m str line_str g) (table_read g r) in
-    ap (λ (bs : List ℕ). table ++ bs) (after-append m str line_str g rs qs) ∙ sym (append_assoc table (all_lines (lines_after m str line_str g rs)) (all_lines (lines_after m str line_str g qs)))
+    let table : List ℕ = table_by_texts g m (text_place m str line_str g) (table_read g r) in
+    ap (λ (bs : List ℕ). table ++ bs) (after-append m str line_str g rs qs) ∙ sym (append_assoc table (all_lines (tables_by_texts m str line_str g rs)) (all_lines (tables_by_texts m str line_str g qs)))
 
 pub length-tables : (m : PathMap) (str line_str : TableChange) (g : LineSource) (counts : List ℕ) (units : ℕ) → IsPathMap m → units < 2 ^ 32 → AreFew counts
-    → length (all_lines (lines_after m str line_str g (readings_of g.number counts units))) ≤ units * table_room
+    → length (all_lines (tables_by_texts m str line_str g (readings_of g.number counts units))) ≤ units * table_room
 length-tables m str line_str g counts zero fit small few = omega arith
 length-tables m str line_str g counts (suc unit) fit small few =
     let start = length (lines_of counts unit) in
     let count = slice_index counts unit in
     let last : LineReading = reading_at g.number start unit count in
-    let table : List ℕ = written_table g m (line_place m str line_str g) (table_at g start unit count) in
+    let table : List ℕ = table_by_texts g m (text_place m str line_str g) (table_at g start unit count) in
     let front = length-tables m str line_str g counts unit fit (omega arith) few in
-    let one = length-table g m (line_place m str line_str g) start unit count fit (omega arith) (few.each unit) in
+    let one = length-table g m (text_place m str line_str g) start unit count fit (omega arith) (few.each unit) in
     let both = ap length (after-append m str line_str g (readings_of g.number counts unit) (last ∷ [])) in
-    let split = length-append (all_lines (lines_after m str line_str g (readings_of g.number counts unit))) (table ++ []) in
+    let split = length-append (all_lines (tables_by_texts m str line_str g (readings_of g.number counts unit))) (table ++ []) in
     omega (arith, front, one, both, split, length-append table [])

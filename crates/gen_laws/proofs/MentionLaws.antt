@@ -4,17 +4,17 @@ use Rattle.std.proofs.lemmas.Bool.{eq-eqb}
 use Rattle.std.proofs.lemmas.List.{append_assoc, length-append}
 use Rattle.dw_base.specs.DebugData.{Around}
 use Rattle.dw_base.specs.Forms.{form_rows, kind_in}
-use Rattle.dw_base.specs.LineChanges.{line_mentions, mention_in, paths_mentions}
 use Rattle.dw_base.specs.LineReadings.{LineReading, table_read}
 use Rattle.dw_base.specs.LineSources.{LineSource}
 use Rattle.dw_base.specs.Paths.{IsPathMap, PathMap, mapped_path}
 use Rattle.dw_base.specs.Pieces.{EachPiece, Piece}
 use Rattle.dw_base.specs.Roles.{role_of}
 use Rattle.dw_base.specs.StringTables.{Mention, Plan, new_table, new_text, new_texts, texts_after, with_mention, with_text}
+use Rattle.dw_base.specs.TableTexts.{as_path}
 use Rattle.dw_base.specs.TextChanges.{mentions_by, mentions_of}
+use Rattle.dw_base.specs.TextLineChanges.{all_texts_mentions, mention_of, texts_mentions}
 use Rattle.dw_base.specs.Texts.{is_in, laid_texts}
 use Rattle.dw_base.specs.UnitStates.{UnitState}
-use Rattle.dw_base.specs.WrittenLines.{paths_of}
 use Rattle.dw_base.specs.declared.line_tables.TextPlace.{TextPlace}
 use Rattle.dw_base.proofs.PathLaws.{length-mapped_path}
 use Rattle.dbg_gen.specs.Asked.{AreFew}
@@ -155,23 +155,23 @@ pub units-other : (around : Around) (whole : ℕ) (texts : List (List ℕ)) (cou
 units-other around whole texts counts units = none-mentioned around (all_pieces whole texts counts units) (pieces-other around whole texts counts units)
 
 -- the paths of line tables stand in them, so they name no text of a table
-own-path : (g : LineSource) (table : TextSection) (x : TextPlace) → x.section ≡ g.number → mention_in g table x ≡ []
+own-path : (g : LineSource) (table : TextSection) (x : TextPlace) → x.section ≡ g.number → mention_of g table (as_path x) ≡ []
 own-path g InStr x e = rw (eq-eqb x.section g.number e) refl
 own-path g InLineStr x e = rw (eq-eqb x.section g.number e) refl
 
-lines-append : (g : LineSource) (table : TextSection) (rs qs : List LineReading) → line_mentions g table (rs ++ qs) ≡ line_mentions g table rs ++ line_mentions g table qs
+lines-append : (g : LineSource) (table : TextSection) (rs qs : List LineReading) → all_texts_mentions g table (rs ++ qs) ≡ all_texts_mentions g table rs ++ all_texts_mentions g table qs
 lines-append g table [] qs = refl
 lines-append g table (r ∷ rs) qs =
-    ap (λ (ms : List Mention). paths_mentions g table (paths_of (table_read g r)) ++ ms) (lines-append g table rs qs)
-    ∙ sym (append_assoc (paths_mentions g table (paths_of (table_read g r))) (line_mentions g table rs) (line_mentions g table qs))
+    ap (λ (ms : List Mention). texts_mentions g table (table_read g r).texts ++ ms) (lines-append g table rs qs)
+    ∙ sym (append_assoc (texts_mentions g table (table_read g r).texts) (all_texts_mentions g table rs) (all_texts_mentions g table qs))
 
-own-table : (g : LineSource) (table : TextSection) (start unit count : ℕ) → paths_mentions g table (paths_of (table_read g (reading_at g.number start unit count))) ≡ []
+own-table : (g : LineSource) (table : TextSection) (start unit count : ℕ) → texts_mentions g table (table_read g (reading_at g.number start unit count)).texts ≡ []
 own-table g table start unit count =
     let dir = own-path g table (place_of g.number (lists_place start) 12) refl in
     let file = own-path g table (place_of g.number (lists_place start + 12 + 1 + 1) (length (file_name unit))) refl in
     rw (dir, file) refl
 
-pub lines-unnamed : (g : LineSource) (table : TextSection) (counts : List ℕ) (units : ℕ) → line_mentions g table (readings_of g.number counts units) ≡ []
+pub lines-unnamed : (g : LineSource) (table : TextSection) (counts : List ℕ) (units : ℕ) → all_texts_mentions g table (readings_of g.number counts units) ≡ []
 lines-unnamed g table counts zero = refl
 lines-unnamed g table counts (suc unit) =
     lines-append g table (readings_of g.number counts unit) (reading_at g.number (length (lines_of counts unit)) unit (slice_index counts unit) ∷ [])
