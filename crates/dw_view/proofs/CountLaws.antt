@@ -129,3 +129,17 @@ nth-past test k (suc n) few =
     let none : (test n && count_below test n == k) ≡ false =
     and-none (test n) (count_below test n == k) (λ passes. differ (count_below test n) k (λ e. omega (arith, e, count-next test n passes))) in
     ap (λ (t : Bool). or_this (nth_below test k n) n t) none ∙ or-none (nth_below test k n) n ∙ before
+
+-- tests that agree below a bound
+pub count-alike : (f g : ℕ → Bool) (n : ℕ) → ((i : ℕ) → i < n → f i ≡ g i) → count_below f n ≡ count_below g n
+count-alike f g zero same = refl
+count-alike f g (suc n) same =
+    ap (λ (b : Bool). if b then count_below f n + 1 else count_below f n) (same n (omega arith))
+    ∙ ap (λ (k : ℕ). if g n then k + 1 else k) (count-alike f g n (λ i lt. same i (omega (arith, lt))))
+
+pub nth-alike : (f g : ℕ → Bool) (k n : ℕ) → ((i : ℕ) → i < n → f i ≡ g i) → nth_below f k n ≡ nth_below g k n
+nth-alike f g k zero same = refl
+nth-alike f g k (suc n) same =
+    ap (λ (o : Option ℕ). or_this o n (f n && count_below f n == k)) (nth-alike f g k n (λ i lt. same i (omega (arith, lt))))
+    ∙ ap (λ (b : Bool). or_this (nth_below g k n) n (b && count_below f n == k)) (same n (omega arith))
+    ∙ ap (λ (m : ℕ). or_this (nth_below g k n) n (g n && m == k)) (count-alike f g n (λ i lt. same i (omega (arith, lt))))

@@ -28,7 +28,7 @@ name_table-some b some = by_index (name_index b == 0) refl
     by_index true e = absurd (some (grind (arith, nat_tests, e)))
     by_index false e = refl
 
-name_table-none : (b : List ℕ) → name_index b ≡ 0 → name_table b ≡ []
+pub name_table-none : (b : List ℕ) → name_index b ≡ 0 → name_table b ≡ []
 unfolding name_table
 name_table-none b none = rw none refl
 
@@ -36,7 +36,7 @@ contents-null : (b : List ℕ) (i : ℕ) → is_empty_kind (nth_section b i) ≡
 unfolding contents_of contents_at
 contents-null b i empty = rw empty refl
 
-name_table-read : (b : List ℕ) (i : ℕ) → DebugReads b → i < section_count b → name_table b ≡ contents_of b (name_index b)
+pub name_table-read : (b : List ℕ) (i : ℕ) → DebugReads b → i < section_count b → name_table b ≡ contents_of b (name_index b)
 name_table-read b i reads lt = elim (cases_eq (name_index b) 0) [
   | inl none ↦
       let null : (nth_section b 0).kind ≡ 0 = reads.index.null (table_there b i lt) in

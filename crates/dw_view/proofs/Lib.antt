@@ -5,6 +5,7 @@ pub mod RepeatLaws
 pub mod FoundLaws
 pub mod ViewLaws
 pub mod CountLaws
+pub mod TextNumberLaws
 pub mod StandLaws
 pub mod PartLaws
 pub mod PairingLaws

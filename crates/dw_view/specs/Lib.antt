@@ -3,6 +3,7 @@ pub mod Kept
 pub mod PairViews
 pub mod SectionParts
 pub mod Pairs
+pub mod TextNumbers
 pub mod Standing
 pub mod Places
 pub mod Relocations

@@ -42,6 +42,7 @@ mod section_bytes;
 mod sections;
 mod source;
 mod standing;
+mod text_numbers;
 mod view;
 
 pub use dw_base::{DebugSection, Fault, Field, Kind, Order, Refusal};

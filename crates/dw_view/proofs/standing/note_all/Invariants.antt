@@ -4,4 +4,4 @@ use Rattle.dw_view.specs.Standing.{AreLeft, heads_of}
 use Rattle.dw_view.proofs.standing.note_all.Given as goal
 
 abbrev pub invariant-loop-passed : goal.invariant-loop-passed
-invariant-loop-passed l = AreLeft l.stripped.bytes.now (l.count - l.passed) (heads_of l.heads.heads) l.next.items
+invariant-loop-passed l = AreLeft l.stripped.bytes.now l.names (l.count - l.passed) (heads_of l.heads.heads) l.next.items
