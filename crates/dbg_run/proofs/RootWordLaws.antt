@@ -1,11 +1,10 @@
--- What the words of a run say: 1 to 64 of its jobs are in work at a time, its seed has no NUL, as no word has one, and its map has one
--- pair.
-use Rattle.std.proofs.Common.{◌≡◌, ℕ, ◌≤◌, ◌<◌, ◌+◌, Bool, true, false, ◌&&◌, ◌||◌, ◌==◌, List, [], ◌∷◌, length, map, Option, Some, None, refl, subst, lit≤}
+-- What the words of a run say: 1 to 64 of its jobs are in work at a time, and its seed has no NUL, as no word has one.
+use Rattle.std.proofs.Common.{◌≡◌, ℕ, ◌≤◌, ◌<◌, ◌+◌, Bool, true, false, ◌&&◌, ◌||◌, ◌==◌, List, [], ◌∷◌, map, Option, Some, None, refl, subst, lit≤}
 use Rattle.std.specs.Prelude.{if◌then◌else◌, codes, is_some, nat_le, option_and_then, unwrap_or, ⊤}
 use Rattle.std.specs.List.{AllByRecursion, list_any, position_or_len}
 use Rattle.std.specs.Str.Parse.{digits_value}
 use Rattle.std.proofs.lemmas.Bool.{leb-true}
-use Rattle.dw_base.specs.Paths.{PathMap, is_prefix, path_map}
+use Rattle.dw_base.specs.Paths.{PathMap}
 use Rattle.dw_base.specs.Texts.{has_nul, is_in, same_text}
 use Rattle.dw_base.proofs.TextLaws.{has_nul-drop}
 use Rattle.job_types.specs.Settings.{HasKey, Settings, most_file}
@@ -13,9 +12,8 @@ use Rattle.dbg_words.specs.CommandLines.{CommandLine, Look, Part, are_fit, attac
 use Rattle.dbg_words.specs.CommandLines.Look.{plain, ending, optional, short}
 use Rattle.dbg_words.specs.CommandLines.Part.{path, value, flag}
 use Rattle.dbg_words.specs.Decimals.{is_decimal, number_within}
-use Rattle.dbg_words.specs.MapWords.{with_more}
 use Rattle.dbg_words.specs.PathWords.{path_named}
-use Rattle.dbg_words.specs.Words.{command, command_named, edit_listed, edit_named, edit_of, edit_paths, exercise_named, exercise_of, exercise_seeded, is_bare, list_path, maps_named, number_or, one_of, other_path, run_below, run_named, run_of, run_settled, settings_limited, settings_mapped, settings_of, show_named, show_of, show_one, split_named, split_of, split_paths, three_of, two_of, two_paths, unstrip_named, unstrip_of, unstrip_paths, are_apart, check_mapped, check_named, check_of, check_paths, gather_into, gather_named, gather_of, gather_paths, has_dest_alone, has_no_job, maps_of, target_of}
+use Rattle.dbg_words.specs.Words.{command, command_named, edit_listed, edit_named, edit_of, edit_paths, exercise_named, exercise_of, exercise_seeded, is_bare, list_path, number_or, one_of, other_path, run_below, run_named, run_of, run_settled, settings_limited, settings_mapped, settings_of, show_named, show_of, show_one, split_named, split_of, split_paths, three_of, two_of, two_paths, unstrip_named, unstrip_of, unstrip_paths, are_apart, check_mapped, check_named, check_of, check_paths, gather_into, gather_named, gather_of, gather_paths, has_dest_alone, has_no_job, maps_of, target_of}
 use Rattle.dbg_words.specs.declared.command.Command.{Command}
 use Rattle.dbg_words.specs.declared.command.Command.TheVariants.{Edit, Split, Run, Show, Unstrip, Check, Gather, Exercise}
 use Rattle.dbg_run.specs.Built.{built, if_built, is_built}
@@ -142,46 +140,28 @@ unwrap-seed : (o : Option (List ℕ)) → All IsBare o → IsBare (unwrap_or o [
 unwrap-seed None a = refl
 unwrap-seed (Some x) a = a
 
--- a map without further pairs has one
-abbrev HasOne : PathMap → Type 0
-HasOne m = length m.pairs ≡ 1
+settings-key : (l : CommandLine) → SeedBare l → All HasKey (settings_of l)
+settings-key l b =
+    all_then (λ (m : PathMap). ⊤) HasKey (settings_mapped l) (maps_of l) (any (maps_of l))
+    (λ maps _. all_map (λ (most : ℕ). ⊤) HasKey (settings_limited l maps) (number_or 1 most_file most_file l.max_file) (any (number_or 1 most_file most_file l.max_file))
+    (λ most _. record { seed = unwrap-seed l.seed b }))
 
-named-one : (base dest : Option (List ℕ)) → All HasOne (maps_named base dest)
-unfolding path_map
-named-one (Some base) (Some dest) = all_if HasOne (is_prefix base && is_prefix dest) (Some (path_map base dest)) None refl tt
-named-one (Some base) None = tt
-named-one None dest = tt
-
-more-none : (o : Option (List ℕ)) (m : PathMap) → is_some o ≡ false → HasOne m → All HasOne (with_more o m)
-more-none None m none one = one
-more-none (Some word) m none one = absurd (cc)
-
-maps-one : (l : CommandLine) → is_some l.more_maps ≡ false → All HasOne (maps_of l)
-maps-one l none =
-    all_then HasOne HasOne (with_more l.more_maps) (maps_named l.base_dir l.dest_dir) (named-one l.base_dir l.dest_dir) (λ m one. more-none l.more_maps m none one)
-
-settings-key : (l : CommandLine) → SeedBare l → is_some l.more_maps ≡ false → All HasKey (settings_of l)
-settings-key l b none =
-    all_then HasOne HasKey (settings_mapped l) (maps_of l) (maps-one l none)
-    (λ maps one. all_map (λ (most : ℕ). ⊤) HasKey (settings_limited l maps) (number_or 1 most_file most_file l.max_file) (any (number_or 1 most_file most_file l.max_file))
-    (λ most _. record { one = one; seed = unwrap-seed l.seed b }))
-
-run-below-fit : (l : CommandLine) → SeedBare l → is_some l.more_maps ≡ false → All IsRunFit (option_and_then (run_named l) (one_of l.paths))
-run-below-fit l b none =
+run-below-fit : (l : CommandLine) → SeedBare l → All IsRunFit (option_and_then (run_named l) (one_of l.paths))
+run-below-fit l b =
     all_then (λ (a : List ℕ). ⊤) IsRunFit (run_named l) (one_of l.paths) (any (one_of l.paths)) (λ w _.
     all_then (λ (a : List ℕ). ⊤) IsRunFit (run_below l) (path_named w) (any (path_named w)) (λ root _.
-    all_then HasKey IsRunFit (run_settled l root) (settings_of l) (settings-key l b none) (λ o key.
+    all_then HasKey IsRunFit (run_settled l root) (settings_of l) (settings-key l b) (λ o key.
     all_map (IsIn 1 64) IsRunFit (λ jobs. Run root o jobs) (number_or 1 64 1 l.jobs) (jobs-in l.jobs) (λ jobs is. (is.0, is.1, key)))))
 
 run-fit : (l : CommandLine) → SeedBare l → All IsRunFit (run_of l)
 unfolding run_of
-run-fit l b = by_options (is_some l.list_file) (is_some l.more_maps) l.grow_inline refl
+run-fit l b = by_options (is_some l.list_file) (is_some l.more_maps) l.grow_inline
   where
-    by_options : (list more grow : Bool) → is_some l.more_maps ≡ more → All IsRunFit (if list || more || grow then None else option_and_then (run_named l) (one_of l.paths))
-    by_options true more grow e = tt
-    by_options false true grow e = tt
-    by_options false false true e = tt
-    by_options false false false e = run-below-fit l b e
+    by_options : (list more grow : Bool) → All IsRunFit (if list || more || grow then None else option_and_then (run_named l) (one_of l.paths))
+    by_options true more grow = tt
+    by_options false true grow = tt
+    by_options false false true = tt
+    by_options false false false = run-below-fit l b
 
 listed-none : (l : CommandLine) (p : List ℕ × List ℕ) (list : Option (List ℕ)) → All IsRunFit (edit_listed l p list)
 listed-none l p None = all_map (λ a. ⊤) IsRunFit (λ o. Edit p.0 p.1 o None) (settings_of l) (any (settings_of l)) (λ o _. tt)

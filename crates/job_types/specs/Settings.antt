@@ -1,5 +1,5 @@
 -- What a user wants done with files, as the options of a command say it. This project's profile.
-use Rattle.std.specs.Prelude.{Bool, false, ◌≡◌, ℕ, ◌≤◌, List, length}
+use Rattle.std.specs.Prelude.{Bool, false, ◌≡◌, ℕ, ◌≤◌, List}
 use Rattle.dw_base.specs.Paths.{PathMap}
 use Rattle.dw_base.specs.Texts.{has_nul}
 
@@ -17,9 +17,8 @@ pub record Settings : Type 0 where
   pub max_file : ℕ
   pub grow_inline : Bool
 
--- the texts of a run can say what is wanted: its map has one pair, and its seed has no NUL
+-- the texts of a run can say what is wanted: its seed has no NUL
 pub record HasKey (s : Settings) : Type 0 where
-  pub one : length s.maps.pairs ≡ 1
   pub seed : has_nul s.seed ≡ false
 
 -- the limit on files is at least one byte, and within the most that may be asked for

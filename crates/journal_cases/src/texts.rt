@@ -10,16 +10,28 @@ use work_texts::{
 
 /// A plan with one job that is edited and one that is split.
 const PLAN: &[u8] =
+    b"dbgplan 2\0/build/p\0/usr/src/debug/p\x001\0seed-1\x000\x001073741824\x000\0split 1, edited 1\n\x002\0E\0usr/bin/a\0a9993e364706816aba3e25717850c26c9cd0d89d\0\x000\0S\0usr/lib/b.so\0da39a3ee5e6b4b0d3255bfef95601890afd80709\x0000ff1234abcd\x003\x002\0a.c\0inc/x.h\0end\0";
+
+/// The same plan in a text of version 1.
+const OLD_PLAN: &[u8] =
     b"dbgplan 1\0/build/p\0/usr/src/debug/p\x001\0seed-1\x000\x001073741824\0split 1, edited 1\n\x002\0E\0usr/bin/a\0a9993e364706816aba3e25717850c26c9cd0d89d\0\x000\0S\0usr/lib/b.so\0da39a3ee5e6b4b0d3255bfef95601890afd80709\x0000ff1234abcd\x003\x002\0a.c\0inc/x.h\0end\0";
 
-/// Where its fields begin.
-const STARTS: [usize; 23] = [
-    0, 10, 19, 36, 38, 45, 47, 58, 77, 79, 81, 91, 132, 133, 135, 137, 150, 191, 204, 206, 208,
-    212, 220,
+/// Where the fields of the plan begin.
+const STARTS: [usize; 24] = [
+    0, 10, 19, 36, 38, 45, 47, 58, 60, 79, 81, 83, 93, 134, 135, 137, 139, 152, 193, 206, 208, 210,
+    214, 222,
 ];
 
 const FINISHED: &[u8] =
+    b"dbgfinished 2\0/build/p\0/usr/src/debug/p\x001\0seed-1\x000\x001073741824\x000\0split 1, edited 1\n\0";
+
+/// The same end of a run in a text of version 1.
+const OLD_FINISHED: &[u8] =
     b"dbgfinished 1\0/build/p\0/usr/src/debug/p\x001\0seed-1\x000\x001073741824\0split 1, edited 1\n\0";
+
+/// The same with two pairs behind the first.
+const MORE_FINISHED: &[u8] =
+    b"dbgfinished 2\0/build/p\0/usr/src/debug/p\x001\0seed-1\x000\x001073741824\x002\0/build/q\0/x\0/build\0/x\0split 1, edited 1\n\0";
 
 fn key(alloc: Global) -> Result<RunKey, Fail> {
     let maps = Maps::new(alloc, b"/build/p", b"/usr/src/debug/p")?.ok_or("no map")?;
@@ -122,12 +134,13 @@ fn a_plan_that_ends_too_early_is_bad_at_its_last_field(rt: HostRuntime) -> Resul
 }
 
 /// From where to where other bytes stand, these bytes, and the place of the first bad field.
-const CHANGES: [(usize, usize, &[u8], u64); 30] = [
-    (0, 224, b"x", 0),
-    (0, 224, b"dbgplan 3\0", 0),
-    (0, 224, b"dbgplan 1\0build\0", 10),
-    (0, 224, b"dbgplan 1\0/build/p\0", 19),
-    (0, 9, b"dbgplan 2", 0),
+const CHANGES: [(usize, usize, &[u8], u64); 39] = [
+    (0, 226, b"x", 0),
+    (0, 226, b"dbgplan 3\0", 0),
+    (0, 226, b"dbgplan 1\0build\0", 10),
+    (0, 226, b"dbgplan 1\0/build/p\0", 19),
+    (0, 226, b"dbgplan 2\0build\0", 10),
+    (0, 9, b"dbgplan 1", 60),
     (10, 18, b"build/p", 10),
     (10, 18, b"/build/p/", 10),
     (19, 35, b"usr/src/debug/p", 19),
@@ -136,23 +149,31 @@ const CHANGES: [(usize, usize, &[u8], u64); 30] = [
     (47, 57, b"01073741824", 47),
     (47, 57, b"1073741825", 47),
     (47, 57, b"0", 47),
-    (77, 78, b"+2", 77),
-    (77, 78, b"02", 77),
-    (79, 80, b"e", 79),
-    (81, 90, b"usr//bin/a", 81),
-    (81, 90, b"usr/bin/\xff", 81),
-    (81, 90, b"usr/lib/b.so", 140),
-    (91, 131, b"A9993e364706816aba3e25717850c26c9cd0d89d", 91),
-    (91, 92, b"", 91),
-    (132, 132, b"abcd", 132),
-    (133, 134, b"1", 133),
-    (135, 136, b"E", 191),
-    (191, 203, b"00ff1234abcD", 191),
-    (191, 203, b"00", 191),
-    (204, 205, b"4294967296", 204),
-    (206, 207, b"3", 220),
-    (208, 211, b"inc/x.h", 216),
-    (224, 224, b"\0", 224),
+    (58, 59, b"", 58),
+    (58, 59, b"00", 58),
+    (58, 59, b"64", 58),
+    (58, 59, b"1", 60),
+    (58, 59, b"1\0/build/q/\0/x", 60),
+    (58, 59, b"1\0/build/q\0x", 69),
+    (58, 59, b"1\0/build/p\0/x", 60),
+    (58, 59, b"2\0/build/q\0/x\0/build/q\0/y", 72),
+    (79, 80, b"+2", 79),
+    (79, 80, b"02", 79),
+    (81, 82, b"e", 81),
+    (83, 92, b"usr//bin/a", 83),
+    (83, 92, b"usr/bin/\xff", 83),
+    (83, 92, b"usr/lib/b.so", 142),
+    (93, 133, b"A9993e364706816aba3e25717850c26c9cd0d89d", 93),
+    (93, 94, b"", 93),
+    (134, 134, b"abcd", 134),
+    (135, 136, b"1", 135),
+    (137, 138, b"E", 193),
+    (193, 205, b"00ff1234abcD", 193),
+    (193, 205, b"00", 193),
+    (206, 207, b"4294967296", 206),
+    (208, 209, b"3", 222),
+    (210, 213, b"inc/x.h", 218),
+    (226, 226, b"\0", 226),
 ];
 
 #[test]
@@ -169,10 +190,69 @@ fn an_end_is_written_and_read(rt: HostRuntime) -> Result<(), Fail> {
     let alloc = rt.alloc();
     let text = write_finished(alloc, &key(alloc)?, b"split 1, edited 1\n")?;
     assert_eq!(rt; text.as_slice(), FINISHED);
-    let FinishedData { key: kept, report } = read_finished(alloc, FINISHED)?;
+    let FinishedData {
+        old,
+        key: kept,
+        report,
+    } = read_finished(alloc, FINISHED)?;
+    assert!(rt; !old);
     assert_eq!(rt; report.as_slice(), b"split 1, edited 1\n".as_slice());
     assert!(rt; check_key(alloc, &kept, &key(alloc)?).is_ok());
     assert!(rt; read_finished(alloc, PLAN).is_err());
+    Ok(())
+}
+
+#[test]
+fn texts_of_version_1_are_read(rt: HostRuntime) -> Result<(), Fail> {
+    let alloc = rt.alloc();
+    let plan = read_plan(alloc, OLD_PLAN)?;
+    assert_eq!(rt; write_plan(alloc, &plan)?.as_slice(), PLAN);
+    let FinishedData {
+        old,
+        key: kept,
+        report,
+    } = read_finished(alloc, OLD_FINISHED)?;
+    assert!(rt; old);
+    assert_eq!(rt; report.as_slice(), b"split 1, edited 1\n".as_slice());
+    assert!(rt; check_key(alloc, &kept, &key(alloc)?).is_ok());
+    Ok(())
+}
+
+#[test]
+fn the_pairs_behind_the_first_are_written_and_read(rt: HostRuntime) -> Result<(), Fail> {
+    let alloc = rt.alloc();
+    let mut more = key(alloc)?;
+    assert!(rt; more.maps.add(alloc, b"/build/q", b"/x")?);
+    assert!(rt; more.maps.add(alloc, b"/build", b"/x")?);
+    let text = write_finished(alloc, &more, b"split 1, edited 1\n")?;
+    assert_eq!(rt; text.as_slice(), MORE_FINISHED);
+    let done = read_finished(alloc, MORE_FINISHED)?;
+    assert!(rt; check_key(alloc, &done.key, &more).is_ok());
+    assert!(rt; check_key(alloc, &done.key, &key(alloc)?).is_err());
+    Ok(())
+}
+
+/// The end of a run whose map has so many pairs behind the first.
+fn end_of_pairs(alloc: Global, count: u64) -> Result<Vec<u8>, Fail> {
+    let mut text = Vec::from_slice(alloc, b"dbgfinished 2\0/b\0/d\x000\0\x000\x0010\0")?;
+    let number = format!(in alloc; "{count}")?;
+    text.extend_from_slice(number.as_str().as_bytes())?;
+    text.push(0)?;
+    for i in 0..count {
+        let base = format!(in alloc; "/b/{i}")?;
+        text.extend_from_slice(base.as_str().as_bytes())?;
+        text.extend_from_slice(b"\0/d\0")?;
+    }
+    text.push(0)?;
+    Ok(text)
+}
+
+#[test]
+fn a_map_has_no_more_than_64_pairs(rt: HostRuntime) -> Result<(), Fail> {
+    let alloc = rt.alloc();
+    let done = read_finished(alloc, &end_of_pairs(alloc, 63)?)?;
+    assert_eq!(rt; done.key.maps.more().len(), 63);
+    assert!(rt; read_finished(alloc, &end_of_pairs(alloc, 64)?).is_err());
     Ok(())
 }
 

@@ -275,7 +275,7 @@ const RUN: &[(&str, &[u8])] = &[
     ),
     (
         "r/.dbgwork/finished",
-        b"dbgfinished 1\0/build/p\0/usr/src/debug/p\x000\0\x000\x0010\0split 2, edited 0, left 0, skipped 0, links 4, sources 1\n\0",
+        b"dbgfinished 2\0/build/p\0/usr/src/debug/p\x000\0\x000\x0010\x000\0split 2, edited 0, left 0, skipped 0, links 4, sources 1\n\0",
     ),
     (
         "r/.dbgwork/links",

@@ -1,5 +1,5 @@
 -- The plan of a root is one that the work folder may have: its key, jobs and sources are fit, and its report is a text.
-use Rattle.std.proofs.Common.{◌≡◌, ℕ, zero, suc, ◌+◌, ◌*◌, ◌/◌, ◌%◌, ◌<◌, ◌≤◌, Bool, true, false, ◌==◌, if◌then◌else◌, List, [], ◌∷◌, ◌++◌, length, slice_index, Option, None, refl, sym, ap, subst, arith}
+use Rattle.std.proofs.Common.{◌≡◌, ℕ, zero, suc, ◌+◌, ◌*◌, ◌/◌, ◌%◌, ◌<◌, ◌≤◌, Bool, true, false, ◌==◌, if◌then◌else◌, List, [], ◌∷◌, ◌++◌, length, slice_index, Option, None, refl, sym, ap, subst, append_assoc, arith}
 use Rattle.std.specs.Prelude.{IsTrue, codes, nat_lt}
 use Rattle.std.specs.Int.{w32, to_be_bytes, byte_at, bytes_high_first}
 use Rattle.std.specs.List.{All, AllByRecursion, flat_map}
@@ -26,7 +26,7 @@ use Rattle.job_types.specs.declared.outcome.Verdict.{Verdict}
 use Rattle.job_types.specs.declared.outcome.Verdict.TheVariants.{Left, Edited, Split}
 use Rattle.work_texts.specs.declared.plan.JobLine.{JobLine}
 use Rattle.work_texts.specs.declared.plan.PlanData.{PlanData}
-use Rattle.work_texts.specs.Fields.{Field, plan_fields, job_fields, key_fields}
+use Rattle.work_texts.specs.Fields.{Field, plan_fields, job_fields, keyed_fields}
 use Rattle.work_texts.specs.Rules.{IsJob, IsPlan, may_have_id, is_job_path, rise_after, text_limit}
 use Rattle.work_texts.proofs.RisingTexts.{path_bare}
 use Rattle.root_plan.specs.declared.refused.Skipped.{Skipped}
@@ -197,7 +197,7 @@ second-long front a mid b end =
     omega (arith, length-append front (a ++ (mid ++ (b ++ end))), length-append a (mid ++ (b ++ end)), length-append mid (b ++ end), length-append b end)
 
 abbrev front_of : PlanData → List Field
-front_of p = codes "dbgplan 1" ∷ (key_fields p.key ++ p.report ∷ decimal (length p.jobs) ∷ [])
+front_of p = codes "dbgplan 2" ∷ (keyed_fields false p.key ++ p.report ∷ decimal (length p.jobs) ∷ [])
 
 abbrev mid_of : PlanData → List Field
 mid_of p = decimal (length p.sources) ∷ []
@@ -205,14 +205,20 @@ mid_of p = decimal (length p.sources) ∷ []
 abbrev end_of : List Field
 end_of = codes "end" ∷ []
 
+fields-parts : (p : PlanData) → front_of p ++ (flat_map job_fields p.jobs ++ (mid_of p ++ (p.sources ++ end_of))) ≡ plan_fields p
+fields-parts p =
+    ap (λ (fs : List Field). codes "dbgplan 2" ∷ fs) (append_assoc (keyed_fields false p.key) (p.report ∷ decimal (length p.jobs) ∷ []) (flat_map job_fields p.jobs ++ (mid_of p ++ (p.sources ++ end_of))))
+
 fewer-jobs : (p : PlanData) → plan_length p ≤ text_limit → length p.jobs ≤ text_limit
 fewer-jobs p within =
-    let some : length (flat_map job_fields p.jobs) ≤ length (plan_fields p) = first-long (front_of p) (flat_map job_fields p.jobs) (mid_of p) p.sources end_of in
+    let some : length (flat_map job_fields p.jobs) ≤ length (plan_fields p) =
+    subst (λ (fs : List Field). length (flat_map job_fields p.jobs) ≤ length fs) (fields-parts p) (first-long (front_of p) (flat_map job_fields p.jobs) (mid_of p) p.sources end_of) in
     omega (arith, within, jobs-long p.jobs, some, laid-long (plan_fields p))
 
 fewer-sources : (p : PlanData) → plan_length p ≤ text_limit → length p.sources ≤ text_limit
 fewer-sources p within =
-    let some : length p.sources ≤ length (plan_fields p) = second-long (front_of p) (flat_map job_fields p.jobs) (mid_of p) p.sources end_of in
+    let some : length p.sources ≤ length (plan_fields p) =
+    subst (λ (fs : List Field). length p.sources ≤ length fs) (fields-parts p) (second-long (front_of p) (flat_map job_fields p.jobs) (mid_of p) p.sources end_of) in
     omega (arith, within, some, laid-long (plan_fields p))
 
 -- ### Sources
@@ -343,7 +349,7 @@ module _ (old : Option TreeMap) (root : List ℕ) (s : Settings) (v : JudgeView)
       let jobs : length t.jobs ≤ text_limit = fewer-jobs (plan_of s t) within in
       let sources : length t.sources ≤ text_limit = fewer-sources (plan_of s t) within in
       record {
-        key = record { map = asked.map; one = asked.key.one; seed = asked.key.seed; low = asked.limit.least; high = asked.limit.greatest };
+        key = record { map = asked.map; seed = asked.key.seed; low = asked.limit.least; high = asked.limit.greatest };
         report = report-bare t (recursion_from_All IsBare t.skipped fit.bare);
         job_count = omega (arith, jobs);
         jobs = recursion_from_All IsJob t.jobs (fit.jobs (omega (arith, jobs)));

@@ -15,15 +15,16 @@ use Rattle.work_texts.specs.declared.journal_err.WorkFile.TheVariants as file
 use Rattle.work_texts.specs.declared.key.RunKey.{RunKey}
 use Rattle.work_texts.specs.declared.plan.FinishedData.{FinishedData}
 use Rattle.work_texts.specs.declared.plan.PlanData.{PlanData}
+use Rattle.work_texts.specs.declared.plan.VersionedPlan.{VersionedPlan}
 use Rattle.work_texts.specs.BadFields.{PlanBlames, FinishedBlames}
-use Rattle.work_texts.specs.Fields.{plan_fields, finished_fields}
+use Rattle.work_texts.specs.Fields.{plan_text_fields, finished_fields}
 use Rattle.work_texts.specs.Keys.{KeyBlames, key_part}
 use Rattle.work_texts.specs.Reading.{plan_at, finished_at}
 use Rattle.work_texts.specs.Rules.{IsPlan, IsPlanText, IsFinishedText, text_limit}
 use Rattle.work_texts.specs.Rules as rule
 use Rattle.work_texts.proofs.OnePlace.{no_text}
 use Rattle.work_texts.proofs.TextReaders.{plan_reader, finished_reader}
-use Rattle.work_texts.proofs.WholeLaws.{one_value}
+use Rattle.work_texts.proofs.WholeLaws.{one_value, plan_whole}
 use Rattle.work_journal.specs.declared.opening.Opened.{Opened}
 use Rattle.work_journal.specs.declared.opening.Opened.TheVariants as opened
 use Rattle.work_journal.specs.Blames.{is_mild_run, RunBlames}
@@ -93,7 +94,9 @@ no-tree false m t e h = cc
 -- ### A text of the work folder
 
 plan-one : (bytes : List ℕ) (x y : PlanData) → IsPlanText bytes x → IsPlanText bytes y → x ≡ y
-plan-one bytes x y a b = one_value plan_fields rule.IsPlan plan_at plan_reader bytes x y (record { fits = a.plan; text = a.text }) (record { fits = b.plan; text = b.text })
+plan-one bytes x y a b =
+    ap (λ (v : VersionedPlan). v.plan)
+    (one_value plan_text_fields rule.IsVersionedPlan plan_at plan_reader bytes (record { old = a.old; plan = x }) (record { old = b.old; plan = y }) (plan_whole bytes x a) (plan_whole bytes y b))
 
 finished-one : (bytes : List ℕ) (x y : FinishedData) → IsFinishedText bytes x → IsFinishedText bytes y → x ≡ y
 finished-one bytes x y a b = one_value finished_fields rule.IsFinished finished_at finished_reader bytes x y (record { fits = a.finished; text = a.text }) (record { fits = b.finished; text = b.text })
@@ -115,7 +118,10 @@ record IsBadText {X : Type 0} (IsText : List ℕ → X → Type 0) (bytes : List
   status : journal_status e ≡ 11
 
 plan-bad : (bytes : List ℕ) (e : JournalErr) → PlanBlames bytes e → is_mild_run e ≡ false → IsBadText IsPlanText bytes e
-plan-bad bytes (journal.PlanText file.Plan at) b hard = record { none = λ x t. no_text plan_fields rule.IsPlan bytes at x b t.plan t.text t.within; status = refl }
+plan-bad bytes (journal.PlanText file.Plan at) b hard = record {
+  none = λ x t. no_text plan_text_fields rule.IsVersionedPlan bytes at (record { old = t.old; plan = x }) b (plan_whole bytes x t).fits t.text t.within;
+  status = refl;
+}
 plan-bad bytes (journal.PlanText file.Finished at) b hard = absurd b
 plan-bad bytes journal.NoMemory b hard = cc
 plan-bad bytes (journal.OtherRun field kept given) b hard = absurd b

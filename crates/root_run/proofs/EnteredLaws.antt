@@ -200,7 +200,7 @@ once-more n = omega arith
 
 -- a key that a text says can be said
 key-kept : (s : Settings) → IsKey (key_of s) → HasKey s
-key-kept s key = record { one = key.one; seed = key.seed }
+key-kept s key = record { seed = key.seed }
 
 module _ (start : TreeMap) (root : List ℕ) (s : Settings) (v : JudgeView) (fails : List ℕ → List ℕ → Refusal → Type 0) (edit_fails : List ℕ → Refusal → Type 0)
     (split_fails : List ℕ → List ℕ → Refusal → Type 0) (judge : IsJudge v) (maps : IsPathMap s.maps) (within : IsWithin s.max_file) (in_flight : ℕ)

@@ -1,5 +1,5 @@
 -- Over a tree that a stop left partway, the texts of the work folder are neither bad nor of another run.
-use Rattle.std.proofs.Common.{◌≡◌, ℕ, ◌≤◌, true, inl, inr, ◌⊎◌, List, length, refl, sym, ap, subst, ◌∙◌, le-leb, arith, Result, Ok, Err}
+use Rattle.std.proofs.Common.{◌≡◌, ℕ, ◌≤◌, true, false, inl, inr, ◌⊎◌, List, length, refl, sym, ap, subst, ◌∙◌, le-leb, arith, Result, Ok, Err}
 use Rattle.std.specs.Prelude.{Option, Some, None, is_some, IsTrue}
 use Rattle.std.specs.FinMap as fin
 use Rattle.dw_base.specs.declared.fault.Refusal.{Refusal}
@@ -17,9 +17,9 @@ use Rattle.work_texts.specs.declared.key.RunKey.{RunKey}
 use Rattle.work_texts.specs.declared.plan.FinishedData.{FinishedData}
 use Rattle.work_texts.specs.declared.plan.PlanData.{PlanData}
 use Rattle.work_texts.specs.BadFields.{IsBadAt, PlanBlames, FinishedBlames}
-use Rattle.work_texts.specs.Fields.{text_of, plan_fields, finished_fields}
+use Rattle.work_texts.specs.Fields.{text_of, plan_fields, plan_text_fields, finished_fields}
 use Rattle.work_texts.specs.Keys.{KeyBlames, key_part}
-use Rattle.work_texts.specs.Rules.{IsPlan, IsFinished, text_limit}
+use Rattle.work_texts.specs.Rules.{IsPlan, IsVersionedPlan, IsFinished, text_limit}
 use Rattle.work_texts.proofs.OnePlace.{no_text}
 use Rattle.work_journal.specs.declared.opening.Opened.{Opened}
 use Rattle.work_journal.specs.Blames.{is_mild_run}
@@ -34,7 +34,7 @@ use Rattle.root_plan.specs.Verdicts.{JudgeView}
 use Rattle.root_run.specs.RootRuns.{IsRootWanted, IsPartwayRun}
 use Rattle.root_run.specs.Wholes.{IsClean, IsRootPlan, wanted_of, finished_of, finished_text}
 use Rattle.root_run.proofs.StartLaws.{HasNames, plan-other, finished-other}
-use Rattle.root_run.proofs.TextLaws.{own-plan, own-finished, plan-bytes, finished-bytes, plan-read, finished-read}
+use Rattle.root_run.proofs.TextLaws.{written-plan, written-end, own-plan, own-finished, plan-bytes, finished-bytes, plan-read, finished-read}
 use Rattle.root_run.proofs.WaysLaws.{FoundBy, found_plan}
 
 -- ### Answers
@@ -51,7 +51,7 @@ same-err d e h = cc
 mild-as : (d e : JournalErr) → err_of d ≡ err_of e → IsTrue (is_mild_run d) → IsTrue (is_mild_run e)
 mild-as d e h mild = subst (λ (x : JournalErr). IsTrue (is_mild_run x)) (same-err d e h) mild
 
-plan-blames-mild : (bytes : List ℕ) (e : JournalErr) → ((at : ℕ) → IsBadAt plan_fields IsPlan bytes at → ⊥) → PlanBlames bytes e → IsTrue (is_mild_run e)
+plan-blames-mild : (bytes : List ℕ) (e : JournalErr) → ((at : ℕ) → IsBadAt plan_text_fields IsVersionedPlan bytes at → ⊥) → PlanBlames bytes e → IsTrue (is_mild_run e)
 plan-blames-mild bytes (run.PlanText file.Plan at) never b = absurd (never at b)
 plan-blames-mild bytes (run.PlanText file.Finished at) never b = absurd b
 plan-blames-mild bytes run.NoMemory never b = refl
@@ -110,10 +110,10 @@ module _ (start : TreeMap) (root work : List ℕ) (p : PlanData) (made : List (L
     plan-stands : stands_at (map_now seen.past) (work_path work plan) text_limit ≡ found.File (text_of (plan_fields p)) 420
     plan-stands = own-read (map_now seen.past) (work_path work plan) (text_of (plan_fields p)) has short (own-plan (wanted_of start root work p made) (map_now seen.past) partway)
 
-    plan-never-bad : (bytes : List ℕ) → TextStands seen (work_path work plan) bytes → (at : ℕ) → IsBadAt plan_fields IsPlan bytes at → ⊥
+    plan-never-bad : (bytes : List ℕ) → TextStands seen (work_path work plan) bytes → (at : ℕ) → IsBadAt plan_text_fields IsVersionedPlan bytes at → ⊥
     plan-never-bad bytes stands at bad =
         let own = plan-bytes start root work p made (map_now seen.past) partway bytes stands.mode (stands.is tells) in
-        no_text plan_fields IsPlan bytes at p bad fits own (subst (λ (b : List ℕ). length b ≤ text_limit) (sym own) short)
+        no_text plan_text_fields IsVersionedPlan bytes at (record { old = false; plan = p }) bad (written-plan p fits) own (subst (λ (b : List ℕ). length b ≤ text_limit) (sym own) short)
 
     pub plan-mild : (r : Result Opened JournalErr) (e : JournalErr) → PlanKept seen (work_path work plan) key r → r ≡ err_of e → IsTrue (is_mild_run e)
     plan-mild r e (plan_kept.plan_read bytes x stands text is) h = absurd (no-ok _ e h)
@@ -125,7 +125,7 @@ module _ (start : TreeMap) (root work : List ℕ) (p : PlanData) (made : List (L
 
   module _ (has : is_some (fin.get (map_now seen.past) (work_path work (final 3))) ≡ true) (short : length (finished_text p) ≤ text_limit) where
     finished-fits : IsFinished (finished_of p)
-    finished-fits = record { key = fits.key; report = fits.report }
+    finished-fits = written-end p fits
 
     finished-stands : stands_at (map_now seen.past) (work_path work (final 3)) text_limit ≡ found.File (finished_text p) 420
     finished-stands = own-read (map_now seen.past) (work_path work (final 3)) (finished_text p) has short (own-finished (wanted_of start root work p made) (map_now seen.past) partway)

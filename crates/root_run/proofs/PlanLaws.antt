@@ -3,7 +3,7 @@
 use Rattle.std.proofs.Common.{◌≡◌, ℕ, ◌≤◌, ◌+◌, Bool, true, false, List, [], ◌∷◌, ◌++◌, length, refl, sym, ap, subst, ◌∙◌}
 use Rattle.std.specs.Prelude.{Option, codes}
 use Rattle.std.specs.Fmt.{decimal}
-use Rattle.std.specs.List.{All, flat_map}
+use Rattle.std.specs.List.{All}
 use Rattle.std.proofs.lemmas.List.{length-append}
 use Rattle.std.proofs.lemmas.List.Elements.{All-weaker}
 use Rattle.dw_base.proofs.TextLaws.{laid_texts-append}
@@ -14,7 +14,7 @@ use Rattle.file_tree.specs.Causes.{AreInOrder}
 use Rattle.job_types.specs.Settings.{Settings}
 use Rattle.work_texts.specs.declared.plan.JobLine.{JobLine}
 use Rattle.work_texts.specs.declared.plan.PlanData.{PlanData}
-use Rattle.work_texts.specs.Fields.{Field, text_of, flag_field, job_fields}
+use Rattle.work_texts.specs.Fields.{Field, text_of, flag_field, more_fields, more_pairs, plan_rest}
 use Rattle.work_texts.specs.Rules.{IsPlan, text_limit}
 use Rattle.root_plan.specs.Jobs.{AreAsked, HasFile, Serves}
 use Rattle.root_plan.specs.Plans.{IsPlanOf, IsRunPlan, plan_of, plan_length, skipping}
@@ -44,12 +44,10 @@ flag-size false false = refl
 
 -- the fields of a plan before the word on files that are refused, and behind it
 abbrev fields_before : PlanData → List Field
-fields_before p = codes "dbgplan 1" ∷ (first_pair p.key.maps).base ∷ (first_pair p.key.maps).dest ∷ flag_field p.key.build_id ∷ p.key.seed ∷ []
+fields_before p = codes "dbgplan 2" ∷ (first_pair p.key.maps).base ∷ (first_pair p.key.maps).dest ∷ flag_field p.key.build_id ∷ p.key.seed ∷ []
 
 abbrev fields_behind : PlanData → List Field
-fields_behind p =
-    decimal p.key.max_file ∷ p.report ∷ decimal (length p.jobs)
-    ∷ (flat_map job_fields p.jobs ++ (decimal (length p.sources) ∷ (p.sources ++ codes "end" ∷ [])))
+fields_behind p = decimal p.key.max_file ∷ (more_fields false (more_pairs p.key) ++ plan_rest p)
 
 plan-as-long : (s : Settings) (t : Tally) → plan_length (plan_of (skipping s) t) ≡ plan_length (plan_of s t)
 plan-as-long s t = size-same (fields_before (plan_of s t)) (fields_behind (plan_of s t)) (flag_field true) (flag_field s.skip) (flag-size true s.skip)
@@ -92,10 +90,10 @@ module _ (old : Option TreeMap) (root : List ℕ) (s : Settings) (v : JudgeView)
   -- and the work folder may have it
   pub run-fits : (p : PlanData) → AreAsked root present s v → IsRunPlan old root present s v fails p → IsPlan p
   run-fits p asked is =
-      let asks : AreAsked root present (skipping s) v = record { judge = asked.judge; map = asked.map; limit = asked.limit; key = record { one = asked.key.one; seed = asked.key.seed }; order = asked.order; paths = asked.paths } in
+      let asks : AreAsked root present (skipping s) v = record { judge = asked.judge; map = asked.map; limit = asked.limit; key = record { seed = asked.key.seed }; order = asked.order; paths = asked.paths } in
       let fits : IsPlan (plan_of (skipping s) is.tally) = plan-fits old root (skipping s) v fails present (plan_of (skipping s) is.tally) asks (as-planned p is) in
       subst IsPlan (sym is.is) (record {
-        key = record { map = fits.key.map; one = fits.key.one; seed = fits.key.seed; low = fits.key.low; high = fits.key.high };
+        key = record { map = fits.key.map; seed = fits.key.seed; low = fits.key.low; high = fits.key.high };
         report = fits.report;
         job_count = fits.job_count;
         jobs = fits.jobs;

@@ -1,6 +1,6 @@
 -- The texts of a work folder that a stop left partway are the run's own: the plan that is read there is the run's plan, and the report that is
 -- read there is the plan's.
-use Rattle.std.proofs.Common.{◌≡◌, ℕ, ◌≤◌, true, ◌⊎◌, inl, inr, List, [], ◌++◌, length, refl, sym, ap, subst, ◌∙◌, arith, Result, Ok, Err}
+use Rattle.std.proofs.Common.{◌≡◌, ℕ, ◌≤◌, true, false, ◌⊎◌, inl, inr, List, [], ◌++◌, length, refl, sym, ap, subst, ◌∙◌, arith, Result, Ok, Err}
 use Rattle.std.specs.Prelude.{Option, Some, None, IsTrue}
 use Rattle.std.specs.FinMap as fin
 use Rattle.file_tree.specs.declared.node.Node.{Node}
@@ -16,9 +16,10 @@ use Rattle.work_texts.specs.declared.journal_err.JournalErr.{JournalErr}
 use Rattle.work_texts.specs.declared.key.RunKey.{RunKey}
 use Rattle.work_texts.specs.declared.plan.FinishedData.{FinishedData}
 use Rattle.work_texts.specs.declared.plan.PlanData.{PlanData}
-use Rattle.work_texts.specs.Fields.{Field, text_of, plan_fields, finished_fields}
+use Rattle.work_texts.specs.declared.plan.VersionedPlan.{VersionedPlan}
+use Rattle.work_texts.specs.Fields.{Field, text_of, plan_fields, plan_text_fields, finished_fields}
 use Rattle.work_texts.specs.Reading.{Reading, plan_at, finished_at}
-use Rattle.work_texts.specs.Rules.{IsPlan, IsFinished, IsPlanText, IsFinishedText, text_limit}
+use Rattle.work_texts.specs.Rules.{IsPlan, IsVersionedPlan, IsFinished, IsPlanText, IsFinishedText, text_limit}
 use Rattle.work_texts.proofs.Formats.{IsReader, ok_is}
 use Rattle.work_texts.proofs.TextReaders.{plan_reader, finished_reader}
 use Rattle.work_journal.specs.declared.opening.Opened.{Opened}
@@ -83,6 +84,13 @@ one-value : {X : Type 0} (fields : X → List Field) (Fits : X → Type 0) (read
 one-value {X} fields Fits read r x y a b e =
     ap (λ (q : X × List ℕ). q.0) (ok_is (x, []) (y, []) (sym (r.again x [] a) ∙ ap (λ (t : List ℕ). read (t ++ [])) e ∙ r.again y [] b))
 
+-- a plan of a run, and its end, fit the texts that are written
+pub written-plan : (p : PlanData) → IsPlan p → IsVersionedPlan (record { old = false; plan = p })
+written-plan p fits = record { plan = fits; one = λ e. absurd (cc e) }
+
+pub written-end : (p : PlanData) → IsPlan p → IsFinished (finished_of p)
+written-end p fits = record { key = fits.key; one = λ e. absurd (cc e); report = fits.report }
+
 none-file : (bytes : List ℕ) (mode : ℕ) → Some (node.File bytes mode) ≡ None → ⊥
 none-file bytes mode e = cc
 
@@ -108,7 +116,9 @@ module _ (start : TreeMap) (root work : List ℕ) (p : PlanData) (made : List (L
   -- so what is read there is the plan, and the end of its run
   pub plan-read : (bytes : List ℕ) (mode : ℕ) (q : PlanData) → IsPlan p → stands_at t (work_path work plan) text_limit ≡ found.File bytes mode → IsPlanText bytes q → q ≡ p
   plan-read bytes mode q fits e text =
-      one-value plan_fields IsPlan plan_at plan_reader q p text.plan fits (sym text.text ∙ plan-bytes bytes mode e)
+      ap (λ (v : VersionedPlan). v.plan)
+      (one-value plan_text_fields IsVersionedPlan plan_at plan_reader (record { old = text.old; plan = q }) (record { old = false; plan = p }) (record { plan = text.plan; one = text.one }) (written-plan p fits)
+      (sym text.text ∙ plan-bytes bytes mode e))
 
   pub finished-read : (bytes : List ℕ) (mode : ℕ) (d : FinishedData) → IsFinished (finished_of p) → stands_at t (work_path work (final 3)) text_limit ≡ found.File bytes mode
       → IsFinishedText bytes d → d ≡ finished_of p
@@ -117,7 +127,7 @@ module _ (start : TreeMap) (root work : List ℕ) (p : PlanData) (made : List (L
 
   -- and a text of this plan is never bad
   pub plan-good : (bytes : List ℕ) (mode : ℕ) → IsPlan p → length (text_of (plan_fields p)) ≤ text_limit → stands_at t (work_path work plan) text_limit ≡ found.File bytes mode → IsPlanText bytes p
-  plan-good bytes mode fits short e = record { plan = fits; text = plan-bytes bytes mode e; within = subst (λ (b : List ℕ). length b ≤ text_limit) (sym (plan-bytes bytes mode e)) short }
+  plan-good bytes mode fits short e = record { old = false; plan = fits; one = (written-plan p fits).one; text = plan-bytes bytes mode e; within = subst (λ (b : List ℕ). length b ≤ text_limit) (sym (plan-bytes bytes mode e)) short }
 
   pub finished-good : (bytes : List ℕ) (mode : ℕ) → IsFinished (finished_of p) → length (finished_text p) ≤ text_limit
       → stands_at t (work_path work (final 3)) text_limit ≡ found.File bytes mode → IsFinishedText bytes (finished_of p)
@@ -159,7 +169,7 @@ module _ (start : TreeMap) (root work : List ℕ) (p : PlanData) (made : List (L
       → (report ≡ p.report) × (p.key ≡ key)
   finished-by key r report e (finished_kept.finished_read bytes x stands text same) =
       let own : x ≡ finished_of p =
-      finished-read start root work p made (map_now seen.past) partway bytes stands.mode x (record { key = fits.key; report = fits.report }) (stands.is tells) text in
+      finished-read start root work p made (map_now seen.past) partway bytes stands.mode x (written-end p fits) (stands.is tells) text in
       (sym (same-report x.report report e) ∙ ap (λ (y : FinishedData). y.report) own, ap (λ (y : FinishedData). y.key) (sym own) ∙ same)
   finished-by key r report e (finished_kept.finished_not_there {e = x} h) = absurd (no-err (opened.Finished report) x e)
   finished-by key r report e (finished_kept.finished_bad {e = x} bytes stands h) = absurd (no-err (opened.Finished report) x e)

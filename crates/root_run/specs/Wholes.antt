@@ -1,5 +1,5 @@
 -- What a run over a build root is to make: of its plan and of the nodes of its jobs, the node of each name of the run.
-use Rattle.std.specs.Prelude.{◌≡◌, ◌≤◌, ◌<◌, ℕ, List, [], ◌∷◌, length, get_or, map, Some, None, IsTrue, Contains}
+use Rattle.std.specs.Prelude.{◌≡◌, ◌≤◌, ◌<◌, ℕ, List, [], ◌∷◌, length, get_or, map, Some, None, false, IsTrue, Contains}
 use Rattle.std.specs.FinMap as fin
 use Rattle.dw_base.specs.Layout.{file_limit}
 use Rattle.dw_base.specs.declared.fault.Refusal.{Refusal}
@@ -36,7 +36,7 @@ abbrev pub lists_of : PlanData → List (List ℕ)
 lists_of p = source_list p.sources ∷ debug_file_list p.jobs ∷ link_list p.jobs ∷ []
 
 abbrev pub finished_of : PlanData → FinishedData
-finished_of p = record { key = p.key; report = p.report }
+finished_of p = record { old = false; key = p.key; report = p.report }
 
 abbrev pub finished_text : PlanData → List ℕ
 finished_text p = text_of (finished_fields (finished_of p))

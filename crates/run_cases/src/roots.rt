@@ -46,7 +46,7 @@ pub(crate) const SMALL: Root = Root {
             "r/.dbgwork/finished",
             Is::File(
                 0o644,
-                b"dbgfinished 1\0/build/p\0/usr/src/debug/p\x000\0\x000\x0010\0split 3, edited 1, left 1, skipped 0, links 4, sources 3\n\0",
+                b"dbgfinished 2\0/build/p\0/usr/src/debug/p\x000\0\x000\x0010\x000\0split 3, edited 1, left 1, skipped 0, links 4, sources 3\n\0",
             ),
         ),
         (
@@ -116,7 +116,7 @@ pub(crate) const FIVE: Root = Root {
             "r/.dbgwork/finished",
             Is::File(
                 0o644,
-                b"dbgfinished 1\0/build/p\0/usr/src/debug/p\x000\0\x000\x0010\0split 5, edited 0, left 0, skipped 0, links 0, sources 5\n\0",
+                b"dbgfinished 2\0/build/p\0/usr/src/debug/p\x000\0\x000\x0010\x000\0split 5, edited 0, left 0, skipped 0, links 0, sources 5\n\0",
             ),
         ),
         ("r/.dbgwork/links", Is::File(0o644, b"")),

@@ -9,15 +9,15 @@ use Rattle.dw_base.specs.Texts.{has_nul}
 use Rattle.work_texts.specs.declared.plan.JobLine.{JobLine}
 use Rattle.work_texts.specs.Fields.{Field, job_fields, kind_field}
 use Rattle.work_texts.specs.Rules.{IsJob, is_job_path, comes_after, rise_after, path_of, number_limit}
-use Rattle.work_texts.specs.Reading.{Reading, ◌>>=◌, value_at, choice_in, path_in, source_in, digest_in, id_in, number_in, job_at, source_at, many_at, itself}
+use Rattle.work_texts.specs.Reading.{Reading, ◌>>=◌, value_at, choice_in, path_in, source_in, digest_in, id_in, number_in, job_at, source_at, behind_text, many_at, itself}
 use Rattle.work_texts.proofs.Formats.{IsReader, nothing_reader, same_reader, refit_reader}
 use Rattle.work_texts.proofs.OneField.{IsSpelling, value_reader}
 use Rattle.work_texts.proofs.Words.{choice_spelling, and_true}
 use Rattle.work_texts.proofs.Numerals.{IsWithin, number_spelling}
 use Rattle.work_texts.proofs.DigitLaws.{IsDigest, digest_spelling, IsId, id_spelling}
 use Rattle.work_texts.proofs.RisingTexts.{LastIs, IsPathAfter, path_spelling, IsSourceAfter, source_spelling}
-use Rattle.work_texts.proofs.KeyReader.{then_value}
-use Rattle.work_texts.proofs.ManyReader.{AllAfter, AreMany, IsItem, many_reader}
+use Rattle.work_texts.proofs.ThenValue.{then_value}
+use Rattle.work_texts.proofs.ManyReader.{AllAfter, AreMany, IsItem, each_reader}
 
 abbrev kind_in : Field → Option Bool
 kind_in f = choice_in (codes "E") (codes "S") f
@@ -125,10 +125,10 @@ job_reader last h =
     then_value kind_in kind_field (λ _. Unit {0}) kind_spelling (λ j. j.split) (λ j. j.path ∷ encode_lower j.digest ∷ encode_lower j.id ∷ decimal j.number ∷ []) (IsJobAfter last) (k0 last)
     (λ j f. tt) (λ a u. r0 last h a)
 
-job_item : IsItem job_fields IsJobAfter path_of (λ p. IsTrue (is_job_path p)) job_at
+job_item : IsItem job_fields IsJobAfter (behind_text path_of) (λ n. LastIs (λ p. IsTrue (is_job_path p))) job_at
 job_item = record {
-  reader = job_reader;
-  good = λ last j f. f.job.path;
+  reader = λ n last h. job_reader last h;
+  good = λ n last j h f. f.job.path;
   some = record { split = false; path = []; digest = []; id = []; number = 0 };
 }
 
@@ -138,13 +138,13 @@ pub record AreJobs (n : ℕ) (jobs : List JobLine) : Type 0 where
   pub each : AllByRecursion IsJob jobs
   pub order : IsTrue (rise_after None (map path_of jobs))
 
-jobs_each : (last : Option (List ℕ)) (jobs : List JobLine) → AllAfter IsJobAfter path_of last jobs → AllByRecursion IsJob jobs × IsTrue (rise_after last (map path_of jobs))
+jobs_each : (last : Option (List ℕ)) (jobs : List JobLine) → AllAfter IsJobAfter (behind_text path_of) last jobs → AllByRecursion IsJob jobs × IsTrue (rise_after last (map path_of jobs))
 jobs_each last [] all = (tt, refl)
 jobs_each last (j ∷ js) all =
     let more = jobs_each (Some j.path) js all.1 in
     ((all.0.job, more.0), and_true (comes_after last j.path) (rise_after (Some j.path) (map path_of js)) all.0.after more.1)
 
-jobs_all : (last : Option (List ℕ)) (jobs : List JobLine) → AllByRecursion IsJob jobs → IsTrue (rise_after last (map path_of jobs)) → AllAfter IsJobAfter path_of last jobs
+jobs_all : (last : Option (List ℕ)) (jobs : List JobLine) → AllByRecursion IsJob jobs → IsTrue (rise_after last (map path_of jobs)) → AllAfter IsJobAfter (behind_text path_of) last jobs
 jobs_all last [] each order = tt
 jobs_all last (j ∷ js) each order =
     let p = and_parts (comes_after last j.path) (rise_after (Some j.path) (map path_of js)) order in
@@ -152,20 +152,20 @@ jobs_all last (j ∷ js) each order =
 
 pub jobs_reader : (n : ℕ) → IsReader (flat_map job_fields) (AreJobs n) (many_at job_at path_of n None)
 jobs_reader n =
-    refit_reader (flat_map job_fields) (AreMany IsJobAfter path_of n None) (AreJobs n) (many_at job_at path_of n None)
+    refit_reader (flat_map job_fields) (AreMany IsJobAfter (behind_text path_of) n None) (AreJobs n) (many_at job_at path_of n None)
     (λ jobs m. let e = jobs_each None jobs m.all in record { count = m.count; each = e.0; order = e.1 })
     (λ jobs a. record { count = a.count; all = jobs_all None jobs a.each a.order })
-    (many_reader job_fields IsJobAfter path_of (λ p. IsTrue (is_job_path p)) job_at job_item n None tt)
+    (each_reader job_fields IsJobAfter (behind_text path_of) (λ n. LastIs (λ p. IsTrue (is_job_path p))) job_at job_item n None tt)
 
 -- ---- sources
 
 abbrev lone : Field → List Field
 lone s = s ∷ []
 
-source_item : IsItem lone IsSourceAfter itself (λ t. has_nul t ≡ false) source_at
+source_item : IsItem lone IsSourceAfter (behind_text itself) (λ n. LastIs (λ t. has_nul t ≡ false)) source_at
 source_item = record {
-  reader = λ last h. value_reader (source_in last) (λ f. f) (IsSourceAfter last) (source_spelling last h);
-  good = λ last s f. f.bare;
+  reader = λ n last h. value_reader (source_in last) (λ f. f) (IsSourceAfter last) (source_spelling last h);
+  good = λ n last s h f. f.bare;
   some = [];
 }
 
@@ -174,13 +174,13 @@ pub record AreSources (n : ℕ) (names : List (List ℕ)) : Type 0 where
   pub each : AllByRecursion (λ s. has_nul s ≡ false) names
   pub order : IsTrue (rise_after None names)
 
-sources_each : (last : Option (List ℕ)) (names : List (List ℕ)) → AllAfter IsSourceAfter itself last names → AllByRecursion (λ s. has_nul s ≡ false) names × IsTrue (rise_after last names)
+sources_each : (last : Option (List ℕ)) (names : List (List ℕ)) → AllAfter IsSourceAfter (behind_text itself) last names → AllByRecursion (λ s. has_nul s ≡ false) names × IsTrue (rise_after last names)
 sources_each last [] all = (tt, refl)
 sources_each last (s ∷ ss) all =
     let more = sources_each (Some s) ss all.1 in
     ((all.0.bare, more.0), and_true (comes_after last s) (rise_after (Some s) ss) all.0.after more.1)
 
-sources_all : (last : Option (List ℕ)) (names : List (List ℕ)) → AllByRecursion (λ s. has_nul s ≡ false) names → IsTrue (rise_after last names) → AllAfter IsSourceAfter itself last names
+sources_all : (last : Option (List ℕ)) (names : List (List ℕ)) → AllByRecursion (λ s. has_nul s ≡ false) names → IsTrue (rise_after last names) → AllAfter IsSourceAfter (behind_text itself) last names
 sources_all last [] each order = tt
 sources_all last (s ∷ ss) each order =
     let p = and_parts (comes_after last s) (rise_after (Some s) ss) order in
@@ -192,8 +192,8 @@ flat_lone (s ∷ ss) = ap (λ (fs : List Field). s ∷ fs) (flat_lone ss)
 
 pub sources_reader : (n : ℕ) → IsReader (λ names. names) (AreSources n) (many_at source_at itself n None)
 sources_reader n =
-    refit_reader (λ names. names) (AreMany IsSourceAfter itself n None) (AreSources n) (many_at source_at itself n None)
+    refit_reader (λ names. names) (AreMany IsSourceAfter (behind_text itself) n None) (AreSources n) (many_at source_at itself n None)
     (λ names m. let e = sources_each None names m.all in record { count = m.count; each = e.0; order = e.1 })
     (λ names a. record { count = a.count; all = sources_all None names a.each a.order })
-    (same_reader (flat_map lone) (λ names. names) (AreMany IsSourceAfter itself n None) (many_at source_at itself n None) (λ names m. flat_lone names)
-    (many_reader lone IsSourceAfter itself (λ t. has_nul t ≡ false) source_at source_item n None tt))
+    (same_reader (flat_map lone) (λ names. names) (AreMany IsSourceAfter (behind_text itself) n None) (many_at source_at itself n None) (λ names m. flat_lone names)
+    (each_reader lone IsSourceAfter (behind_text itself) (λ n. LastIs (λ t. has_nul t ≡ false)) source_at source_item n None tt))

@@ -6,8 +6,8 @@ use Rattle.dw_base.specs.Paths.{IsPathMap, MapPair, first_pair}
 use Rattle.dw_base.proofs.PathLaws.{same-maps, same-pair}
 use Rattle.work_texts.specs.declared.key.RunKey.{RunKey}
 use Rattle.work_texts.specs.declared.journal_err.JournalErr.{JournalErr}
-use Rattle.work_texts.specs.Fields.{Field, flag_field, pair_fields, text_of}
-use Rattle.work_texts.specs.Keys.{key_part, more_pairs, IsOtherRun, KeyBlames}
+use Rattle.work_texts.specs.Fields.{Field, flag_field, more_pairs, pair_fields, text_of}
+use Rattle.work_texts.specs.Keys.{key_part, IsOtherRun, KeyBlames}
 
 differs : (m n : ℕ) → m ≡ 48 → n ≡ 49 → m ≡ n → ⊥
 differs m n a b e = omega arith

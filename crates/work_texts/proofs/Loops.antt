@@ -5,7 +5,7 @@ use Rattle.std.specs.List.{slice_get}
 use Rattle.std.proofs.lemmas.List.{append-nil, length-append}
 use Rattle.work_texts.specs.declared.stop.Stop.{Stop}
 use Rattle.work_texts.specs.declared.stop.Stop.TheVariants as stop
-use Rattle.work_texts.specs.Reading.{Reading, ◌>>=◌, Stops, many_at, last_text}
+use Rattle.work_texts.specs.Reading.{Reading, ◌>>=◌, Stops, each_at, many_at, last_text}
 
 -- what was read before, and what is still read
 abbrev pub with_front : {A : Type 0} → List A → Reading (List A) → Reading (List A)
@@ -30,7 +30,7 @@ regroup front a (Err e) = refl
 
 pub goes_on : {A : Type 0} (read : Option (List ℕ) → List ℕ → Reading A) (item_text : A → List ℕ) (items : List A) (count i : ℕ) (bytes : List ℕ) (a : A) (after : List ℕ) (whole : Reading (List A)) → i < count → read (last_text item_text items) bytes ≡ Ok (a, after)
     → left_at read item_text items (count - i) bytes ≡ whole → left_at read item_text (items ++ a ∷ []) (count - (i + 1)) after ≡ whole
-unfolding many_at
+unfolding each_at
 goes_on {A} read item_text items count i bytes a after whole lt h so_far =
     let k : count - i ≡ suc (count - (i + 1)) = omega arith in
     let last : last_text item_text (items ++ a ∷ []) ≡ Some (item_text a) = last_push item_text items a in
@@ -40,7 +40,7 @@ goes_on {A} read item_text items count i bytes a after whole lt h so_far =
 
 pub ends : {A : Type 0} (e : Stop) (read : Option (List ℕ) → List ℕ → Reading A) (item_text : A → List ℕ) (items : List A) (count i : ℕ) (bytes : List ℕ) (whole : Reading (List A)) → i < count → Stops e (read (last_text item_text items) bytes)
     → left_at read item_text items (count - i) bytes ≡ whole → Stops e whole
-unfolding many_at
+unfolding each_at
 ends stop.NoMemory read item_text items count i bytes whole lt h so_far = tt
 ends (stop.Field left) read item_text items count i bytes whole lt h so_far =
     let k : count - i ≡ suc (count - (i + 1)) = omega arith in
@@ -49,7 +49,7 @@ ends (stop.Field left) read item_text items count i bytes whole lt h so_far =
 
 pub is_done : {A : Type 0} (read : Option (List ℕ) → List ℕ → Reading A) (item_text : A → List ℕ) (items : List A) (count i : ℕ) (bytes : List ℕ) (whole : Reading (List A)) → count ≤ i
     → left_at read item_text items (count - i) bytes ≡ whole → whole ≡ Ok (items, bytes)
-unfolding many_at
+unfolding each_at
 is_done {A} read item_text items count i bytes whole le so_far =
     let k : count - i ≡ 0 = omega arith in
     let one : left_at read item_text items (count - i) bytes ≡ Ok (items, bytes) = rw k (ap (λ (xs : List A). Ok (xs, bytes)) (append-nil items)) in

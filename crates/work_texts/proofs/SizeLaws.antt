@@ -1,12 +1,12 @@
 -- How long texts are: each field and the NUL behind it.
-use Rattle.std.proofs.Common.{◌≡◌, ℕ, suc, ◌+◌, ◌≤◌, List, [], ◌∷◌, ◌++◌, length, refl, ap, ◌∙◌, arith}
+use Rattle.std.proofs.Common.{◌≡◌, ℕ, suc, ◌+◌, ◌≤◌, false, List, [], ◌∷◌, ◌++◌, length, refl, ap, ◌∙◌, arith}
 use Rattle.std.specs.Prelude.{codes}
 use Rattle.std.specs.List.{flat_map}
 use Rattle.std.specs.Fmt.{decimal}
 use Rattle.std.proofs.lemmas.List.{length-append}
 use Rattle.dw_base.proofs.TextLaws.{laid_texts-append}
 use Rattle.work_texts.specs.declared.plan.PlanData.{PlanData}
-use Rattle.work_texts.specs.Fields.{Field, text_of, key_fields, job_fields, plan_fields, finished_fields}
+use Rattle.work_texts.specs.Fields.{Field, text_of, keyed_fields, job_fields, plan_fields, finished_fields}
 
 size-cons : (f : Field) (fs : List Field) → length (text_of (f ∷ fs)) ≡ length f + suc (length (text_of fs))
 size-cons f fs = length-append f (0 ∷ text_of fs)
@@ -37,6 +37,6 @@ shorter-by one other end report jobs sources key all names is was last =
     )
 
 -- `finished` is no longer than the plan of its key and report
-pub no_longer : (p : PlanData) → length (text_of (finished_fields (record { key = p.key; report = p.report }))) ≤ length (text_of (plan_fields p))
-no_longer p = shorter-by (codes "dbgplan 1") (codes "dbgfinished 1") (codes "end") p.report (decimal (length p.jobs)) (decimal (length p.sources))
-    (key_fields p.key) (flat_map job_fields p.jobs) p.sources refl refl refl
+pub no_longer : (p : PlanData) → length (text_of (finished_fields (record { old = false; key = p.key; report = p.report }))) ≤ length (text_of (plan_fields p))
+no_longer p = shorter-by (codes "dbgplan 2") (codes "dbgfinished 2") (codes "end") p.report (decimal (length p.jobs)) (decimal (length p.sources))
+    (keyed_fields false p.key) (flat_map job_fields p.jobs) p.sources refl refl refl

@@ -23,7 +23,8 @@ cut_length (b ∷ bs) =
     let more = cut_length bs in
     omega arith
 
-differ-cases : (t u : List ℕ) (test : Bool) → same_text t u ≡ test → (t ≡ u → ⊥) → test ≡ false
+-- texts that aren't the same are told apart
+pub differ-cases : (t u : List ℕ) (test : Bool) → same_text t u ≡ test → (t ≡ u → ⊥) → test ≡ false
 differ-cases t u true e h = absurd (h (same_text-true t u e))
 differ-cases t u false e h = refl
 
@@ -54,4 +55,10 @@ slash-last xs some =
     let parts : xs ≡ take (n - 1) xs ++ b ∷ [] = sym (take_all n xs (omega arith)) ∙ ap (λ (k : ℕ). take k xs) whole ∙ take_more xs (n - 1) 0 (omega arith) in
     ap (λ (ys : List ℕ). not (same_text (without_end_slashes ys) ys)) parts ∙ last-cases (take (n - 1) xs) b (b == slash) refl
 
+-- where no slash stands at the end nothing is cut off
+pub slash-whole : (xs : List ℕ) → same_text (without_end_slashes xs) xs ≡ true → without_end_slashes xs ≡ xs
+slash-whole xs e = same_text-true (without_end_slashes xs) xs e
+
 pub ruleset slash_rules = (slash-none, slash-last)
+
+pub ruleset side_rules = (slash-whole)

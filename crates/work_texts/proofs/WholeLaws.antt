@@ -1,12 +1,17 @@
 -- A text as a whole: nothing stands behind its last field.
-use Rattle.std.proofs.Common.{◌≡◌, ℕ, ◌+◌, Bool, true, false, ◌==◌, ◌⊎◌, inl, inr, if◌then◌else◌, List, [], ◌∷◌, ◌++◌, length, Result, Ok, Err, refl, sym, ap, subst, ◌∙◌, append_assoc, arith}
+use Rattle.std.proofs.Common.{◌≡◌, ℕ, ◌+◌, ◌≤◌, Bool, true, false, ◌==◌, ◌⊎◌, inl, inr, if◌then◌else◌, List, [], ◌∷◌, ◌++◌, length, Result, Ok, Err, refl, sym, ap, subst, ◌∙◌, append_assoc, arith}
 use Rattle.std.specs.Prelude.{IfOk, IfErr}
 use Rattle.std.proofs.lemmas.List.{append-nil, length-append, nil_from_length}
 use Rattle.std.proofs.lemmas.Bool.{eqb-true, eqb-false}
 use Rattle.dw_base.proofs.TextLaws.{laid_texts-append}
+use Rattle.work_texts.specs.declared.journal_err.JournalErr.{JournalErr}
+use Rattle.work_texts.specs.declared.journal_err.JournalErr.TheVariants as err
 use Rattle.work_texts.specs.declared.stop.Stop.{Stop}
 use Rattle.work_texts.specs.declared.stop.Stop.TheVariants as stop
-use Rattle.work_texts.specs.Fields.{Field, text_of}
+use Rattle.work_texts.specs.declared.plan.PlanData.{PlanData}
+use Rattle.work_texts.specs.declared.plan.VersionedPlan.{VersionedPlan}
+use Rattle.work_texts.specs.Fields.{Field, text_of, plan_text_fields}
+use Rattle.work_texts.specs.Rules.{IsVersionedPlan, IsPlanText, text_limit}
 use Rattle.work_texts.specs.Reading.{Reading, ◌>>=◌, Stops, Gives, ended}
 use Rattle.work_texts.specs.Whole.{IsWhole, Stopped, StopBlames}
 use Rattle.work_texts.proofs.Formats.{IsReader, FailsIn, fails_first, fails_second, bind_ok, bind_err, ok_is}
@@ -106,6 +111,39 @@ bad_cases : {X : Type 0} (fields : X → List Field) (Fits : X → Type 0) (read
     → (bytes : List ℕ) (left : ℕ) → FailsIn (read bytes) ended left → Stopped fields Fits bytes left
 bad_cases fields Fits read r bytes left (fails_first h) = bad_first fields Fits read r bytes left h
 bad_cases fields Fits read r bytes left (fails_second a h g) = bad_end fields Fits read r bytes left a h g
+
+-- ---- the text of a plan is one of a version
+
+pub plan_found : (bytes : List ℕ) (v : VersionedPlan) → length bytes ≤ text_limit → IsWhole plan_text_fields IsVersionedPlan bytes v → IsPlanText bytes v.plan
+plan_found bytes v within w = record { old = v.old; plan = w.fits.plan; one = w.fits.one; text = w.text; within = within }
+
+pub plan_whole : (bytes : List ℕ) (p : PlanData) → (t : IsPlanText bytes p) → IsWhole plan_text_fields IsVersionedPlan bytes (record { old = t.old; plan = p })
+plan_whole bytes p t = record { fits = record { plan = t.plan; one = t.one }; text = t.text }
+
+abbrev pub plan_of : Result VersionedPlan Stop → Result PlanData Stop
+plan_of (Ok v) = Ok v.plan
+plan_of (Err e) = Err e
+
+-- an answer that is this text's or want of memory is so of its plan
+pub plan_only : (result : Result VersionedPlan Stop) (v : VersionedPlan) → (result ≡ Ok v) ⊎ (result ≡ Err stop.NoMemory) → (plan_of result ≡ Ok v.plan) ⊎ (plan_of result ≡ Err stop.NoMemory)
+plan_only result v (inl e) = inl (ap plan_of e)
+plan_only result v (inr e) = inr (ap plan_of e)
+
+-- and so it is of what is told of the file
+abbrev IsOnly : {E : Type 0} → Result PlanData E → PlanData → E → Type 0
+IsOnly result plan e = (result ≡ Ok plan) ⊎ (result ≡ Err e)
+
+abbrev told : Result PlanData Stop → Result PlanData JournalErr
+told (Ok p) = Ok p
+told (Err e) = Err err.NoMemory
+
+pub read_only : (x plan : PlanData) → IsOnly {E = Stop} (Ok x) plan stop.NoMemory → IsOnly {E = JournalErr} (Ok x) plan err.NoMemory
+read_only x plan (inl e) = inl (ap told e)
+read_only x plan (inr e) = absurd (cc e)
+
+pub never_bad : (left : ℕ) (plan : PlanData) → IsOnly {E = Stop} (Err (stop.Field left)) plan stop.NoMemory → ⊥
+never_bad left plan (inl e) = cc e
+never_bad left plan (inr e) = cc e
 
 -- ---- what a function that gives the reading ensures
 

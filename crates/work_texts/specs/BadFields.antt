@@ -5,8 +5,8 @@ use Rattle.std.specs.Prelude.{ℕ, ◌≡◌, ◌≤◌, ◌<◌, List, [], ◌�
 use Rattle.work_texts.specs.declared.journal_err.JournalErr.{JournalErr}
 use Rattle.work_texts.specs.declared.journal_err.JournalErr.TheVariants as err
 use Rattle.work_texts.specs.declared.journal_err.WorkFile.TheVariants as file
-use Rattle.work_texts.specs.Fields.{Field, text_of, plan_fields, finished_fields}
-use Rattle.work_texts.specs.Rules.{IsPlan, IsFinished, text_limit}
+use Rattle.work_texts.specs.Fields.{Field, text_of, plan_text_fields, finished_fields}
+use Rattle.work_texts.specs.Rules.{IsVersionedPlan, IsFinished, text_limit}
 
 -- some text of a kind begins with these fields; a kind is the fields of each value, and which values fit
 abbrev pub Begins : {X : Type 0} → (X → List Field) → (X → Type 0) → List Field → Type 0
@@ -32,7 +32,7 @@ IsBadAt fields Fits bytes at =
 
 -- why bytes aren't read as the text `plan`
 abbrev pub PlanBlames : List ℕ → JournalErr → Type 0
-PlanBlames bytes (err.PlanText file.Plan at) = IsBadAt plan_fields IsPlan bytes at
+PlanBlames bytes (err.PlanText file.Plan at) = IsBadAt plan_text_fields IsVersionedPlan bytes at
 PlanBlames bytes (err.PlanText file.Finished at) = ⊥
 PlanBlames bytes err.NoMemory = Unit {0}
 PlanBlames bytes (err.OtherRun field kept given) = ⊥

@@ -1,14 +1,9 @@
 -- Two keys: the first of their seven parts that differs, counted from 0.
-use Rattle.std.specs.Prelude.{ℕ, ◌≡◌, ◌≢◌, ◌<◌, List, [], ◌∷◌, ◌++◌, drop, get_or, map}
-use Rattle.dw_base.specs.Paths.{MapPair}
+use Rattle.std.specs.Prelude.{ℕ, ◌≡◌, ◌≢◌, ◌<◌, List, [], ◌∷◌, ◌++◌, get_or, map}
 use Rattle.work_texts.specs.declared.key.RunKey.{RunKey}
 use Rattle.work_texts.specs.declared.journal_err.JournalErr.{JournalErr}
 use Rattle.work_texts.specs.declared.journal_err.JournalErr.TheVariants as err
-use Rattle.work_texts.specs.Fields.{Field, key_fields, pair_fields, text_of}
-
--- the pairs of a key's map behind the first
-abbrev pub more_pairs : RunKey → List MapPair
-more_pairs k = drop 1 k.maps.pairs
+use Rattle.work_texts.specs.Fields.{Field, key_fields, more_pairs, pair_fields, text_of}
 
 -- the parts of a key: each of its six fields, and the fields of those pairs
 abbrev pub key_part : RunKey → ℕ → List Field

@@ -1,16 +1,16 @@
 -- Reading a text field by field: each reader answers a value and what follows its fields, or how many
 -- bytes are left from the first bad field on. What is said of the texts stands in `Rules` and `BadFields`.
-use Rattle.std.specs.Prelude.{ℕ, ◌≡◌, zero, suc, ◌+◌, ◌==◌, ◌&&◌, ◌||◌, not, Bool, true, false, nat_eq, nat_le, if◌then◌else◌, List, [], ◌∷◌, length, drop, slice_get, ◌-◌, codes, Option, Some, None, option_map, Result, Ok, Err}
+use Rattle.std.specs.Prelude.{ℕ, ◌≡◌, zero, suc, ◌+◌, ◌==◌, ◌&&◌, ◌||◌, not, Bool, true, false, nat_eq, nat_le, if◌then◌else◌, List, [], ◌∷◌, ◌++◌, length, drop, slice_get, ◌-◌, codes, Option, Some, None, option_map, Result, Ok, Err}
 use Rattle.std.specs.Char.{is_ascii_digit}
 use Rattle.std.specs.Str.Parse.{digits_value}
 use Rattle.std.specs.List.{starts_with, list_all}
 use Rattle.hex.specs.declared.error.FromHexError.{FromHexError}
 use Rattle.hex.specs.Hex.{encode_lower, decode_of, decode_sized}
-use Rattle.dw_base.specs.Paths.{is_prefix, without_end_slashes, path_map}
+use Rattle.dw_base.specs.Paths.{MapPair, PathMap, has_base, is_prefix, pair_of, path_map, without_end_slashes}
 use Rattle.dw_base.specs.Texts.{has_nul, text, same_text}
 use Rattle.work_texts.specs.declared.key.RunKey.{RunKey}
 use Rattle.work_texts.specs.declared.plan.JobLine.{JobLine}
-use Rattle.work_texts.specs.declared.plan.PlanData.{PlanData}
+use Rattle.work_texts.specs.declared.plan.VersionedPlan.{VersionedPlan}
 use Rattle.work_texts.specs.declared.plan.FinishedData.{FinishedData}
 use Rattle.work_texts.specs.declared.stop.Stop.{Stop}
 use Rattle.work_texts.specs.declared.stop.Stop.TheVariants as stop
@@ -70,6 +70,10 @@ text_in f = Some f
 abbrev pub side_in : Field → Option Field
 side_in f = when (is_prefix f && same_text (without_end_slashes f) f) f
 
+-- the base of a pair behind these pairs
+abbrev pub base_in : List MapPair → Field → Option Field
+base_in before f = when (is_prefix f && same_text (without_end_slashes f) f && not (has_base before f)) f
+
 -- a decimal number with no leading zero, within two limits
 abbrev pub is_numeral : Field → Bool
 is_numeral f = list_all is_ascii_digit f && not (length f == 0) && (length f == 1 || not (starts_with nat_eq f (codes "0")))
@@ -98,17 +102,71 @@ path_in last f = when (is_job_path f && comes_after last f) f
 abbrev pub source_in : Option (List ℕ) → Field → Option (List ℕ)
 source_in last f = when (comes_after last f) f
 
+-- ---- items one after another
+
+-- so many items, each read by what those before it leave
+unfoldable pub each_at : {S A : Type 0} → (S → List ℕ → Reading A) → (S → A → S) → ℕ → S → List ℕ → Reading (List A)
+each_at read next zero state bytes = Ok ([], bytes)
+each_at read next (suc n) state bytes = do
+  item ← read state bytes
+  items ← each_at read next n (next state item.0) item.1
+  Ok (item.0 ∷ items.0, items.1)
+
+-- the text of the item before
+abbrev pub behind_text : {A : Type 0} → (A → List ℕ) → Option (List ℕ) → A → Option (List ℕ)
+behind_text item_text last item = Some (item_text item)
+
+-- so many, each read behind the text of the one before it
+abbrev pub many_at : {A : Type 0} → (Option (List ℕ) → List ℕ → Reading A) → (A → List ℕ) → ℕ → Option (List ℕ) → List ℕ → Reading (List A)
+many_at read item_text n last bytes = each_at read (behind_text item_text) n last bytes
+
+-- the text of the last item, if there is one
+abbrev pub last_text : {A : Type 0} → (A → List ℕ) → List A → Option (List ℕ)
+last_text item_text items = option_map item_text (slice_get items (length items - 1))
+
+abbrev pub itself : List ℕ → List ℕ
+itself t = t
+
 -- ---- the texts
 
-unfoldable pub key_at : List ℕ → Reading RunKey
-key_at bytes = do
+-- a pair of a map behind these
+unfoldable pub pair_at : List MapPair → List ℕ → Reading MapPair
+pair_at before bytes = do
+  base ← value_at (base_in before) bytes
+  dest ← value_at side_in base.1
+  Ok (pair_of base.0 dest.0, dest.1)
+
+abbrev pub behind_pairs : List MapPair → MapPair → List MapPair
+behind_pairs before p = before ++ p ∷ []
+
+-- a map with one pair more, and with so many
+unfoldable pub added_at : PathMap → List ℕ → Reading PathMap
+added_at m bytes = do
+  pair ← pair_at m.pairs bytes
+  Ok (record { pairs = behind_pairs m.pairs pair.0 }, pair.1)
+
+unfoldable pub pairs_at : ℕ → PathMap → List ℕ → Reading PathMap
+pairs_at n m bytes = do
+  more ← each_at pair_at behind_pairs n m.pairs bytes
+  Ok (record { pairs = m.pairs ++ more.0 }, more.1)
+
+-- a map with the pairs that a text has behind the first; an old text has none
+unfoldable pub maps_at : Bool → PathMap → List ℕ → Reading PathMap
+maps_at true m bytes = Ok (m, bytes)
+maps_at false m bytes = do
+  count ← value_at (number_in 0 63) bytes
+  pairs_at count.0 m count.1
+
+unfoldable pub key_at : Bool → List ℕ → Reading RunKey
+key_at old bytes = do
   base ← value_at side_in bytes
   dest ← value_at side_in base.1
   build_id ← value_at (choice_in (codes "0") (codes "1")) dest.1
   seed ← value_at text_in build_id.1
   skip ← value_at (choice_in (codes "0") (codes "1")) seed.1
   max_file ← value_at (number_in 1 text_limit) skip.1
-  Ok (record { maps = path_map base.0 dest.0; build_id = build_id.0; seed = seed.0; skip = skip.0; max_file = max_file.0 }, max_file.1)
+  maps ← maps_at old (path_map base.0 dest.0) max_file.1
+  Ok (record { maps = maps.0; build_id = build_id.0; seed = seed.0; skip = skip.0; max_file = max_file.0 }, maps.1)
 
 -- a job behind one with this path
 unfoldable pub job_at : Option (List ℕ) → List ℕ → Reading JobLine
@@ -124,39 +182,24 @@ job_at last bytes = do
 abbrev pub source_at : Option (List ℕ) → List ℕ → Reading (List ℕ)
 source_at last bytes = value_at (source_in last) bytes
 
--- so many items one after another, each read behind the text of the one before it
-unfoldable pub many_at : {A : Type 0} → (Option (List ℕ) → List ℕ → Reading A) → (A → List ℕ) → ℕ → Option (List ℕ) → List ℕ → Reading (List A)
-many_at read item_text zero last bytes = Ok ([], bytes)
-many_at read item_text (suc n) last bytes = do
-  item ← read last bytes
-  items ← many_at read item_text n (Some (item_text item.0)) item.1
-  Ok (item.0 ∷ items.0, items.1)
-
--- the text of the last item, if there is one
-abbrev pub last_text : {A : Type 0} → (A → List ℕ) → List A → Option (List ℕ)
-last_text item_text items = option_map item_text (slice_get items (length items - 1))
-
-abbrev pub itself : List ℕ → List ℕ
-itself t = t
-
-unfoldable pub plan_at : List ℕ → Reading PlanData
+unfoldable pub plan_at : List ℕ → Reading VersionedPlan
 plan_at bytes = do
-  name ← value_at (word_in (codes "dbgplan 1")) bytes
-  key ← key_at name.1
+  old ← value_at (choice_in (codes "dbgplan 2") (codes "dbgplan 1")) bytes
+  key ← key_at old.0 old.1
   report ← value_at text_in key.1
   job_count ← value_at (number_in 0 4294967295) report.1
   jobs ← many_at job_at path_of job_count.0 None job_count.1
   source_count ← value_at (number_in 0 4294967295) jobs.1
   sources ← many_at source_at itself source_count.0 None source_count.1
   end ← value_at (word_in (codes "end")) sources.1
-  Ok (record { key = key.0; report = report.0; jobs = jobs.0; sources = sources.0 }, end.1)
+  Ok (record { old = old.0; plan = record { key = key.0; report = report.0; jobs = jobs.0; sources = sources.0 } }, end.1)
 
 unfoldable pub finished_at : List ℕ → Reading FinishedData
 finished_at bytes = do
-  name ← value_at (word_in (codes "dbgfinished 1")) bytes
-  key ← key_at name.1
+  old ← value_at (choice_in (codes "dbgfinished 2") (codes "dbgfinished 1")) bytes
+  key ← key_at old.0 old.1
   report ← value_at text_in key.1
-  Ok (record { key = key.0; report = report.0 }, report.1)
+  Ok (record { old = old.0; key = key.0; report = report.0 }, report.1)
 
 -- all of the bytes
 abbrev pub ended : {X : Type 0} → X × List ℕ → Result X ℕ

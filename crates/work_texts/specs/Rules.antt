@@ -11,20 +11,25 @@ use Rattle.dw_paths.specs.PlainPaths.{is_plain}
 use Rattle.work_texts.specs.declared.key.RunKey.{RunKey}
 use Rattle.work_texts.specs.declared.plan.JobLine.{JobLine}
 use Rattle.work_texts.specs.declared.plan.PlanData.{PlanData}
+use Rattle.work_texts.specs.declared.plan.VersionedPlan.{VersionedPlan}
 use Rattle.work_texts.specs.declared.plan.FinishedData.{FinishedData}
-use Rattle.work_texts.specs.Fields.{plan_fields, finished_fields, text_of}
+use Rattle.work_texts.specs.Fields.{plan_text_fields, finished_fields, text_of}
 
 -- the longest text, in bytes, and the longest file that a run may be told to read
 abbrev pub text_limit : ℕ
 text_limit = 2 ^ 30
 
--- a key: its prefix map is one of one pair, the seed is a text, and max-file is within its limit
+-- a key: its prefix map is one, the seed is a text, and max-file is within its limit
 pub record IsKey (k : RunKey) : Type 0 where
   pub map : IsPathMap k.maps
-  pub one : length k.maps.pairs ≡ 1
   pub seed : has_nul k.seed ≡ false
   pub low : 1 ≤ k.max_file
   pub high : k.max_file ≤ text_limit
+
+-- a key that a text of this version can say: an old one says a map of one pair alone
+pub record IsKeyIn (old : Bool) (k : RunKey) : Type 0 where
+  pub key : IsKey k
+  pub one : old ≡ true → length k.maps.pairs ≡ 1
 
 -- an id is empty or has 2 to 20 bytes; only a file that is split has one that isn't empty
 abbrev pub may_have_id : Bool → List ℕ → Bool
@@ -69,14 +74,22 @@ pub record IsPlan (p : PlanData) : Type 0 where
   pub sources : AllByRecursion (λ s. has_nul s ≡ false) p.sources
   pub source_order : IsTrue (rise_after None p.sources)
 
+-- a plan that a text of its version can say
+pub record IsVersionedPlan (v : VersionedPlan) : Type 0 where
+  pub plan : IsPlan v.plan
+  pub one : v.old ≡ true → length v.plan.key.maps.pairs ≡ 1
+
 pub record IsFinished (d : FinishedData) : Type 0 where
   pub key : IsKey d.key
+  pub one : d.old ≡ true → length d.key.maps.pairs ≡ 1
   pub report : has_nul d.report ≡ false
 
--- the bytes are the text of this plan
+-- the bytes are the text of this plan, of one of the two versions
 pub record IsPlanText (bytes : List ℕ) (p : PlanData) : Type 0 where
+  pub old : Bool
   pub plan : IsPlan p
-  pub text : bytes ≡ text_of (plan_fields p)
+  pub one : old ≡ true → length p.key.maps.pairs ≡ 1
+  pub text : bytes ≡ text_of (plan_text_fields (record { old = old; plan = p }))
   pub within : length bytes ≤ text_limit
 
 -- the bytes are the text of this end of a run

@@ -19,7 +19,7 @@ pub enum WorkFile {
 /// Why a step of the journal gives no answer.
 #[derive(Drop, Debug, Error)]
 pub enum JournalErr {
-    /// The work folder is of a run with another key: the number of the first field that differs, as
+    /// The work folder is of a run with another key: the number of the first part that differs, as
     /// it was kept and as it was given.
     #[error("the work folder is of another run: option {field} differs")]
     OtherRun {
@@ -27,7 +27,7 @@ pub enum JournalErr {
         kept: Blob,
         given: Blob,
     },
-    /// The text isn't one that this program writes: the place of its first bad field, in bytes from
+    /// The text isn't one that this program reads: the place of its first bad field, in bytes from
     /// its start.
     #[error("the text {file:?} of the work folder has a bad field at {at}")]
     PlanText {

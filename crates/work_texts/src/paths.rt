@@ -1,18 +1,18 @@
 //! Paths as fields: the sides of a prefix map, paths of jobs, names of sources (this project's profile).
 //!
 //! Read first: `specs/Rules.antt`, `specs/Reading.antt`.
-ghost use Rattle.std.specs.Prelude.{◌≡◌, not, true, false, IfOk, IsTrue, MatchOption, map};
+ghost use Rattle.std.specs.Prelude.{◌≡◌, ◌&&◌, not, true, false, IfOk, IsTrue, MatchOption, map};
 ghost use Rattle.std.specs.Str.{is_utf8};
-ghost use Rattle.dw_base.specs.Paths.{is_prefix, without_end_slashes};
+ghost use Rattle.dw_base.specs.Paths.{has_base, is_prefix, without_end_slashes};
 ghost use Rattle.dw_base.specs.Texts.{same_text};
 ghost use Rattle.work_texts.specs.Lists.{bytes_of};
 ghost use Rattle.work_texts.specs.Rules.{comes_after, path_of};
-ghost use Rattle.work_texts.specs.Reading.{Gives, value_at, side_in, path_in, source_at, last_text, itself};
+ghost use Rattle.work_texts.specs.Reading.{Gives, value_at, base_in, side_in, path_in, source_at, last_text, itself};
 
 use crate::fields::field;
 use crate::plan::JobLine;
 use crate::stop::Stop;
-use dw_paths::{is_plain, is_prefix};
+use dw_paths::{Maps, is_plain, is_prefix};
 use file_tree::{Blob, Text};
 use std::alloc::Global;
 use std::cmp::Ordering;
@@ -24,11 +24,47 @@ pub(crate) fn side(alloc: Global, bytes: &[u8]) -> Result<(Blob, &[u8]), Stop>
     ensures fit { IfOk result (λ r. IsTrue (is_prefix r.0)) }
 {
     let (text, rest) = field(bytes)?;
-    if !is_prefix(text) || ends_in_slash(text) {
+    if !is_side(text) {
         return Err(Stop::Field { left: bytes.len() });
     }
     let side = Blob::from_slice(alloc, text)?;
     Ok((side, rest))
+}
+
+/// A field that is the base of a pair behind those of this map: it is the base of none of them.
+#[tactic(auto, unfolding(crate::specs::Reading::value_at))]
+pub(crate) fn base_behind<'a>(
+    alloc: Global,
+    maps: &Maps,
+    bytes: &'a [u8],
+) -> Result<(Blob, &'a [u8]), Stop>
+    ensures value { Gives (λ r. (r.0, r.1.now)) result (value_at (base_in maps.now.pairs) bytes.now) }
+    ensures fit { IfOk result (λ r. IsTrue (is_prefix r.0)) }
+    ensures apart { IfOk result (λ r. has_base maps.now.pairs (without_end_slashes r.0) ≡ false) }
+{
+    let (text, rest) = field(bytes)?;
+    if !is_side(text) || has_base(maps, text) {
+        return Err(Stop::Field { left: bytes.len() });
+    }
+    let base = Blob::from_slice(alloc, text)?;
+    Ok((base, rest))
+}
+
+/// Whether a pair of a map has the base.
+fn has_base(maps: &Maps, base: &[u8]) -> bool
+    ensures value { result ≡ has_base maps.now.pairs base.now }
+{
+    maps.pairs.iter().any(|pair| pair.base.as_slice() == base)
+}
+
+/// Whether a text is a base or a destination with no slash at its end.
+#[tactic(auto, using(crate::proofs::SlashRules::side_rules))]
+fn is_side(text: &[u8]) -> bool
+    ensures value { result ≡ (is_prefix text.now && same_text (without_end_slashes text.now) text.now) }
+    ensures fit { IsTrue result → IsTrue (is_prefix text.now) }
+    ensures cut { IsTrue result → without_end_slashes text.now ≡ text.now }
+{
+    is_prefix(text) && !ends_in_slash(text)
 }
 
 /// Whether a slash stands at the end, which a map would cut off.

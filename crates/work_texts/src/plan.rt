@@ -121,9 +121,30 @@ pub struct PlanData {
     pub sources: PlannedSources,
 }
 
-/// What the text `finished` says.
+/// What a text `plan` says, and in which version.
+#[derive(Drop, Debug)]
+pub(crate) struct VersionedPlan {
+    /// Whether the text has version 1.
+    pub old: bool,
+    /// What it says.
+    pub plan: PlanData,
+}
+
+impl VersionedPlan {
+    /// What the text says.
+    pub(crate) fn into_plan(self) -> PlanData
+        ensures value { result ≡ self.plan }
+    {
+        let VersionedPlan { old: _, plan } = self;
+        plan
+    }
+}
+
+/// What the text `finished` says, and in which version.
 #[derive(Drop, Debug)]
 pub struct FinishedData {
+    /// Whether the text has version 1.
+    pub old: bool,
     /// The options of the run.
     pub key: RunKey,
     /// What the run prints.

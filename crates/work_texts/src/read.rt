@@ -3,23 +3,24 @@
 //! **This layer promises**: bytes are read exactly where they are the text of a value that meets the
 //! rules, and then as that value; else the place of the first bad field is told.
 //! Read first: `specs/Fields.antt`, `specs/Rules.antt`, `specs/BadFields.antt`.
-ghost use Rattle.std.specs.Prelude.{◌≡◌, ◌⊎◌, IfOk, IfErr};
+ghost use Rattle.std.specs.Prelude.{◌≡◌, ◌≤◌, ◌⊎◌, IfOk, IfErr, length};
 ghost use Rattle.work_texts.specs.declared.plan.PlanData.{PlanData};
+ghost use Rattle.work_texts.specs.declared.plan.VersionedPlan.{VersionedPlan};
 ghost use Rattle.work_texts.specs.declared.plan.FinishedData.{FinishedData};
-ghost use Rattle.work_texts.specs.Fields.{plan_fields, finished_fields};
-ghost use Rattle.work_texts.specs.Rules.{IsPlan, IsFinished, IsPlanText, IsFinishedText};
+ghost use Rattle.work_texts.specs.Fields.{plan_text_fields, finished_fields};
+ghost use Rattle.work_texts.specs.Rules.{IsVersionedPlan, IsFinished, IsPlanText, IsFinishedText, text_limit};
 ghost use Rattle.work_texts.specs.BadFields.{PlanBlames, FinishedBlames};
 ghost use Rattle.work_texts.specs.Reading.{Gives, plan_at, finished_at};
 ghost use Rattle.work_texts.specs.Whole.{IsWhole, StopBlames, all_of};
 
 use crate::journal_err::{JournalErr, WorkFile};
-use crate::plan::{FinishedData, PlanData};
+use crate::plan::{FinishedData, PlanData, VersionedPlan};
 use crate::reading::{TEXT_LIMIT, finished, plan};
 use crate::stop::Stop;
 use std::alloc::Global;
 
-/// The text `plan`, with nothing behind it.
-fn all_plan(alloc: Global, bytes: &[u8]) -> Result<PlanData, Stop>
+/// The text `plan` of either version, with nothing behind it.
+fn all_plan(alloc: Global, bytes: &[u8]) -> Result<VersionedPlan, Stop>
     ensures gives { Gives (λ x. x) result (all_of (plan_at bytes.now)) }
 {
     let (plan, rest) = plan(alloc, bytes)?;
@@ -30,15 +31,26 @@ fn all_plan(alloc: Global, bytes: &[u8]) -> Result<PlanData, Stop>
 }
 
 /// The text `plan`, of any length.
-fn whole_plan(alloc: Global, bytes: &[u8]) -> Result<PlanData, Stop>
-    ensures found { IfOk result (λ plan. IsWhole plan_fields IsPlan bytes.now plan) }
-    ensures only { (plan : PlanData) → IsWhole plan_fields IsPlan bytes.now plan → (result ≡ Ok plan) ⊎ (result ≡ Err Stop.NoMemory) }
-    ensures bad { IfErr result (λ stop. StopBlames plan_fields IsPlan bytes.now stop) }
+fn whole_plan(alloc: Global, bytes: &[u8]) -> Result<VersionedPlan, Stop>
+    ensures found { IfOk result (λ text. IsWhole plan_text_fields IsVersionedPlan bytes.now text) }
+    ensures only { (text : VersionedPlan) → IsWhole plan_text_fields IsVersionedPlan bytes.now text → (result ≡ Ok text) ⊎ (result ≡ Err Stop.NoMemory) }
+    ensures bad { IfErr result (λ stop. StopBlames plan_text_fields IsVersionedPlan bytes.now stop) }
 {
     all_plan(alloc, bytes)
 }
 
-/// Reads the text `plan`. It is read exactly where it is the text of a plan that meets the rules.
+/// The plan that the text says, which is no longer than a text may be.
+fn plan_of(alloc: Global, bytes: &[u8]) -> Result<PlanData, Stop>
+    requires within { length bytes.now ≤ text_limit }
+    ensures found { IfOk result (λ plan. IsPlanText bytes.now plan) }
+    ensures only { (plan : PlanData) → IsPlanText bytes.now plan → (result ≡ Ok plan) ⊎ (result ≡ Err Stop.NoMemory) }
+    ensures bad { IfErr result (λ stop. StopBlames plan_text_fields IsVersionedPlan bytes.now stop) }
+{
+    let text = whole_plan(alloc, bytes)?;
+    Ok(text.into_plan())
+}
+
+/// Reads the text `plan` of either version. It is read exactly where it is the text of a plan that meets the rules.
 /// Else the answer is `PlanText` with the place of the first bad field, or want of memory.
 pub fn read_plan(alloc: Global, bytes: &[u8]) -> Result<PlanData, JournalErr>
     ensures found { IfOk result (λ plan. IsPlanText bytes.now plan) }
@@ -50,7 +62,7 @@ pub fn read_plan(alloc: Global, bytes: &[u8]) -> Result<PlanData, JournalErr>
         let at = TEXT_LIMIT;
         return Err(JournalErr::PlanText { file, at });
     }
-    match whole_plan(alloc, bytes) {
+    match plan_of(alloc, bytes) {
         Ok(plan) => Ok(plan),
         Err(Stop::NoMemory) => Err(JournalErr::NoMemory),
         Err(Stop::Field { left }) => {
@@ -80,7 +92,7 @@ fn whole_finished(alloc: Global, bytes: &[u8]) -> Result<FinishedData, Stop>
     all_finished(alloc, bytes)
 }
 
-/// Reads the text `finished`. It is read exactly where it is the text of a key and a report that meet
+/// Reads the text `finished` of either version. It is read exactly where it is the text of a key and a report that meet
 /// the rules. Else the answer is `PlanText` with the place of the first bad field, or want of memory.
 pub fn read_finished(alloc: Global, bytes: &[u8]) -> Result<FinishedData, JournalErr>
     ensures found { IfOk result (λ done. IsFinishedText bytes.now done) }

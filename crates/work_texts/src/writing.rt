@@ -1,12 +1,12 @@
 //! The texts `plan` and `finished`, written (this project's profile).
 //!
 //! **This layer promises**: what is written is the text that `specs/Fields.antt` defines.
-ghost use Rattle.std.specs.Prelude.{◌≡◌, ◌++◌, ◌∷◌, [], OnOk, IfOk, map};
+ghost use Rattle.std.specs.Prelude.{◌≡◌, ◌++◌, ◌∷◌, [], OnOk, IfOk, false, map};
 ghost use Rattle.std.specs.List.{flat_map};
 ghost use Rattle.work_texts.specs.Lists.{bytes_of};
 ghost use Rattle.std.specs.Fmt.{decimal};
 ghost use Rattle.hex.specs.Hex.{encode_lower};
-ghost use Rattle.work_texts.specs.Fields.{text_of, flag_field, key_fields, pair_fields, side_fields, job_fields, plan_fields, finished_fields};
+ghost use Rattle.work_texts.specs.Fields.{text_of, flag_field, key_fields, pair_fields, side_fields, job_fields, keyed_fields, plan_fields, finished_fields};
 
 use crate::key::RunKey;
 use crate::plan::{JobLine, PlanData};
@@ -49,9 +49,9 @@ pub(crate) fn flag(on: bool) -> &'static [u8]
     if on { b"1" } else { b"0" }
 }
 
-/// Appends a key.
+/// Appends the fields of a key that a text of either version has.
 #[tactic(auto, using(crate::proofs::WriteRules::write_rules))]
-fn put_key(alloc: Global, out: &mut Vec<u8>, key: &RunKey) -> Result<(), AllocError>
+fn put_first(alloc: Global, out: &mut Vec<u8>, key: &RunKey) -> Result<(), AllocError>
     ensures value { OnOk result (out.new.items ≡ out.old.items ++ text_of (key_fields key.now)) }
 {
     put_field(out, key.maps.base())?;
@@ -81,6 +81,18 @@ fn put_pairs(out: &mut Vec<u8>, pairs: &[MapPair]) -> Result<(), AllocError>
     for pair in pairs {
         put_pair(out, pair)?;
     }
+    Ok(())
+}
+
+/// Appends a key.
+#[tactic(auto, using(crate::proofs::WriteRules::write_rules))]
+fn put_key(alloc: Global, out: &mut Vec<u8>, key: &RunKey) -> Result<(), AllocError>
+    ensures value { OnOk result (out.new.items ≡ out.old.items ++ text_of (keyed_fields false key.now)) }
+{
+    let more = key.maps.more();
+    put_first(alloc, out, key)?;
+    put_number(alloc, out, more.len() as u64)?;
+    put_pairs(out, more)?;
     Ok(())
 }
 
@@ -128,13 +140,13 @@ fn put_sources(out: &mut Vec<u8>, names: &[Vec<u8>]) -> Result<(), AllocError>
     Ok(())
 }
 
-/// The text `plan` of a plan.
+/// The text `plan` of a plan, in version 2.
 #[tactic(auto, using(crate::proofs::WriteRules::write_rules))]
 pub fn write_plan(alloc: Global, plan: &PlanData) -> Result<Vec<u8>, NoMemory>
     ensures value { IfOk result (λ text. text.items ≡ text_of (plan_fields plan.now)) }
 {
     let mut out = Vec::new(alloc);
-    put_field(&mut out, b"dbgplan 1")?;
+    put_field(&mut out, b"dbgplan 2")?;
     put_key(alloc, &mut out, &plan.key)?;
     put_field(&mut out, plan.report.as_slice())?;
     put_number(alloc, &mut out, plan.jobs.len() as u64)?;
@@ -145,13 +157,13 @@ pub fn write_plan(alloc: Global, plan: &PlanData) -> Result<Vec<u8>, NoMemory>
     Ok(out)
 }
 
-/// The text `finished` of a key and a report.
+/// The text `finished` of a key and a report, in version 2.
 #[tactic(auto, using(crate::proofs::WriteRules::write_rules))]
 pub fn write_finished(alloc: Global, key: &RunKey, report: &[u8]) -> Result<Vec<u8>, NoMemory>
-    ensures value { IfOk result (λ text. text.items ≡ text_of (finished_fields (record { key = key.now; report = report.now }))) }
+    ensures value { IfOk result (λ text. text.items ≡ text_of (finished_fields (record { old = false; key = key.now; report = report.now }))) }
 {
     let mut out = Vec::new(alloc);
-    put_field(&mut out, b"dbgfinished 1")?;
+    put_field(&mut out, b"dbgfinished 2")?;
     put_key(alloc, &mut out, key)?;
     put_field(&mut out, report)?;
     Ok(out)
