@@ -70,13 +70,13 @@ depth-of [] k x lt = absurd (omega (arith, lt))
 depth-of (e ∷ es) zero x lt = refl
 depth-of (e ∷ es) (suc k) x lt = depth-of es k x (omega (arith, lt))
 
-offset-of : (table : List Abbreviation) (ns : List EntryNode) (es : List Scanned) (k : ℕ) (x : Scanned) → AreOf table ns es → k < length ns → (node_at ns k).offset ≡ (get_or es k x).offset
+pub offset-of : (table : List Abbreviation) (ns : List EntryNode) (es : List Scanned) (k : ℕ) (x : Scanned) → AreOf table ns es → k < length ns → (node_at ns k).offset ≡ (get_or es k x).offset
 offset-of table [] es k x are lt = absurd (omega (arith, lt))
 offset-of table (n ∷ ns) [] k x are lt = absurd are
 offset-of table (n ∷ ns) (e ∷ es) zero x are lt = are.0
 offset-of table (n ∷ ns) (e ∷ es) (suc k) x are lt = offset-of table ns es k x are.3 (omega (arith, lt))
 
-count-of : (table : List Abbreviation) (ns : List EntryNode) (es : List Scanned) → AreOf table ns es → length ns ≡ length es
+pub count-of : (table : List Abbreviation) (ns : List EntryNode) (es : List Scanned) → AreOf table ns es → length ns ≡ length es
 count-of table [] [] are = refl
 count-of table [] (e ∷ es) are = absurd are
 count-of table (n ∷ ns) [] are = absurd are

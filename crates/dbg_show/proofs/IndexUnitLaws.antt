@@ -24,7 +24,7 @@ climbs-lower p q (x ∷ xs) c le =
     let first = c.0 in
     (omega (arith, first, le), c.1)
 
-climbs-from : (p : ℕ) (xs : List ℕ) (k : ℕ) → Climbs p xs → k < length xs → p ≤ get_or xs k 0
+pub climbs-from : (p : ℕ) (xs : List ℕ) (k : ℕ) → Climbs p xs → k < length xs → p ≤ get_or xs k 0
 climbs-from p [] k c lt = absurd (omega (arith, lt))
 climbs-from p (x ∷ xs) zero c lt = c.0
 climbs-from p (x ∷ xs) (suc k) c lt =
@@ -44,7 +44,7 @@ pub climbs-rise : (p : ℕ) (xs : List ℕ) → Climbs p xs → Rises xs
 climbs-rise p xs c = record { rise = λ i j below lt. climbs-at p xs i j c below lt }
 
 -- so do the starts of units
-starts-climb : (p : ℕ) (us : List ListedUnit) (q : ℕ) → AreApart p us q → Climbs p (unit_starts us)
+pub starts-climb : (p : ℕ) (us : List ListedUnit) (q : ℕ) → AreApart p us q → Climbs p (unit_starts us)
 starts-climb p [] q a = tt
 starts-climb p (u ∷ us) q a =
     let lt = a.1 in
@@ -58,7 +58,7 @@ starts-length [] = refl
 starts-length (u ∷ us) = ap suc (starts-length us)
 
 -- a place lies in a unit between its start and its end
-key-lies : (h : UnitHeader) (section place : ℕ) → lies_in h section place ≡ true → (start_key h ≤ place_key section place) × (place_key section place < end_key h)
+pub key-lies : (h : UnitHeader) (section place : ℕ) → lies_in h section place ≡ true → (start_key h ≤ place_key section place) × (place_key section place < end_key h)
 key-lies h section place e =
     let parts = and_parts (h.section == section && nat_le h.start place) (nat_lt place h.end) e in
     let front = and_parts (h.section == section) (nat_le h.start place) parts.0 in
@@ -112,7 +112,7 @@ none-behind v tables n (u ∷ us) section place behind =
     ∙ none-behind v tables (n + 1) us section place (λ k lt. behind (suc k) (omega (arith, lt)))
 
 -- the last unit that starts at a place or in front of it
-only-unit : (v : View) (tables : List (List Abbreviation)) (p n : ℕ) (us : List ListedUnit) (q k section place : ℕ) → AreApart p us q → k < length (unit_starts us)
+pub only-unit : (v : View) (tables : List (List Abbreviation)) (p n : ℕ) (us : List ListedUnit) (q k section place : ℕ) → AreApart p us q → k < length (unit_starts us)
     → get_or (unit_starts us) k 0 ≤ place_key section place
     → ((j : ℕ) → k < j → j < length (unit_starts us) → place_key section place < get_or (unit_starts us) j 0)
     → named_in v tables n us section place ≡ or_behind (n + k) (here_at v tables us k section place) None

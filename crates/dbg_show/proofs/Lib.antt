@@ -35,6 +35,7 @@ pub mod ArenaTextLaws
 pub mod SectionNameLaws
 pub mod BaseLaws
 pub mod EntryPrintLaws
+pub mod ArenaNameLaws
 pub mod UnitListLaws
 pub mod MacroListLaws
 pub mod MacroLoopLaws

@@ -176,4 +176,12 @@ impl EntryIndex {
     {
         entry_number(self.entries[unit].places.as_slice(), place as u32)
     }
+
+    /// How many entries the unit of a number has, none where there is no such unit.
+    pub(crate) fn count_in(&self, unit: u64) -> usize {
+        if unit < self.entries.len() as u64 {
+            return self.entries[unit as usize].places.len();
+        }
+        0
+    }
 }

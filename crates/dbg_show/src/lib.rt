@@ -33,6 +33,7 @@ mod show_err;
 mod source;
 mod table_lines;
 mod table_texts;
+mod unit_bases;
 mod unit_lines;
 mod unit_source;
 mod unit_texts;

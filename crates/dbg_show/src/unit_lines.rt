@@ -2,21 +2,19 @@
 //!
 //! Read first: `specs/ShownUnits.antt`.
 
-ghost use Rattle.std.specs.Prelude.{◌≡◌, ◌++◌, ◌+◌, ◌<◌, ◌≤◌, ◌^◌, drop, length, take, IfErr, IfOk, IfSome, IsTrue, OnOk};
+ghost use Rattle.std.specs.Prelude.{◌≡◌, ◌++◌, ◌+◌, ◌<◌, ◌≤◌, drop, length, take, IfErr, IfOk, OnOk, Some};
 ghost use Rattle.std.specs.String.{string_bytes};
 ghost use Rattle.dw_base.specs.LineMeanings.{item_at};
 ghost use Rattle.dw_base.specs.Texts.{text_in};
-ghost use Rattle.dw_base.specs.UnitHeaders.{is_address_size};
 ghost use Rattle.dw_base.specs.ViewData.{located};
-ghost use Rattle.dw_base.specs.Values.{value_at};
 ghost use Rattle.dw_base.specs.declared.view_fields.Field.TheVariants.{Into};
 ghost use Rattle.dbg_show.specs.Printing.{Cut, Printed};
-ghost use Rattle.dbg_show.specs.ShownUnits.{ShownUnit as ShownUnitOf, all_shown, base_number, class_shown, entries_text, entry_base, entry_shown, entry_text, first_base, header_line, index_shown, is_base_class, macro_shown, offset_text, one_shown, other_shown, plain_shown, reference_shown, says_base, says_start, says_unit, shown_unit, table_said, table_shown, tabled_text, unit_bytes, unit_entries, unit_said, value_address, value_bytes, value_field, value_offset, value_shown, values_base, values_shown};
-ghost use Rattle.dbg_show.specs.UnitReads.{AllCanRead, BytesFit, CanRead, EachReads, ShownFits, SourceFits};
+ghost use Rattle.dbg_show.specs.ShownUnits.{ShownUnit as ShownUnitOf, all_shown, class_shown, entries_text, entry_number, entry_shown, entry_text, header_line, index_shown, macro_shown, named_in, offset_text, one_shown, other_shown, plain_shown, reference_shown, says_start, says_unit, shown_unit, table_said, table_shown, tabled_text, unit_bytes, unit_entries, unit_said, value_address, value_bytes, value_field, value_offset, value_shown, values_shown};
+ghost use Rattle.dbg_show.specs.UnitReads.{AllCanRead, CanRead, EachReads, ShownFits, SourceFits};
 ghost use Rattle.dbg_show.specs.UnitTexts.{attribute_line, entry_line, kind_name, text_said};
 ghost use Rattle.dw_base.specs.DebugData.{start_number};
 ghost use Rattle.entry_arena.specs.UnitArenas.{IsArenaOf};
-ghost use Rattle.dbg_show.specs.ArenaTexts.{node_entry};
+ghost use Rattle.dbg_show.specs.ArenaTexts.{HasArena, IsNumbered, node_entry};
 ghost use Rattle.dw_entries.specs.ViewUnits.{IsUnitSection, unit_section_at};
 ghost use Rattle.dw_find.specs.LineStarts.{Rises};
 
@@ -24,7 +22,8 @@ use crate::fields::{address_field, number_field, offset_into};
 use crate::listed_unit::ListedUnit;
 use crate::printing::write_full;
 use crate::show_err::ShowErr;
-use crate::unit_source::{UnitSource, info_section, is_info, text_of};
+use crate::unit_bases::{unit_base, value_in};
+use crate::unit_source::{UnitSource, info_section, is_info, lies_in, text_of};
 use crate::unit_texts::{push_attribute_front, push_end, push_entry, push_unit};
 use crate::value_texts::{
     push_bytes, push_field, push_lines, push_macros, push_reference, push_relocation, push_signed,
@@ -32,22 +31,20 @@ use crate::value_texts::{
 };
 use dw_abbrev::AbbrevTable;
 use dw_base::dwarf_numbers::{
-    DW_AT_GNU_macros, DW_AT_macros, DW_AT_stmt_list, DW_AT_str_offsets_base, DW_FORM_implicit_const,
+    DW_AT_GNU_macros, DW_AT_macros, DW_AT_stmt_list, DW_FORM_implicit_const,
 };
 use dw_base::{
     DebugSection, Fault, Field, Scanned, Spec, UnitHeader, Value, ValueClass, is_start_form,
     own_form, uleb_at,
 };
-use dw_entries::EntryScan;
 use dw_find::start_number;
-use dw_forms::value_at;
 use dw_view::View;
 use entry_arena::{EntryArena, EntryNode, WalkStep};
 use file_tree::Sink;
 use std::alloc::{AllocError, Global};
 use std::marker::Model;
 
-/// A unit that is printed: its number, header, abbreviations and bytes, and the base of its texts by index.
+/// A unit that is printed: its number, header, abbreviations and bytes, the base of its texts by index, and its entries, linked.
 #[derive(Drop)]
 struct ShownUnit<'v, 'f, 'u, 's> {
     source: &'s UnitSource<'v, 'f, 'u>,
@@ -56,12 +53,15 @@ struct ShownUnit<'v, 'f, 'u, 's> {
     table: &'s AbbrevTable,
     bytes: &'v [u8],
     base: Option<u64>,
+    arena: &'s EntryArena,
 }
 
 impl<'v, 'f, 'u, 's> Model for ShownUnit<'v, 'f, 'u, 's> {
     ghost Value = { ShownUnitOf };
 
     ghost view = { λ u. record { source = u.source.now; number = u.number; header = u.header.now; table = u.table.now; bytes = u.bytes.now; base = u.base } };
+
+    ghost invariant = { λ u. HasArena (record { source = u.source.now; number = u.number; header = u.header.now; table = u.table.now; bytes = u.bytes.now; base = u.base }) u.arena.now };
 }
 
 /// So many bytes at a place, as far as they are there.
@@ -146,6 +146,31 @@ fn push_indexed(text: &mut String, unit: &ShownUnit, value: &Value) -> Result<()
     }
 }
 
+/// The number of the entry of the unit that starts at a place.
+fn own_number(unit: &ShownUnit, place: u64) -> Option<u64>
+    ensures number { result ≡ entry_number 0 place (unit_entries unit.now.header unit.now.table unit.now.bytes) }
+{
+    match unit.arena.number_of(place) {
+        Some(number) => Some(u64::from(number)),
+        None => None,
+    }
+}
+
+/// The entry that starts at a place of the unit's section: mostly one of the unit.
+fn near_entry(unit: &ShownUnit, place: u64) -> Option<(u64, u64)>
+    requires fits { ShownFits unit.now }
+    ensures entry { result ≡ named_in unit.now.source.view unit.now.source.tables 0 unit.now.source.units unit.now.header.section place }
+{
+    let section = unit.header.section;
+    if !lies_in(unit.header, section, place) {
+        return unit.source.entry(section, place);
+    }
+    match own_number(unit, place) {
+        Some(number) => Some((unit.number, number)),
+        None => None,
+    }
+}
+
 /// Appends a reference to an entry of the unit.
 #[tactic(auto, using(crate::proofs::ShownLaws::reference_laws))]
 fn push_local(text: &mut String, unit: &ShownUnit, offset: u64) -> Result<(), AllocError>
@@ -155,7 +180,7 @@ fn push_local(text: &mut String, unit: &ShownUnit, offset: u64) -> Result<(), Al
     let Some(place) = unit.header.start.checked_add(offset) else {
         return push_stray(text, offset);
     };
-    push_reference(text, unit.source.entry(unit.header.section, place), offset)
+    push_reference(text, near_entry(unit, place), offset)
 }
 
 /// Appends a reference to an entry that starts at a place of a section.
@@ -384,26 +409,6 @@ fn print_attribute<O: Sink>(
     write_full(text, out)
 }
 
-/// The value of an attribute at a place. `None` exactly where none can be read there.
-#[tactic(auto, using(crate::proofs::ShownLaws::read_laws))]
-fn value_in(unit: &UnitHeader, bytes: &[u8], spec: &Spec, place: u64) -> Option<Value>
-    requires address { IsTrue (is_address_size unit.now.params.address) }
-    ensures value { result ≡ value_at unit.now.params spec.now bytes.now place }
-    ensures within { IfSome result (λ v. place + v.size ≤ length bytes.now) }
-{
-    match value_at(
-        spec,
-        &unit.params,
-        unit.section,
-        bytes,
-        place,
-        bytes.len() as u64,
-    ) {
-        Ok(value) => Some(value),
-        Err(_) => None,
-    }
-}
-
 /// Prints the attributes of an entry whose values stand from a place on.
 #[tactic(auto, using(crate::proofs::ShownLaws::values_loop))]
 fn print_values<O: Sink>(
@@ -502,18 +507,12 @@ fn print_node<O: Sink>(
 
 /// Prints the entries of a unit, as its arena has them.
 #[tactic(auto, using(crate::proofs::ArenaTextLaws::walk_loop))]
-fn print_entries<O: Sink>(
-    text: &mut String,
-    out: &mut O,
-    unit: &ShownUnit,
-    arena: &EntryArena,
-) -> Result<(), ShowErr>
+fn print_entries<O: Sink>(text: &mut String, out: &mut O, unit: &ShownUnit) -> Result<(), ShowErr>
     requires fits { ShownFits unit.now }
-    requires bytes { unit.now.bytes ≡ unit_bytes unit.now.source.view unit.now.header }
-    requires arena { IsArenaOf unit.now.header unit.now.table unit.now.bytes arena.now }
     ensures done { OnOk result (Printed (entries_text unit.now 0 (unit_entries unit.now.header unit.now.table unit.now.bytes)) (string_bytes text.old) (O.heard out.old) (O.heard out.new) (string_bytes text.new)) }
     ensures cut { IfErr result (Cut (string_bytes text.old ++ (entries_text unit.now 0 (unit_entries unit.now.header unit.now.table unit.now.bytes))) (O.heard out.old) (O.heard out.new)) }
 {
+    let arena = unit.arena;
     for step in arena.steps() {
         match print_node(text, out, unit, step, arena.node(step.number)) {
             Ok(()) => {}
@@ -523,124 +522,22 @@ fn print_entries<O: Sink>(
     Ok(())
 }
 
-/// The entries of a unit that can be read, linked.
+/// The entries of a unit that can be read, so many, linked.
 fn unit_arena(
     alloc: Global,
     view: &View,
     unit: &UnitHeader,
     table: &AbbrevTable,
+    count: usize,
 ) -> Result<EntryArena, AllocError>
     requires reads { CanRead view.now unit.now table.now }
     ensures arena { IfOk result (IsArenaOf unit.now table.now (unit_bytes view.now unit.now)) }
 {
-    match EntryArena::read(alloc, view, unit, table) {
+    match EntryArena::read_counted(alloc, view, unit, table, count) {
         Ok(arena) => Ok(arena),
         Err(Fault::NoMemory) => Err(AllocError),
         Err(Fault::Refused(_)) => unreachable!(),
     }
-}
-
-/// A class of values that can say a base.
-fn is_base_class(class: ValueClass) -> bool
-    ensures { result ≡ is_base_class class }
-{
-    matches!(class, ValueClass::Number | ValueClass::SecOffset)
-}
-
-/// A value of an attribute says the base of the texts by index of its unit (DWARF 5, 3.1.1).
-fn says_base(spec: &Spec, class: ValueClass) -> bool
-    ensures { result ≡ says_base spec.now class }
-{
-    if spec.name != DW_AT_str_offsets_base {
-        return false;
-    }
-    is_base_class(class)
-}
-
-/// The base that a value of a form says: as an offset where that can be one, else its number.
-fn base_number(view: &View, unit: &UnitHeader, bytes: &[u8], form: u64, value: &Value) -> u64
-    requires fits { BytesFit view.now unit.now.section bytes.now }
-    ensures base { result ≡ base_number view.now unit.now bytes.now form value.now }
-{
-    if !is_start_form(form) {
-        return value.number;
-    }
-    let field = number_field(view, unit.section, bytes, form, value);
-    offset_into(view, DebugSection::StrOffsets, field)
-}
-
-/// The base of texts by index that values say from a place on.
-#[tactic(auto, using(crate::proofs::BaseLaws::base_laws))]
-fn values_base(
-    view: &View,
-    unit: &UnitHeader,
-    bytes: &[u8],
-    specs: &[Spec],
-    from: u64,
-) -> Option<u64>
-    requires fits { BytesFit view.now unit.now.section bytes.now }
-    requires address { IsTrue (is_address_size unit.now.params.address) }
-    requires small { length bytes.now ≤ 2 ^ 31 }
-    requires inside { from ≤ length bytes.now }
-    ensures base { result ≡ values_base view.now unit.now bytes.now specs.now from }
-{
-    let mut place = from;
-    for spec in specs {
-        let value = match value_in(unit, bytes, spec, place) {
-            Some(value) => value,
-            None => return None,
-        };
-        if says_base(spec, value.class) {
-            let form = own_form(spec, bytes, place);
-            return Some(base_number(view, unit, bytes, form, &value));
-        }
-        place += value.size;
-    }
-    None
-}
-
-/// The base that an entry says.
-#[tactic(auto, unfolding(crate::specs::ShownUnits::entry_base))]
-fn entry_base(
-    view: &View,
-    unit: &UnitHeader,
-    table: &AbbrevTable,
-    bytes: &[u8],
-    entry: &Scanned,
-) -> Option<u64>
-    requires fits { BytesFit view.now unit.now.section bytes.now }
-    requires address { IsTrue (is_address_size unit.now.params.address) }
-    requires small { length bytes.now ≤ 2 ^ 31 }
-    ensures base { result ≡ entry_base view.now unit.now table.now bytes.now entry.now }
-{
-    let (code, size) = uleb_at(bytes, entry.offset)?;
-    let abbrev = table.get(code)?;
-    values_base(
-        view,
-        unit,
-        bytes,
-        abbrev.specs.as_slice(),
-        entry.offset + size,
-    )
-}
-
-/// The base of the texts by index of a unit: that of its first entry.
-#[tactic(auto, using(crate::proofs::BaseLaws::unit_laws))]
-fn unit_base(view: &View, unit: &UnitHeader, table: &AbbrevTable, bytes: &[u8]) -> Option<u64>
-    requires reads { CanRead view.now unit.now table.now }
-    requires fits { BytesFit view.now unit.now.section bytes.now }
-    requires address { IsTrue (is_address_size unit.now.params.address) }
-    requires small { length bytes.now ≤ 2 ^ 31 }
-    requires bytes { bytes.now ≡ unit_bytes view.now unit.now }
-    ensures base { result ≡ first_base view.now unit.now table.now bytes.now (unit_entries unit.now table.now bytes.now) }
-{
-    for entry in EntryScan::new(view, unit, table) {
-        match entry {
-            Ok(entry) => return entry_base(view, unit, table, bytes, &entry),
-            Err(_) => unreachable!(),
-        }
-    }
-    None
 }
 
 /// The name of the section of a unit.
@@ -685,6 +582,7 @@ fn print_with<O: Sink>(
 ) -> Result<(), ShowErr>
     requires fits { SourceFits source.now }
     requires reads { CanRead source.now.view unit.now table.now }
+    requires numbered { IsNumbered source.now number unit.now table.now }
     requires arena { IsArenaOf unit.now table.now (unit_bytes source.now.view unit.now) arena.now }
     ensures done { OnOk result (Printed (entries_text (shown_unit source.now number unit.now table.now) 0 (unit_entries unit.now table.now (unit_bytes source.now.view unit.now))) (string_bytes text.old) (O.heard out.old) (O.heard out.new) (string_bytes text.new)) }
     ensures cut { IfErr result (Cut (string_bytes text.old ++ entries_text (shown_unit source.now number unit.now table.now) 0 (unit_entries unit.now table.now (unit_bytes source.now.view unit.now))) (O.heard out.old) (O.heard out.new)) }
@@ -697,8 +595,9 @@ fn print_with<O: Sink>(
         table,
         bytes,
         base: unit_base(source.view, unit, table, bytes),
+        arena,
     };
-    print_entries(text, out, &shown, arena)
+    print_entries(text, out, &shown)
 }
 
 /// The same, where the entries aren't linked yet: the arena is let go behind the unit.
@@ -714,10 +613,11 @@ fn print_linked<O: Sink>(
 ) -> Result<(), ShowErr>
     requires fits { SourceFits source.now }
     requires reads { CanRead source.now.view unit.now table.now }
+    requires numbered { IsNumbered source.now number unit.now table.now }
     ensures done { OnOk result (Printed (entries_text (shown_unit source.now number unit.now table.now) 0 (unit_entries unit.now table.now (unit_bytes source.now.view unit.now))) (string_bytes text.old) (O.heard out.old) (O.heard out.new) (string_bytes text.new)) }
     ensures cut { IfErr result (Cut (string_bytes text.old ++ entries_text (shown_unit source.now number unit.now table.now) 0 (unit_entries unit.now table.now (unit_bytes source.now.view unit.now))) (O.heard out.old) (O.heard out.new)) }
 {
-    let arena = unit_arena(alloc, source.view, unit, table)?;
+    let arena = unit_arena(alloc, source.view, unit, table, source.entry_count(number))?;
     print_with(text, out, source, number, unit, table, &arena)
 }
 
@@ -733,6 +633,7 @@ fn print_tabled<O: Sink>(
 ) -> Result<(), ShowErr>
     requires fits { SourceFits source.now }
     requires unit { EachReads source.now.view source.now.tables unit.now }
+    requires there { item_at source.now.units number ≡ Some unit.now }
     ensures done { OnOk result (Printed (tabled_text source.now number unit.now.header (item_at source.now.tables unit.now.table)) (string_bytes text.old) (O.heard out.old) (O.heard out.new) (string_bytes text.new)) }
     ensures cut { IfErr result (Cut (string_bytes text.old ++ tabled_text source.now number unit.now.header (item_at source.now.tables unit.now.table)) (O.heard out.old) (O.heard out.new)) }
 {
@@ -754,6 +655,7 @@ fn print_unit<O: Sink>(
 ) -> Result<(), ShowErr>
     requires fits { SourceFits source.now }
     requires unit { EachReads source.now.view source.now.tables unit.now }
+    requires there { item_at source.now.units number ≡ Some unit.now }
     ensures done { OnOk result (Printed (one_shown source.now number unit.now) (string_bytes text.old) (O.heard out.old) (O.heard out.new) (string_bytes text.new)) }
     ensures cut { IfErr result (Cut (string_bytes text.old ++ one_shown source.now number unit.now) (O.heard out.old) (O.heard out.new)) }
 {
@@ -772,6 +674,7 @@ fn print_all<O: Sink>(
 ) -> Result<(), ShowErr>
     requires fits { SourceFits source.now }
     requires units { AllCanRead source.now.view source.now.tables units.now }
+    requires all { units.now ≡ source.now.units }
     ensures done { OnOk result (Printed (all_shown source.now 0 units.now) (string_bytes text.old) (O.heard out.old) (O.heard out.new) (string_bytes text.new)) }
     ensures cut { IfErr result (Cut (string_bytes text.old ++ all_shown source.now 0 units.now) (O.heard out.old) (O.heard out.new)) }
 {

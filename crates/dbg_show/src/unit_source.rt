@@ -55,7 +55,7 @@ impl<'v, 'f, 'u> Model for UnitSource<'v, 'f, 'u> {
 
 /// A place of a section lies in a unit.
 #[tactic(auto)]
-fn lies_in(unit: &UnitHeader, section: u32, place: u64) -> bool
+pub(crate) fn lies_in(unit: &UnitHeader, section: u32, place: u64) -> bool
     ensures { result ≡ lies_in unit.now section place }
 {
     unit.section == section && unit.start <= place && place < unit.end
@@ -108,6 +108,12 @@ impl<'v, 'f, 'u> UnitSource<'v, 'f, 'u> {
             Some(number) => Some((unit as u64, number)),
             None => None,
         }
+    }
+
+    /// How many entries the unit of a number has.
+    pub(crate) fn entry_count(&self, unit: u64) -> usize {
+        let index = self.index;
+        index.count_in(unit)
     }
 
     /// A table of a number.

@@ -1,8 +1,10 @@
 -- Printed whole, or cut at one.
-use Rattle.std.proofs.Common.{arith, refl}
+use Rattle.std.proofs.Common.{List, ◌∙◌, ap, arith, refl, sym}
 use Rattle.std.specs.String.{string_bytes}
+use Rattle.dw_base.specs.LineMeanings.{item_at}
 use Rattle.dbg_show.specs.ShownUnits.{all_shown}
-use Rattle.dbg_show.proofs.ShownLaws.{units-over, units-cut}
+use Rattle.dbg_show.specs.declared.listed_unit.ListedUnit.{ListedUnit}
+use Rattle.dbg_show.proofs.ShownLaws.{unit-listed, units-over, units-cut}
 use Rattle.dbg_show.proofs.SourceLaws.{each-reads}
 use Rattle.dbg_show.proofs.unit_lines.print_all.Goals as goal
 
@@ -20,3 +22,7 @@ returns-clause-done g c =
 
 pub print_unit-requires-clause-unit : goal.print_unit-requires-clause-unit
 print_unit-requires-clause-unit g c = each-reads c.args.source.now.view c.args.source.now.tables c.args.units.now c.loop-number.number _ c.requires.units (omega arith)
+
+pub print_unit-requires-clause-there : goal.print_unit-requires-clause-there
+print_unit-requires-clause-there g c =
+    ap (λ (us : List ListedUnit). item_at us c.loop-number.number) (sym c.requires.all) ∙ unit-listed c.args.units.now c.loop-number.number _ (omega arith)

@@ -27,23 +27,21 @@ unit_base-requires-clause-fits g c =
     own-fits c.args.source.now.view c.source.inside.view.now c.args.unit.now c.args.table.now c.bytes.result.now (ap (λ (u : UnitSource). u.view) c.source.view_is) c.requires.reads
     c.bytes.ensures.bytes
 
-pub print_entries-requires-clause-fits : goal.print_entries-requires-clause-fits
-print_entries-requires-clause-fits g c = record {
-  source = c.requires.fits;
-  bytes = with-fits c.args.source.now.view c.source.inside.view.now c.args.unit.now c.args.table.now c.bytes.result.now (ap (λ (u : UnitSource). u.view) c.source.view_is) c.requires.reads
-      c.bytes.ensures.bytes;
-  address = unit-address c.args.source.now.view c.args.unit.now c.args.table.now c.requires.reads;
-  small = unit-small c.args.source.now.view c.args.unit.now c.args.table.now c.bytes.result.now c.requires.reads;
+pub print_entries-requires : goal.print_entries-requires
+print_entries-requires g c = record {
+  fits = record {
+    source = c.requires.fits;
+    bytes = with-fits c.args.source.now.view c.source.inside.view.now c.args.unit.now c.args.table.now c.bytes.result.now (ap (λ (u : UnitSource). u.view) c.source.view_is) c.requires.reads
+        c.bytes.ensures.bytes;
+    address = unit-address c.args.source.now.view c.args.unit.now c.args.table.now c.requires.reads;
+    small = unit-small c.args.source.now.view c.args.unit.now c.args.table.now c.bytes.result.now c.requires.reads;
+  };
 }
 
-pub print_entries-requires-clause-bytes : goal.print_entries-requires-clause-bytes
-print_entries-requires-clause-bytes g c = with-own c.args.source.now.view c.source.inside.view.now c.args.unit.now c.args.table.now c.bytes.result.now (ap (λ (u : UnitSource). u.view) c.source.view_is) c.requires.reads c.bytes.ensures.bytes
-
-pub print_entries-requires-clause-arena : goal.print_entries-requires-clause-arena
-print_entries-requires-clause-arena g c =
-    subst (λ (bs : List ℕ). IsArenaOf c.args.unit.now c.args.table.now bs c.args.arena.now)
-    (sym (with-own c.args.source.now.view c.source.inside.view.now c.args.unit.now c.args.table.now c.bytes.result.now (ap (λ (u : UnitSource). u.view) c.source.view_is) c.requires.reads c.bytes.ensures.bytes))
-    c.requires.arena
+pub invariant_of-shown : goal.invariant_of-shown
+invariant_of-shown g c =
+    let own = with-own c.args.source.now.view c.source.inside.view.now c.args.unit.now c.args.table.now c.bytes.result.now (ap (λ (u : UnitSource). u.view) c.source.view_is) c.requires.reads c.bytes.ensures.bytes in
+    record { numbered = c.requires.numbered; bytes_are = own; arena = subst (λ (bs : List ℕ). IsArenaOf c.args.unit.now c.args.table.now bs c.args.arena.now) (sym own) c.requires.arena }
 
 pub returns-clause-done : goal.returns-clause-done
 returns-clause-done g c =

@@ -1,5 +1,5 @@
 use Rattle.dbg_show.proofs.BaseLaws.{BaseLeft}
-use Rattle.dbg_show.proofs.unit_lines.values_base.Given as goal
+use Rattle.dbg_show.proofs.unit_bases.values_base.Given as goal
 
 -- the base is among the values that are left
 abbrev pub invariant-loop-spec : goal.invariant-loop-spec

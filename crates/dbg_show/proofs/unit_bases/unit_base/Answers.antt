@@ -2,7 +2,7 @@
 use Rattle.dbg_show.proofs.BaseLaws.{first-there, first-none}
 use Rattle.dbg_show.proofs.EntryListLaws.{gave-entry, gave-refusal}
 use Rattle.dbg_show.proofs.EntryPassLaws.{pass-fails}
-use Rattle.dbg_show.proofs.unit_lines.unit_base.Goals as goal
+use Rattle.dbg_show.proofs.unit_bases.unit_base.Goals as goal
 
 pub returns-in-Ok : goal.returns-in-Ok
 returns-in-Ok c = record {

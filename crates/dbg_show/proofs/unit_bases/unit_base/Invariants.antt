@@ -1,6 +1,6 @@
 use Rattle.dbg_show.specs.ShownUnits.{unit_bytes}
 use Rattle.dbg_show.proofs.EntryListLaws.{PassAt}
-use Rattle.dbg_show.proofs.unit_lines.unit_base.Given as goal
+use Rattle.dbg_show.proofs.unit_bases.unit_base.Given as goal
 
 -- no entry was met
 abbrev pub invariant-loop-entry : goal.invariant-loop-entry
