@@ -18,7 +18,7 @@ use Rattle.dw_entries.specs.Passes.{HasSize, plain_len}
 use Rattle.dw_forms.proofs.InsideLaws.{value_at-inside}
 use Rattle.dw_forms.specs.Fixed.{fixed_size, is_among, is_plain_form, plain_forms, plain_size}
 use Rattle.dw_forms.specs.Reads.{room_size}
-use Rattle.dw_fields.specs.FieldForms.{IsStill, is_followed}
+use Rattle.dw_fields.specs.FieldForms.{IsStill, is_followed, is_number_form, number_forms}
 use Rattle.dw_fields.specs.FieldForms.IsStill.{no_field, number_field}
 use Rattle.dw_fields.specs.FieldWalks.{FieldPassed, Goes, Ground, Stands, StandsAt, Walked, place_before}
 use Rattle.dw_fields.specs.UnitFields.{fields_of_kind}
@@ -100,6 +100,50 @@ still-by params bytes place n form true is e other =
     among (HoldsNone params bytes place n) plain_forms form (plain-still params bytes place n) is e other
 still-by params bytes place n form false is e other = absurd cc
 
+-- a value of a number's form is a number
+abbrev HoldsNumber : Params → List ℕ → ℕ → ℕ → ℕ → Type 0
+HoldsNumber params bytes place n form =
+    fixed_size (kind_in params form) ≡ Some n → (0 < n) × (fields_of_kind (kind_in params form) params bytes false place ≡ field_place place n plain_field ∷ [])
+
+number-own : (place m n : ℕ) → ◌≡◌ {A = Option ℕ} (Some m) (Some n) → 0 < m → (0 < n) × (field_place place m plain_field ∷ [] ≡ field_place place n plain_field ∷ [])
+number-own place m n e some =
+    (subst (λ (k : ℕ). 0 < k) (size-once m n e) some, ap (λ (k : ℕ). field_place place k plain_field ∷ []) (size-once m n e))
+
+number-each : (params : Params) (bytes : List ℕ) (place n : ℕ) → EachForm (HoldsNumber params bytes place n) number_forms
+unfolding kind_in form_rows number_forms
+number-each params bytes place n = (
+  (λ e. number-own place 1 n e (omega arith)),
+  (
+    (λ e. number-own place 1 n e (omega arith)),
+    (
+      (λ e. number-own place 2 n e (omega arith)),
+      (
+        (λ e. number-own place 4 n e (omega arith)),
+        (
+          (λ e. number-own place 4 n e (omega arith)),
+          (
+            (λ e. number-own place 8 n e (omega arith)),
+            (
+              (λ e. number-own place (width_size params.width) n e (width-some params.width)),
+              tt,
+            ),
+          ),
+        ),
+      ),
+    ),
+  ),
+)
+
+number-by : (params : Params) (bytes : List ℕ) (place n form : ℕ) → is_number_form form ≡ true → plain_size params form ≡ Some n
+    → (0 < n) × (fields_of_kind (kind_in params form) params bytes false place ≡ field_place place n plain_field ∷ [])
+unfolding is_number_form
+number-by params bytes place n form is e =
+    among (HoldsNumber params bytes place n) number_forms form (number-each params bytes place n) is (plain-fixed (is_plain_form form) e)
+  where
+    plain-fixed : (t : Bool) → (if t then fixed_size (kind_in params form) else None) ≡ Some n → fixed_size (kind_in params form) ≡ Some n
+    plain-fixed true e = e
+    plain-fixed false e = absurd cc
+
 -- the size that was found
 room-once : (k n : ℕ) (t : Bool) → (if t then Some k else None) ≡ Some n → k ≡ n
 room-once k n true e = size-once k n e
@@ -132,6 +176,26 @@ len-still params x bytes place start b (Some n) is fails e =
     let other : is_followed start x.form ≡ false = sym is ∙ fails in
     subst (λ (s : Bool). IsStill place n (fields_of_kind (kind_in params x.form) params bytes s place)) (sym (not-start start x.form other))
     (still-by params bytes place n x.form (is_plain_form x.form) refl (len-plain params x bytes place n (sym e)) (not-text start x.form other))
+
+number-there : (params : Params) (x : Spec) (bytes : List ℕ) (place n : ℕ) (start b c : Bool) → b ≡ is_followed start x.form → b ≡ false → c ≡ is_number_form x.form
+    → c ≡ true → Some n ≡ plain_len params x bytes place
+    → (0 < n) × (fields_of_kind (kind_in params x.form) params bytes start place ≡ field_place place n plain_field ∷ [])
+number-there params x bytes place n start b c is fails number_is yes_is e =
+    let other : is_followed start x.form ≡ false = sym is ∙ fails in
+    subst (λ (s : Bool). (0 < n) × (fields_of_kind (kind_in params x.form) params bytes s place ≡ field_place place n plain_field ∷ []))
+    (sym (not-start start x.form other))
+    (number-by params bytes place n x.form (sym number_is ∙ yes_is) (len-plain params x bytes place n (sym e)))
+
+pub number-some : (params : Params) (x : Spec) (bytes : List ℕ) (place : ℕ) (start b c : Bool) (o : Option ℕ) → b ≡ is_followed start x.form → b ≡ false
+    → c ≡ is_number_form x.form → c ≡ true → o ≡ plain_len params x bytes place → IfSome o (λ n. 0 < n)
+number-some params x bytes place start b c None is fails number_is yes_is e = tt
+number-some params x bytes place start b c (Some n) is fails number_is yes_is e = (number-there params x bytes place n start b c is fails number_is yes_is e).0
+
+pub number-field : (params : Params) (x : Spec) (bytes : List ℕ) (place : ℕ) (start b c : Bool) (o : Option ℕ) → b ≡ is_followed start x.form → b ≡ false
+    → c ≡ is_number_form x.form → c ≡ true → o ≡ plain_len params x bytes place
+    → IfSome o (λ n. fields_of_kind (kind_in params x.form) params bytes start place ≡ field_place place n plain_field ∷ [])
+number-field params x bytes place start b c None is fails number_is yes_is e = tt
+number-field params x bytes place start b c (Some n) is fails number_is yes_is e = (number-there params x bytes place n start b c is fails number_is yes_is e).1
 
 pub has-value : (params : Params) (x : Spec) (bytes : List ℕ) (place n : ℕ) → HasSize params x bytes place n → value_size (value_at params x bytes place) ≡ Some n
 has-value params x bytes place n h = ap value_size h.is ∙ ap Some h.size_is
@@ -236,8 +300,16 @@ pub read-passed : (g : Ground) (params : Params) (x : Spec) (bytes : List ℕ) (
     → ValuePassed g params x bytes start place (place + n) p q
 read-passed g params x bytes start place n p q value goes = record { size = n; value = value; behind = refl; goes = goes }
 
-pub ruleset read_rules = (read-passed, there-inside, value-room)
+pub number-passed : (g : Ground) (params : Params) (x : Spec) (bytes : List ℕ) (start : Bool) (place n : ℕ) (p q : Result Marks Refusal)
+    → value_size (value_at params x bytes place) ≡ Some n → fields_of_kind (kind_in params x.form) params bytes start place ≡ field_place place n plain_field ∷ []
+    → Goes g place (place + n) (field_place place n plain_field ∷ []) p q → ValuePassed g params x bytes start place (place + n) p q
+number-passed g params x bytes start place n p q value field goes =
+    read-passed g params x bytes start place n p q value (subst (λ (fs : List FieldPlace). Goes g place (place + n) fs p q) (sym field) goes)
+
+pub ruleset read_rules = (read-passed, number-passed, there-inside, value-room)
 
 pub ruleset next_rules = (there-inside)
 
 pub ruleset still_rules = (len-still, len-value)
+
+pub ruleset number_rules = (number-some, number-field, len-value)

@@ -1,5 +1,5 @@
 -- Laws of a pass over the fields of units.
-use Rattle.std.proofs.Common.{◌≡◌, ℕ, ◌<◌, ◌≤◌, ◌^◌, true, List, length, Result, Ok, Err, sym, ◌∙◌, subst, arith}
+use Rattle.std.proofs.Common.{◌≡◌, ℕ, ◌<◌, ◌≤◌, ◌^◌, true, List, length, Result, Ok, Err, sym, subst, arith}
 use Rattle.dw_base.specs.AbbreviationTables.{Abbreviation}
 use Rattle.dw_base.specs.EntryScans.{EntryFails}
 use Rattle.dw_base.specs.EntryValues.{HasUnit, bytes_up_to}

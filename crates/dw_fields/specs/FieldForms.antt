@@ -3,6 +3,8 @@ use Rattle.std.specs.Prelude.{Bool, true, false, ℕ, ◌+◌, ◌<◌, ◌||◌
 use Rattle.dw_abbrev.specs.QuietSpecs.{is_text_form}
 use Rattle.dw_base.specs.Forms.{ValueKind, form_in_front, number_of, text_offset}
 use Rattle.dw_base.specs.RelocationRows.{FieldPlace, FieldUse, field_place, is_offset_use, offset_field, plain_field, use_of_number}
+use Rattle.dw_base.specs.declared.dwarf_numbers.TheConstants.{DW_FORM_data1, DW_FORM_data2, DW_FORM_data4, DW_FORM_data8, DW_FORM_flag, DW_FORM_ref4, DW_FORM_sec_offset}
+use Rattle.dw_forms.specs.Fixed.{is_among}
 use Rattle.dw_fields.specs.declared.forms.FieldForm.{FieldForm}
 
 -- that of a number of so many bytes, by what it is
@@ -42,3 +44,12 @@ is_followed start form = start || is_text_form form
 pub data IsStill (place n : ℕ) : List FieldPlace → Type 0 where
   no_field : IsStill place n []
   number_field : 0 < n → IsStill place n (field_place place n plain_field ∷ [])
+
+-- the forms of most values that are numbers, but for addresses
+unfoldable pub number_forms : List ℕ
+number_forms =
+    DW_FORM_data1 ∷ DW_FORM_flag ∷ DW_FORM_data2 ∷ DW_FORM_data4 ∷ DW_FORM_ref4 ∷ DW_FORM_data8 ∷ DW_FORM_sec_offset ∷ []
+
+-- a form is one of those
+unfoldable pub is_number_form : ℕ → Bool
+is_number_form form = is_among number_forms form

@@ -4,10 +4,14 @@ ghost use Rattle.std.specs.Prelude.{◌≡◌, ◌<◌, ◌≤◌, IfSome, IsTru
 ghost use Rattle.dw_base.specs.Forms.{width_size};
 ghost use Rattle.dw_base.specs.RelocationRows.{use_of_number};
 ghost use Rattle.dw_base.specs.UnitHeaders.{is_address_size};
-ghost use Rattle.dw_fields.specs.FieldForms.{form_by_use, form_of, is_followed, is_front};
+ghost use Rattle.dw_fields.specs.FieldForms.{form_by_use, form_of, is_followed, is_front, is_number_form};
 ghost use Rattle.dw_forms.specs.Kinds.{HasFields, as_kind};
 
 use dw_abbrev::is_text_form;
+use dw_base::dwarf_numbers::{
+    DW_FORM_data1, DW_FORM_data2, DW_FORM_data4, DW_FORM_data8, DW_FORM_flag, DW_FORM_ref4,
+    DW_FORM_sec_offset,
+};
 use dw_base::{Params, ValueClass, Width, can_be_offset};
 use dw_forms::FormKind;
 
@@ -56,6 +60,23 @@ pub(crate) fn is_followed(start: bool, form: u64) -> bool
     ensures { result ≡ is_followed start form }
 {
     start || is_text_form(form)
+}
+
+/// A form is one of most values that are numbers, but for addresses.
+#[tactic(auto, unfolding(crate::specs::FieldForms::is_number_form, crate::specs::FieldForms::number_forms))]
+pub(crate) fn is_number_form(form: u64) -> bool
+    ensures { result ≡ is_number_form form }
+{
+    match form {
+        DW_FORM_data1
+        | DW_FORM_flag
+        | DW_FORM_data2
+        | DW_FORM_data4
+        | DW_FORM_ref4
+        | DW_FORM_data8
+        | DW_FORM_sec_offset => true,
+        _ => false,
+    }
 }
 
 /// A form of a kind stands in front of a value.

@@ -2,9 +2,10 @@
 //!
 //! Read first: `specs/UnitFields.antt`, then `specs/FieldForms.antt`.
 
-ghost use Rattle.std.specs.Prelude.{◌≡◌, ◌+◌, ◌<◌, ◌≤◌, ◌^◌, Ok, Some, true, is_some, length, IfSome, IsTrue};
+ghost use Rattle.std.specs.Prelude.{[], ◌∷◌, ◌≡◌, ◌+◌, ◌<◌, ◌≤◌, ◌^◌, Ok, Some, true, is_some, length, IfSome, IsTrue};
 ghost use Rattle.dw_base.specs.FileViews.{kind_at, section_bytes, view_cells};
 ghost use Rattle.dw_base.specs.Forms.{kind_in};
+ghost use Rattle.dw_base.specs.RelocationRows.{field_place, plain_field};
 ghost use Rattle.dw_base.specs.UnitHeaders.{is_address_size};
 ghost use Rattle.dw_base.specs.Values.{value_at, value_size};
 ghost use Rattle.dw_fields.specs.FieldForms.{IsStill, fields_by, form_end, is_front as is_front_kind};
@@ -13,7 +14,7 @@ ghost use Rattle.dw_fields.specs.UnitFields.{fields_of_kind, values_fields};
 ghost use Rattle.dw_fields.specs.UnitPasses.{ValuePassed};
 ghost use Rattle.dw_meaning.specs.PieceRuns.{values_end};
 
-use crate::forms::{FieldForm, field_form, is_followed, is_front};
+use crate::forms::{FieldForm, field_form, is_followed, is_front, is_number_form};
 use crate::marks::{Marks, pass_number, pass_offset, place_before};
 use dw_base::{Params, Refusal, Spec, is_section_offset, uleb_at};
 use dw_entries::plain_len;
@@ -178,7 +179,27 @@ fn still_marks(
     })
 }
 
-/// A pass over the field of a value at a place, by what is read of the value; and where it ends.
+/// How many bytes the value of an attribute takes at a place, where its form is one of most values that are numbers and it holds no offset
+/// into another section. `None` of most others.
+#[tactic(auto, using(crate::proofs::StillLaws::number_rules))]
+fn number_len(params: &Params, bytes: &[u8], start: bool, spec: &Spec, place: u64) -> Option<u64>
+    requires inside { place ≤ length bytes.now }
+    ensures value { IfSome result (λ n. value_size (value_at params.now spec.now bytes.now place) ≡ Some n) }
+    ensures some { IfSome result (λ n. 0 < n) }
+    ensures field { IfSome result (λ n. fields_of_kind (kind_in params.now spec.now.form) params.now bytes.now start place ≡ field_place place n plain_field ∷ []) }
+    ensures within { IfSome result (λ n. place + n ≤ length bytes.now) }
+{
+    if is_followed(start, spec.form) {
+        return None;
+    }
+    if is_number_form(spec.form) {
+        return plain_len(params, bytes, spec, place);
+    }
+    None
+}
+
+/// A pass over the field of a value at a place, by what is read of the value; and where it ends. A number that holds no offset is one field
+/// without more being asked of its form.
 #[inline(never)]
 #[tactic(auto, using(crate::proofs::StillLaws::read_rules))]
 fn pass_read(
@@ -200,6 +221,10 @@ fn pass_read(
     requires small { length (section_bytes view.now section) ≤ 2 ^ 31 }
     ensures passed { ValuePassed (ground_of view.now section) params.now spec.now bytes.now start place result.1 pass result.0 }
 {
+    if let Some(size) = number_len(params, bytes, start, spec, place) {
+        let next = pass_number(view, section, pass, place, size);
+        return (next, place + size);
+    }
     let size = value_len(params, section, bytes, spec, place);
     let next = pass_value(view, section, pass, params, bytes, start, spec, place, size);
     (next, place + size)

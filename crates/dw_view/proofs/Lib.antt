@@ -4,6 +4,7 @@ pub mod NameLaws
 pub mod RepeatLaws
 pub mod FoundLaws
 pub mod ViewLaws
+pub mod SectionKindLaws
 pub mod CountLaws
 pub mod TextNumberLaws
 pub mod StandLaws

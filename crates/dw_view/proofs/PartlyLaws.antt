@@ -1,7 +1,7 @@
 -- Laws of the search for a relocation that lies on a field only in part.
-use Rattle.std.proofs.Common.{◌≡◌, ℕ, zero, suc, ◌+◌, ◌-◌, ◌<◌, ◌≤◌, Bool, true, false, if◌then◌else◌, ◌==◌, ◌&&◌, not, nat_lt, List, length, get_or, Option, Some, None, refl, sym, ap, ◌∙◌, arith, subst, inl, inr}
+use Rattle.std.proofs.Common.{◌≡◌, ◌≢◌, ℕ, zero, suc, ◌+◌, ◌-◌, ◌<◌, ◌≤◌, Bool, true, false, if◌then◌else◌, ◌==◌, ◌&&◌, not, nat_lt, List, length, get_or, Option, Some, None, refl, sym, ap, ◌∙◌, arith, subst, inl, inr}
 use Rattle.std.specs.Prelude.{Contains, slice_index_or, unwrap_or}
-use Rattle.std.proofs.lemmas.Bool.{cases_lt, lt-ltb, le-ltb}
+use Rattle.std.proofs.lemmas.Bool.{cases_lt, eq-eqb, lt-ltb, le-ltb, ne_eqb}
 use Rattle.std.proofs.lemmas.List.{get_or_default}
 use Rattle.std.proofs.lemmas.List.Elements.{Contains-get_or}
 use Rattle.dw_base.specs.AbsoluteTypes.{absolute_size, absolute_types, eight_by, size_in}
@@ -197,11 +197,24 @@ partly-found g list place n i at end t h rising lt at_is end_is below t_is yes_i
 
 pub ruleset partly_rules = (none-first, none-more, partly-past, partly-done, partly-found)
 
-pub over-is : (g : RelocationSource) (list : List PlacedRecord) (i place at reach : ℕ) → at ≡ place_at list i → reach ≡ reach_of (relocation_at_number g list i)
-    → (nat_lt place (at + reach) && not (at == place)) ≡ reaches_over g list i place
-over-is g list i place at reach a r = ap (λ (k : ℕ). nat_lt place (k + reach) && not (k == place)) a ∙ ap (λ (k : ℕ). nat_lt place (place_at list i + k) && not (place_at list i == place)) r
+pub over-own : (g : RelocationSource) (list : List PlacedRecord) (i place at : ℕ) → at ≡ place_at list i → at ≡ place → false ≡ reaches_over g list i place
+over-own g list i place at a same = by_first (nat_lt place (place_at list i + reach_of (relocation_at_number g list i)))
+  where
+    by_first : (t : Bool) → false ≡ (t && not (place_at list i == place))
+    by_first true = sym (ap not (eq-eqb (place_at list i) place (sym a ∙ same)))
+    by_first false = refl
+
+pub over-other : (g : RelocationSource) (list : List PlacedRecord) (i place at reach : ℕ) → at ≡ place_at list i → at ≢ place
+    → reach ≡ reach_of (relocation_at_number g list i) → nat_lt place (at + reach) ≡ reaches_over g list i place
+over-other g list i place at reach a other r =
+    ap (λ (k : ℕ). nat_lt place (k + reach)) a ∙ ap (λ (k : ℕ). nat_lt place (place_at list i + k)) r
+    ∙ by_first (nat_lt place (place_at list i + reach_of (relocation_at_number g list i)))
+  where
+    by_first : (t : Bool) → t ≡ (t && not (place_at list i == place))
+    by_first true = sym (ap not (ne_eqb (place_at list i) place (λ (e : place_at list i ≡ place). other (a ∙ e))))
+    by_first false = refl
 
 pub over-small : (g : RelocationSource) (list : List PlacedRecord) (i reach : ℕ) → reach ≡ reach_of (relocation_at_number g list i) → reach ≤ 8
 over-small g list i reach r = let small = reach-small g (record_of g (index_of list i)) in omega (arith, small, r)
 
-pub ruleset over_rules = (over-is, over-small)
+pub ruleset over_rules = (over-own, over-other, over-small)

@@ -29,6 +29,7 @@ mod firsts;
 mod found;
 mod fronts;
 mod kept;
+mod kinds;
 mod mismatch;
 mod names;
 mod pairing;

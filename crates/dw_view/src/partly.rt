@@ -62,8 +62,11 @@ fn reaches_over(source: &RelocSource, list: &[PlacedRecord], i: usize, place: u6
     ensures over { result ≡ reaches_over source.now list.now i place }
 {
     let at = place_at(list, i);
+    if at == place {
+        return false;
+    }
     let reach = reach_of(source, list, i);
-    place < at + u64::from(reach) && at != place
+    place < at + u64::from(reach)
 }
 
 /// How many bytes the relocation of a number changes.

@@ -14,7 +14,7 @@ ghost use Rattle.dw_base.specs.RelocationSectionFails.{RelocationSectionsRead};
 ghost use Rattle.dw_base.specs.ViewFails.{ViewFails};
 ghost use Rattle.dw_base.specs.ViewOffsets.{offset_read};
 ghost use Rattle.dw_base.specs.declared.fault.Refusal.{Refusal};
-ghost use Rattle.dw_view.specs.Kept.{FieldFits, NumbersAre};
+ghost use Rattle.dw_view.specs.Kept.{FieldFits, KindsAre, NumbersAre};
 ghost use Rattle.dw_view.specs.PairViews.{pair_view};
 ghost use Rattle.dw_view.specs.Pairs.{IsPaired, PairBlames, PairRefused};
 ghost use Rattle.dw_view.specs.Relocations.{FileKeeps, HasNoNext, IsNextPlace, ViewKeeps, relocation_value};
@@ -24,8 +24,9 @@ ghost use Rattle.dw_base.specs.ViewData.{located};
 use crate::fields::{Relocation, address_by, field_by, is_placed};
 use crate::found::{next_filled, numbers_of};
 use crate::kept::{Kept, field_in, moved_in, next_in, relocation_in};
+use crate::kinds::kinds_of;
 use crate::mismatch::PairErr;
-use crate::names::{FRONT_SIZE, kind_fits, names_apart, names_fit};
+use crate::names::{kind_fits, names_apart, names_fit};
 use crate::pairing::is_pair;
 use crate::relocations::relocations_of;
 use crate::repeats::names_once;
@@ -44,6 +45,8 @@ pub struct View<'a> {
     sections: Sections<'a>,
     /// For each section that is read, in the order of the table, the numbers of all that have its name and bytes.
     numbers: Vec<Vec<u32>>,
+    /// For each section, which one that is read it is.
+    kinds: Vec<Option<DebugSection>>,
     /// For each section of a relocatable file what is kept of its relocations. Empty for another file.
     kept: Vec<Option<Kept<'a>>>,
 }
@@ -53,7 +56,7 @@ impl<'a> Model for View<'a> {
 
     ghost view = { λ v. v.sections };
 
-    ghost invariant = { λ v. NumbersAre v.sections (map (λ l. l.items) v.numbers.items) × ViewKeeps v.sections v.kept.items };
+    ghost invariant = { λ v. NumbersAre v.sections (map (λ l. l.items) v.numbers.items) × KindsAre v.sections v.kinds.items × ViewKeeps v.sections v.kept.items };
 }
 
 /// The type of a file, and the names and flags of its sections, are ones that are handled.
@@ -90,9 +93,11 @@ fn viewed<'a>(sections: Sections<'a>, kept: Vec<Option<Kept<'a>>>) -> Result<Vie
     ensures value { IfOk result (λ view. view ≡ sections.entry) }
 {
     let numbers = numbers_of(&sections, &READ_SECTIONS)?;
+    let kinds = kinds_of(&sections)?;
     Ok(View {
         sections,
         numbers,
+        kinds,
         kept,
     })
 }
@@ -218,13 +223,13 @@ impl<'a> View<'a> {
     }
 
     /// Which section that is read the one of a number is, by its name; none exactly where its name is
-    /// that of no such section. A name of any length takes the same time.
-    #[tactic(auto, using(crate::proofs::ViewLaws::kind_laws))]
+    /// that of no such section. Takes the same time in every file.
+    #[tactic(auto, using(crate::proofs::SectionKindLaws::kept_laws))]
     pub fn kind(&self, section: u32) -> Option<DebugSection>
         requires there { section < length self.now.sections }
         ensures kind { result ≡ kind_at self.now section }
     {
-        DebugSection::called(self.sections.name_front(section, FRONT_SIZE))
+        self.kinds[section as usize]
     }
 
     /// The bytes of the section of a number, none where it has none in the file.
