@@ -1,10 +1,11 @@
 -- The names of sources: of cleaned paths those below a base of a prefix map, with the longest such base cut off, in byte order and each
 -- once. This project's profile.
-use Rattle.std.specs.Prelude.{◌≡◌, false, ℕ, nat_eq, nat_lt, if◌then◌else◌, List, [], ◌∷◌, ◌++◌, length, drop, map, Option, Some, None}
+use Rattle.std.specs.Prelude.{◌≡◌, Bool, false, ℕ, nat_eq, nat_lt, if◌then◌else◌, List, [], ◌∷◌, ◌++◌, length, drop, map, Option, Some, None}
 use Rattle.std.specs.Cmp.Lexicographic.{slice_cmp}
 use Rattle.std.specs.Global.{Vec}
 use Rattle.std.specs.List.{AllByRecursion, starts_with}
 use Rattle.std.specs.Ordering.{nat_cmp}
+use Rattle.std.specs.Str.{bytes_eq}
 use Rattle.std.specs.declared.cmp.Ordering.{Ordering}
 use Rattle.std.specs.declared.cmp.Ordering.TheVariants.{Less, Equal, Greater}
 use Rattle.dw_base.specs.Paths.{PathMap, slash}
@@ -51,6 +52,19 @@ placed_by Greater name first others rest = first ∷ rest
 abbrev pub with_name : List (List ℕ) → List ℕ → List (List ℕ)
 with_name [] name = name ∷ []
 with_name (x ∷ xs) name = placed_by (slice_cmp nat_cmp name x) name x xs (with_name xs name)
+
+-- with names, one after another
+abbrev pub with_names : List (List ℕ) → List (List ℕ) → List (List ℕ)
+with_names names [] = names
+with_names names (x ∷ xs) = with_names (with_name names x) xs
+
+-- two vectors have the same bytes
+abbrev pub same_bytes : Vec ℕ → Vec ℕ → Bool
+same_bytes x y = bytes_eq x.items y.items
+
+-- the names of vectors, in byte order and each once
+abbrev pub names_of : List (Vec ℕ) → List (List ℕ)
+names_of keys = with_names [] (map bytes_of keys)
 
 -- with the name that is kept of a path, where one is
 abbrev pub with_kept : List (List ℕ) → Option (List ℕ) → List (List ℕ)

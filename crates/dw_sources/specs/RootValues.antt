@@ -1,6 +1,6 @@
 -- What the first entry of a unit says of its sources (DWARF 5, 3.1.1): its name, the folder in which it was compiled, where its
 -- line table starts, and what texts by index go by (7.5.5 and 7.26). Of an attribute that stands twice the first value counts.
-use Rattle.std.specs.Prelude.{Bool, true, false, ℕ, suc, zero, ◌+◌, ◌==◌, ◌&&◌, ◌||◌, List, [], ◌∷◌, length, Option, Some, None}
+use Rattle.std.specs.Prelude.{Bool, true, false, ℕ, suc, zero, ◌+◌, ◌==◌, ◌&&◌, List, [], ◌∷◌, length, Option, Some, None}
 use Rattle.dw_base.specs.AbbreviationTables.{Abbreviation, abbreviation_of}
 use Rattle.dw_base.specs.Lebs.{uleb_at}
 use Rattle.dw_base.specs.RelocationRows.{can_be_offset}

@@ -22,6 +22,7 @@
 mod fronts;
 mod laws;
 mod listing;
+mod name_set;
 mod names;
 mod offsets;
 mod paths;

@@ -9,7 +9,7 @@ ghost use Rattle.dw_sources.specs.KeptNames.{bytes_of};
 ghost use Rattle.dw_sources.specs.Sources.{AreSources, IsWant, SourcesFail};
 
 use crate::fronts::Fronts;
-use crate::names::{in_order, none_found};
+use crate::names::none_found;
 use crate::tables::tables_by_start;
 use crate::units::add_all;
 use dw_base::Fault;
@@ -47,7 +47,7 @@ fn names_by_tables(
     let tables = tables_by_start(alloc, view, tables)?;
     let mut found = none_found(alloc);
     add_all(alloc, view, &list, &tables, &fronts, &mut found)?;
-    let names = in_order(alloc, found.names)?;
+    let names = found.names.in_order(alloc)?;
     Ok(names)
 }
 

@@ -1,10 +1,11 @@
-//! The names of sources: those below a base of a prefix map, in byte order; and which line tables' files are among them.
+//! The names of sources: those below a base of a prefix map; and which line tables' files are among them.
 
-ghost use Rattle.std.specs.Prelude.{◌≡◌, [], map, option_map, IfOk, OnOk};
+ghost use Rattle.std.specs.Prelude.{◌≡◌, [], option_map, IfOk, OnOk};
 ghost use Rattle.dw_sources.specs.JoinedFiles.{Marks};
-ghost use Rattle.dw_sources.specs.KeptNames.{behind_front, bytes_of, front_len, kept_name, with_kept, with_name};
+ghost use Rattle.dw_sources.specs.KeptNames.{behind_front, bytes_of, front_len, kept_name, with_kept};
 
 use crate::fronts::Fronts;
+use crate::name_set::NameSet;
 use dw_base::NoMemory;
 use dw_paths::clean_path;
 use std::alloc::Global;
@@ -14,18 +15,18 @@ use std::collections::BTreeSet;
 #[derive(Drop)]
 pub(crate) struct FoundNames {
     /// The names.
-    pub names: BTreeSet<Vec<u8>>,
+    pub names: NameSet,
     /// The start of each line table whose files are among them, with the folder that they were joined with.
     pub joined: BTreeSet<(u64, Vec<u8>)>,
 }
 
 /// Nothing yet.
 pub(crate) fn none_found(alloc: Global) -> FoundNames
-    ensures names { result.names.keys ≡ [] }
+    ensures names { result.names ≡ [] }
     ensures joined { result.joined.keys ≡ [] }
 {
     FoundNames {
-        names: BTreeSet::new(alloc),
+        names: NameSet::new(alloc),
         joined: BTreeSet::new(alloc),
     }
 }
@@ -66,38 +67,18 @@ fn kept_name(alloc: Global, fronts: &Fronts, path: &[u8]) -> Result<Option<Vec<u
     }
 }
 
-/// Adds a name.
-#[tactic(auto, using(crate::proofs::NameLaws::name_rules))]
-fn add_name(names: &mut BTreeSet<Vec<u8>>, name: Vec<u8>) -> Result<(), NoMemory>
-    ensures value { OnOk result (map bytes_of names.new.keys ≡ with_name (map bytes_of names.old.keys) name.items) }
-{
-    names.insert(name)?;
-    Ok(())
-}
-
 /// Adds the name that is kept of a path, where one is.
 pub(crate) fn add_path(
     alloc: Global,
     fronts: &Fronts,
     path: &[u8],
-    names: &mut BTreeSet<Vec<u8>>,
+    names: &mut NameSet,
 ) -> Result<(), NoMemory>
-    ensures value { OnOk result (map bytes_of names.new.keys ≡ with_kept (map bytes_of names.old.keys) (kept_name fronts.now path.now)) }
+    ensures value { OnOk result (names.new ≡ with_kept names.old (kept_name fronts.now path.now)) }
 {
     match kept_name(alloc, fronts, path)? {
-        Some(name) => add_name(names, name)?,
+        Some(name) => names.add(name)?,
         None => {}
     }
     Ok(())
-}
-
-/// The names, in byte order.
-pub(crate) fn in_order(alloc: Global, names: BTreeSet<Vec<u8>>) -> Result<Vec<Vec<u8>>, NoMemory>
-    ensures value { IfOk result (λ v. v.items ≡ names.keys) }
-{
-    let mut list = Vec::new(alloc);
-    for name in names {
-        list.push(name)?;
-    }
-    Ok(list)
 }

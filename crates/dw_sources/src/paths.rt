@@ -2,7 +2,7 @@
 //!
 //! Read first: `specs/UnitPaths.antt`.
 
-ghost use Rattle.std.specs.Prelude.{◌≡◌, ◌≤◌, length, map, nat_eq, option_map, OnOk};
+ghost use Rattle.std.specs.Prelude.{◌≡◌, ◌≤◌, length, nat_eq, option_map, OnOk};
 ghost use Rattle.std.specs.HashMap.{get};
 ghost use Rattle.dw_base.specs.DebugData.{line_source};
 ghost use Rattle.dw_base.specs.FileViews.{section_bytes};
@@ -11,11 +11,12 @@ ghost use Rattle.dw_base.specs.ViewData.{debug_data};
 ghost use Rattle.dw_entries.specs.Fronts.{IsOfView};
 ghost use Rattle.dw_entries.specs.ViewUnits.{unit_section_at};
 ghost use Rattle.dw_sources.specs.JoinedFiles.{AreJoined};
-ghost use Rattle.dw_sources.specs.KeptNames.{bytes_of, with_paths};
+ghost use Rattle.dw_sources.specs.KeptNames.{with_paths};
 ghost use Rattle.dw_sources.specs.UnitPaths.{dir_place, dir_text, file_path, files_paths, folder_of, is_made_up, lines_paths, listed, paths_in, root_paths, table_paths, unit_path};
 ghost use Rattle.dw_paths.specs.CleanPaths.{joined_path};
 
 use crate::fronts::Fronts;
+use crate::name_set::NameSet;
 use crate::names::{FoundNames, add_path, mark};
 use crate::offsets::root_offset;
 use crate::roots::Root;
@@ -26,7 +27,7 @@ use dw_offsets::ContributionList;
 use dw_paths::join_path;
 use dw_view::View;
 use std::alloc::Global;
-use std::collections::{BTreeSet, HashMap};
+use std::collections::HashMap;
 
 /// A text that names no file, as `<built-in>`.
 fn is_made_up(text: &[u8]) -> bool
@@ -42,9 +43,9 @@ fn add_named(
     fronts: &Fronts,
     folder: &[u8],
     name: &[u8],
-    names: &mut BTreeSet<Vec<u8>>,
+    names: &mut NameSet,
 ) -> Result<(), NoMemory>
-    ensures value { OnOk result (map bytes_of names.new.keys ≡ with_paths fronts.now (map bytes_of names.old.keys) (listed name.now (joined_path folder.now name.now))) }
+    ensures value { OnOk result (names.new ≡ with_paths fronts.now names.old (listed name.now (joined_path folder.now name.now))) }
 {
     if is_made_up(name) {
         return Ok(());
@@ -60,9 +61,9 @@ fn add_unit_path(
     fronts: &Fronts,
     folder: &[u8],
     name: Option<&[u8]>,
-    names: &mut BTreeSet<Vec<u8>>,
+    names: &mut NameSet,
 ) -> Result<(), NoMemory>
-    ensures value { OnOk result (map bytes_of names.new.keys ≡ with_paths fronts.now (map bytes_of names.old.keys) (unit_path folder.now (option_map (λ t. t.now) name.entry))) }
+    ensures value { OnOk result (names.new ≡ with_paths fronts.now names.old (unit_path folder.now (option_map (λ t. t.now) name.entry))) }
 {
     match name {
         Some(name) => add_named(alloc, fronts, folder, name, names),
@@ -112,9 +113,9 @@ fn add_file(
     folder: &[u8],
     table: &LineTable,
     file: &FilePlace,
-    names: &mut BTreeSet<Vec<u8>>,
+    names: &mut NameSet,
 ) -> Result<(), NoMemory>
-    ensures value { OnOk result (map bytes_of names.new.keys ≡ with_paths fronts.now (map bytes_of names.old.keys) (file_path (line_source (debug_data view.now)) folder.now table.now file.now)) }
+    ensures value { OnOk result (names.new ≡ with_paths fronts.now names.old (file_path (line_source (debug_data view.now)) folder.now table.now file.now)) }
 {
     let Some(dir) = dir_text(view, table, file.dir) else {
         return Ok(());
@@ -133,9 +134,9 @@ fn add_files(
     folder: &[u8],
     table: &LineTable,
     files: &[FilePlace],
-    names: &mut BTreeSet<Vec<u8>>,
+    names: &mut NameSet,
 ) -> Result<(), NoMemory>
-    ensures value { OnOk result (map bytes_of names.new.keys ≡ with_paths fronts.now (map bytes_of names.old.keys) (files_paths (line_source (debug_data view.now)) folder.now table.now files.now)) }
+    ensures value { OnOk result (names.new ≡ with_paths fronts.now names.old (files_paths (line_source (debug_data view.now)) folder.now table.now files.now)) }
 {
     for file in files {
         add_file(alloc, view, fronts, folder, table, file, names)?;
@@ -154,9 +155,9 @@ fn add_lines(
     lines: Option<u64>,
     found: &mut FoundNames,
 ) -> Result<(), NoMemory>
-    requires joined { AreJoined (debug_data view.now) (λ at. get nat_eq tables.now at) fronts.now (map bytes_of found.old.names.keys) found.old.joined.keys }
-    ensures joined { OnOk result (AreJoined (debug_data view.now) (λ at. get nat_eq tables.now at) fronts.now (map bytes_of found.new.names.keys) found.new.joined.keys) }
-    ensures value { OnOk result (map bytes_of found.new.names.keys ≡ with_paths fronts.now (map bytes_of found.old.names.keys) (lines_paths (line_source (debug_data view.now)) (λ at. get nat_eq tables.now at) folder.now lines)) }
+    requires joined { AreJoined (debug_data view.now) (λ at. get nat_eq tables.now at) fronts.now found.old.names found.old.joined.keys }
+    ensures joined { OnOk result (AreJoined (debug_data view.now) (λ at. get nat_eq tables.now at) fronts.now found.new.names found.new.joined.keys) }
+    ensures value { OnOk result (found.new.names ≡ with_paths fronts.now found.old.names (lines_paths (line_source (debug_data view.now)) (λ at. get nat_eq tables.now at) folder.now lines)) }
 {
     let Some(start) = lines else {
         return Ok(());
@@ -200,9 +201,9 @@ fn add_paths(
     lines: Option<u64>,
     found: &mut FoundNames,
 ) -> Result<(), NoMemory>
-    requires joined { AreJoined (debug_data view.now) (λ at. get nat_eq tables.now at) fronts.now (map bytes_of found.old.names.keys) found.old.joined.keys }
-    ensures joined { OnOk result (AreJoined (debug_data view.now) (λ at. get nat_eq tables.now at) fronts.now (map bytes_of found.new.names.keys) found.new.joined.keys) }
-    ensures value { OnOk result (map bytes_of found.new.names.keys ≡ with_paths fronts.now (map bytes_of found.old.names.keys) (paths_in (debug_data view.now) (λ at. get nat_eq tables.now at) folder.now (option_map (λ t. t.now) name.entry) lines)) }
+    requires joined { AreJoined (debug_data view.now) (λ at. get nat_eq tables.now at) fronts.now found.old.names found.old.joined.keys }
+    ensures joined { OnOk result (AreJoined (debug_data view.now) (λ at. get nat_eq tables.now at) fronts.now found.new.names found.new.joined.keys) }
+    ensures value { OnOk result (found.new.names ≡ with_paths fronts.now found.old.names (paths_in (debug_data view.now) (λ at. get nat_eq tables.now at) folder.now (option_map (λ t. t.now) name.entry) lines)) }
 {
     add_unit_path(alloc, fronts, folder, name, &mut found.names)?;
     add_lines(alloc, view, tables, fronts, folder, lines, found)?;
@@ -224,9 +225,9 @@ pub(crate) fn add_root(
 ) -> Result<(), NoMemory>
     requires unit { IsOfView view.now section (unit_section_at view.now section) }
     requires inside { length bytes.now ≤ length (section_bytes view.now section) }
-    requires joined { AreJoined (debug_data view.now) (λ at. get nat_eq tables.now at) fronts.now (map bytes_of found.old.names.keys) found.old.joined.keys }
-    ensures joined { OnOk result (AreJoined (debug_data view.now) (λ at. get nat_eq tables.now at) fronts.now (map bytes_of found.new.names.keys) found.new.joined.keys) }
-    ensures value { OnOk result (map bytes_of found.new.names.keys ≡ with_paths fronts.now (map bytes_of found.old.names.keys) (root_paths (debug_data view.now) list.now (λ at. get nat_eq tables.now at) (unit_section_at view.now section) bytes.now root)) }
+    requires joined { AreJoined (debug_data view.now) (λ at. get nat_eq tables.now at) fronts.now found.old.names found.old.joined.keys }
+    ensures joined { OnOk result (AreJoined (debug_data view.now) (λ at. get nat_eq tables.now at) fronts.now found.new.names found.new.joined.keys) }
+    ensures value { OnOk result (found.new.names ≡ with_paths fronts.now found.old.names (root_paths (debug_data view.now) list.now (λ at. get nat_eq tables.now at) (unit_section_at view.now section) bytes.now root)) }
 {
     let base = root_offset(view, section, bytes, DebugSection::StrOffsets, root.base);
     let lines = root_offset(view, section, bytes, DebugSection::Line, root.lines);

@@ -2,7 +2,7 @@
 //!
 //! Read first: `specs/Sources.antt`.
 
-ghost use Rattle.std.specs.Prelude.{◌≡◌, map, nat_eq, IfErr, OnOk};
+ghost use Rattle.std.specs.Prelude.{◌≡◌, nat_eq, IfErr, OnOk};
 ghost use Rattle.std.specs.HashMap.{get};
 ghost use Rattle.dw_base.specs.AbbreviationTables.{IsTable};
 ghost use Rattle.dw_base.specs.EntryValues.{HasUnit};
@@ -13,7 +13,7 @@ ghost use Rattle.dw_base.specs.declared.debug_sections.DebugSection.TheVariants.
 ghost use Rattle.dw_entries.specs.SectionOrder.{AreSections};
 ghost use Rattle.dw_entries.specs.ViewUnits.{IsUnitSection, unit_section_at};
 ghost use Rattle.dw_sources.specs.JoinedFiles.{AreJoined};
-ghost use Rattle.dw_sources.specs.KeptNames.{bytes_of, with_paths};
+ghost use Rattle.dw_sources.specs.KeptNames.{with_paths};
 ghost use Rattle.dw_sources.specs.Sources.{AddsSection, AddsSections, AreShared, EachTable, HasAbbreviations, SourcesFail, section_paths};
 ghost use Rattle.dw_sources.specs.UnitPaths.{unit_paths};
 
@@ -44,9 +44,9 @@ fn add_unit(
 ) -> Result<(), NoMemory>
     requires unit { HasUnit (debug_data view.now) (unit_section_at view.now unit.now.section) unit.now }
     requires table { IsTable (debug_data view.now).base.abbrevs.bytes unit.now.abbrevs abbrevs.now }
-    requires joined { AreJoined (debug_data view.now) (λ at. get nat_eq tables.now at) fronts.now (map bytes_of found.old.names.keys) found.old.joined.keys }
-    ensures joined { OnOk result (AreJoined (debug_data view.now) (λ at. get nat_eq tables.now at) fronts.now (map bytes_of found.new.names.keys) found.new.joined.keys) }
-    ensures value { OnOk result (map bytes_of found.new.names.keys ≡ with_paths fronts.now (map bytes_of found.old.names.keys) (unit_paths (debug_data view.now) list.now (λ at. get nat_eq tables.now at) (unit_section_at view.now unit.now.section) unit.now)) }
+    requires joined { AreJoined (debug_data view.now) (λ at. get nat_eq tables.now at) fronts.now found.old.names found.old.joined.keys }
+    ensures joined { OnOk result (AreJoined (debug_data view.now) (λ at. get nat_eq tables.now at) fronts.now found.new.names found.new.joined.keys) }
+    ensures value { OnOk result (found.new.names ≡ with_paths fronts.now found.old.names (unit_paths (debug_data view.now) list.now (λ at. get nat_eq tables.now at) (unit_section_at view.now unit.now.section) unit.now)) }
 {
     let bytes = &view.bytes(unit.section)[..unit.end as usize];
     let root = root_at(&unit.params, abbrevs, bytes, unit.first);
@@ -78,10 +78,10 @@ fn one_unit(
 ) -> Result<(), Fault>
     requires unit { HasUnit (debug_data view.now) (unit_section_at view.now unit.now.section) unit.now }
     requires shared { AreShared (debug_data view.now) (λ at. get nat_eq shared.old at) }
-    requires joined { AreJoined (debug_data view.now) (λ at. get nat_eq tables.now at) fronts.now (map bytes_of found.old.names.keys) found.old.joined.keys }
+    requires joined { AreJoined (debug_data view.now) (λ at. get nat_eq tables.now at) fronts.now found.old.names found.old.joined.keys }
     ensures shared { OnOk result (AreShared (debug_data view.now) (λ at. get nat_eq shared.new at)) }
-    ensures joined { OnOk result (AreJoined (debug_data view.now) (λ at. get nat_eq tables.now at) fronts.now (map bytes_of found.new.names.keys) found.new.joined.keys) }
-    ensures value { OnOk result (map bytes_of found.new.names.keys ≡ with_paths fronts.now (map bytes_of found.old.names.keys) (unit_paths (debug_data view.now) list.now (λ at. get nat_eq tables.now at) (unit_section_at view.now unit.now.section) unit.now)) }
+    ensures joined { OnOk result (AreJoined (debug_data view.now) (λ at. get nat_eq tables.now at) fronts.now found.new.names found.new.joined.keys) }
+    ensures value { OnOk result (found.new.names ≡ with_paths fronts.now found.old.names (unit_paths (debug_data view.now) list.now (λ at. get nat_eq tables.now at) (unit_section_at view.now unit.now.section) unit.now)) }
     ensures table { OnOk result (HasAbbreviations (debug_data view.now) unit.now) }
     ensures refused { IfErr result (Blames (SourcesFail (debug_data view.now))) }
 {
@@ -110,10 +110,10 @@ fn add_units(
     requires there { IsUnitSection view.now section }
     requires units { AreUnits (debug_data view.now).base (unit_section_at view.now section) units.now }
     requires shared { AreShared (debug_data view.now) (λ at. get nat_eq shared.old at) }
-    requires joined { AreJoined (debug_data view.now) (λ at. get nat_eq tables.now at) fronts.now (map bytes_of found.old.names.keys) found.old.joined.keys }
+    requires joined { AreJoined (debug_data view.now) (λ at. get nat_eq tables.now at) fronts.now found.old.names found.old.joined.keys }
     ensures shared { OnOk result (AreShared (debug_data view.now) (λ at. get nat_eq shared.new at)) }
-    ensures joined { OnOk result (AreJoined (debug_data view.now) (λ at. get nat_eq tables.now at) fronts.now (map bytes_of found.new.names.keys) found.new.joined.keys) }
-    ensures value { OnOk result (map bytes_of found.new.names.keys ≡ with_paths fronts.now (map bytes_of found.old.names.keys) (section_paths (debug_data view.now) list.now (λ at. get nat_eq tables.now at) (unit_section_at view.now section) units.now)) }
+    ensures joined { OnOk result (AreJoined (debug_data view.now) (λ at. get nat_eq tables.now at) fronts.now found.new.names found.new.joined.keys) }
+    ensures value { OnOk result (found.new.names ≡ with_paths fronts.now found.old.names (section_paths (debug_data view.now) list.now (λ at. get nat_eq tables.now at) (unit_section_at view.now section) units.now)) }
     ensures tables { OnOk result (EachTable (debug_data view.now) units.now) }
     ensures refused { IfErr result (Blames (SourcesFail (debug_data view.now))) }
 {
@@ -137,10 +137,10 @@ fn add_section(
 ) -> Result<(), Fault>
     requires there { IsUnitSection view.now section }
     requires shared { AreShared (debug_data view.now) (λ at. get nat_eq shared.old at) }
-    requires joined { AreJoined (debug_data view.now) (λ at. get nat_eq tables.now at) fronts.now (map bytes_of found.old.names.keys) found.old.joined.keys }
+    requires joined { AreJoined (debug_data view.now) (λ at. get nat_eq tables.now at) fronts.now found.old.names found.old.joined.keys }
     ensures shared { OnOk result (AreShared (debug_data view.now) (λ at. get nat_eq shared.new at)) }
-    ensures joined { OnOk result (AreJoined (debug_data view.now) (λ at. get nat_eq tables.now at) fronts.now (map bytes_of found.new.names.keys) found.new.joined.keys) }
-    ensures value { OnOk result (AddsSection (debug_data view.now) list.now (λ at. get nat_eq tables.now at) fronts.now (unit_section_at view.now section) (map bytes_of found.old.names.keys) (map bytes_of found.new.names.keys)) }
+    ensures joined { OnOk result (AreJoined (debug_data view.now) (λ at. get nat_eq tables.now at) fronts.now found.new.names found.new.joined.keys) }
+    ensures value { OnOk result (AddsSection (debug_data view.now) list.now (λ at. get nat_eq tables.now at) fronts.now (unit_section_at view.now section) found.old.names found.new.names) }
     ensures refused { IfErr result (Blames (SourcesFail (debug_data view.now))) }
 {
     let units = shared_units(alloc, view, section, shared)?;
@@ -169,9 +169,9 @@ fn add_sections(
     found: &mut FoundNames,
 ) -> Result<(), Fault>
     requires sections { AreSections view.now numbers.now }
-    requires joined { AreJoined (debug_data view.now) (λ at. get nat_eq tables.now at) fronts.now (map bytes_of found.old.names.keys) found.old.joined.keys }
-    ensures joined { OnOk result (AreJoined (debug_data view.now) (λ at. get nat_eq tables.now at) fronts.now (map bytes_of found.new.names.keys) found.new.joined.keys) }
-    ensures value { OnOk result (AddsSections (debug_data view.now) list.now (λ at. get nat_eq tables.now at) fronts.now ((debug_data view.now).found Info) (map bytes_of found.old.names.keys) (map bytes_of found.new.names.keys)) }
+    requires joined { AreJoined (debug_data view.now) (λ at. get nat_eq tables.now at) fronts.now found.old.names found.old.joined.keys }
+    ensures joined { OnOk result (AreJoined (debug_data view.now) (λ at. get nat_eq tables.now at) fronts.now found.new.names found.new.joined.keys) }
+    ensures value { OnOk result (AddsSections (debug_data view.now) list.now (λ at. get nat_eq tables.now at) fronts.now ((debug_data view.now).found Info) found.old.names found.new.names) }
     ensures refused { IfErr result (Blames (SourcesFail (debug_data view.now))) }
 {
     let mut shared = HashMap::new(alloc);
@@ -199,9 +199,9 @@ pub(crate) fn add_all(
     fronts: &Fronts,
     found: &mut FoundNames,
 ) -> Result<(), Fault>
-    requires joined { AreJoined (debug_data view.now) (λ at. get nat_eq tables.now at) fronts.now (map bytes_of found.old.names.keys) found.old.joined.keys }
-    ensures joined { OnOk result (AreJoined (debug_data view.now) (λ at. get nat_eq tables.now at) fronts.now (map bytes_of found.new.names.keys) found.new.joined.keys) }
-    ensures value { OnOk result (AddsSections (debug_data view.now) list.now (λ at. get nat_eq tables.now at) fronts.now ((debug_data view.now).found Info) (map bytes_of found.old.names.keys) (map bytes_of found.new.names.keys)) }
+    requires joined { AreJoined (debug_data view.now) (λ at. get nat_eq tables.now at) fronts.now found.old.names found.old.joined.keys }
+    ensures joined { OnOk result (AreJoined (debug_data view.now) (λ at. get nat_eq tables.now at) fronts.now found.new.names found.new.joined.keys) }
+    ensures value { OnOk result (AddsSections (debug_data view.now) list.now (λ at. get nat_eq tables.now at) fronts.now ((debug_data view.now).found Info) found.old.names found.new.names) }
     ensures refused { IfErr result (Blames (SourcesFail (debug_data view.now))) }
 {
     let numbers = unit_sections(alloc, view)?;

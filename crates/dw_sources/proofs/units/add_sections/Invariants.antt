@@ -3,13 +3,12 @@ use Rattle.std.specs.Prelude.{map, nat_eq, take}
 use Rattle.dw_base.specs.ViewData.{debug_data}
 use Rattle.dw_entries.specs.ViewUnits.{unit_section_at}
 use Rattle.dw_sources.specs.JoinedFiles.{AreJoined}
-use Rattle.dw_sources.specs.KeptNames.{bytes_of}
 use Rattle.dw_sources.specs.Sources.{AddsSections, AreShared}
 use Rattle.dw_sources.proofs.units.add_sections.Given as goal
 
 abbrev pub invariant-loop-section : goal.invariant-loop-section
 invariant-loop-section l = record {
-  passed : AddsSections (debug_data l.view) l.list (λ at. get nat_eq l.tables at) l.fronts (map (unit_section_at l.view) (take l.section-index l.numbers)) (map bytes_of l.fn.found.names.keys) (map bytes_of l.found.names.keys);
-  joined : AreJoined (debug_data l.view) (λ at. get nat_eq l.tables at) l.fronts (map bytes_of l.found.names.keys) l.found.joined.keys;
+  passed : AddsSections (debug_data l.view) l.list (λ at. get nat_eq l.tables at) l.fronts (map (unit_section_at l.view) (take l.section-index l.numbers)) l.fn.found.names l.found.names;
+  joined : AreJoined (debug_data l.view) (λ at. get nat_eq l.tables at) l.fronts l.found.names l.found.joined.keys;
   shared : AreShared (debug_data l.view) (λ at. get nat_eq l.shared at);
 }
