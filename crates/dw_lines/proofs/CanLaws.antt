@@ -7,17 +7,18 @@ use Rattle.dw_base.specs.Forms.{width_size}
 use Rattle.dw_base.specs.LinePrograms.{next_opcode, opcode_at, with_file}
 use Rattle.dw_base.specs.LineSources.{LineSource}
 use Rattle.dw_base.specs.LineTables.{LineTable, IsLineTable, table_bytes}
-use Rattle.dw_base.specs.LineWriteFails.{ProgramFails, defined, changes_file, length_limit, wide, WriteFails, wide_table, wide_header, wide_offset, program, DefinedStay, CanWrite}
+use Rattle.dw_base.specs.LineWriteFails.{ProgramFails, defined, changes_file, length_limit, DefinedStay}
 use Rattle.dw_base.specs.Paths.{PathMap}
 use Rattle.dw_base.specs.Refusals.{at}
+use Rattle.dw_base.specs.TextLineChanges.{header_by_texts, rest_by_texts}
+use Rattle.dw_base.specs.TextWriteFails.{CanWriteTexts, TextWriteFails, text_header, text_offset, text_program, text_table, wide_text}
 use Rattle.dw_base.specs.Walks.{Step, goes, ends, Walks, no_step, one_more}
-use Rattle.dw_base.specs.WrittenLines.{written_header, written_rest}
 use Rattle.dw_base.specs.declared.fault.Kind.TheVariants.{DefinedPath}
 use Rattle.dw_base.specs.declared.fault.Refusal.{Refusal}
 use Rattle.dw_base.specs.declared.line_tables.FilePlace.{FilePlace}
 use Rattle.dw_base.specs.declared.line_tables.LineHeader.{LineHeader}
 use Rattle.dw_base.specs.declared.line_tables.Opcode.{Opcode}
-use Rattle.dw_base.specs.declared.line_tables.TextPlace.{TextPlace}
+use Rattle.dw_base.specs.declared.line_tables.LineText.{LineText}
 use Rattle.dw_lines.proofs.DefinedLaws.{over-files}
 
 -- one more file that stays
@@ -77,11 +78,12 @@ table-stays g m start t is none =
     let last : is.program.last.0 ≡ is.defined = over-files g.number is.header (table_bytes g is.header) is.program.last is.defined is.program.over in
     subst (λ (x : LineTable). DefinedStay m (take x.end g.bytes) x.defined) (sym is.is) (subst (DefinedStay m (table_bytes g is.header)) last walked)
 
-pub can-write : (g : LineSource) (m : PathMap) (places : TextPlace → Option ℕ) (t : LineTable) → IsLineTable g t.start t → ((r : Refusal) → WriteFails g m places t r → ⊥) → CanWrite g m places t
+pub can-write : (g : LineSource) (m : PathMap) (places : LineText → Option ℕ) (t : LineTable) → IsLineTable g t.start t → ((r : Refusal) → TextWriteFails g m places t r → ⊥)
+    → CanWriteTexts g m places t
 can-write g m places t is none = record {
-  table = elim (cases_lt (length (written_rest g m places t)) (length_limit t.width)) [ inl lt ↦ lt | inr far ↦ absurd (none _ (wide_table far)) ];
-  header = elim (cases_lt (length (written_header g m places t)) (256 ^ width_size t.width)) [ inl lt ↦ lt | inr far ↦ absurd (none _ (wide_header far)) ];
+  table = elim (cases_lt (length (rest_by_texts g m places t)) (length_limit t.width)) [ inl lt ↦ lt | inr far ↦ absurd (none _ (text_table far)) ];
+  header = elim (cases_lt (length (header_by_texts g m places t)) (256 ^ width_size t.width)) [ inl lt ↦ lt | inr far ↦ absurd (none _ (text_header far)) ];
   offsets = λ x place here other p.
-      elim (cases_lt place (256 ^ width_size t.width)) [ inl lt ↦ lt | inr far ↦ absurd (none _ (wide_offset (wide x place here other p far))) ];
-  defined = table-stays g m t.start t is (λ r f. none r (program is.header is.header_is f));
+      elim (cases_lt place (256 ^ width_size t.width)) [ inl lt ↦ lt | inr far ↦ absurd (none _ (text_offset (wide_text x place here other p far))) ];
+  defined = table-stays g m t.start t is (λ r f. none r (text_program is.header is.header_is f));
 }

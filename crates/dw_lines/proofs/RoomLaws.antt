@@ -1,30 +1,31 @@
 -- The offsets of the texts of a table that was read lie in its section.
 use Rattle.std.proofs.Common.{Bool, true, false, ◌≡◌, ◌≢◌, ℕ, zero, suc, ◌+◌, ◌≤◌, ◌==◌, nat_le, if◌then◌else◌, List, [], ◌∷◌, ◌++◌, length, Option, Some, None, refl, sym, ap, subst, arith}
 use Rattle.std.specs.Prelude.{⊤, Result, Ok, Err, option_and_then, option_map}
+use Rattle.std.proofs.lemmas.Bool.{eq-eqb, ne_eqb}
 use Rattle.std.proofs.lemmas.Bool.Decides.{nat_tests}
 use Rattle.std.proofs.lemmas.List.{length-take, map-append}
 use Rattle.dw_base.specs.Cells.{Located, offset_into}
 use Rattle.dw_base.specs.Forms.{width_size}
 use Rattle.dw_base.specs.Lebs.{uleb_at}
-use Rattle.dw_base.specs.LineEntries.{bad_table, column_at, columns, column_params, counted_entries, entries_at, entries_behind, entry_at, file_of, first_of, inline_column, next_entry, offset_column, result_with, text_column, value_column, with_column}
+use Rattle.dw_base.specs.LineEntries.{bad_table, column_at, column_params, entry_at, inline_column, list_end, offset_column, result_with, text_column, value_column, with_column}
 use Rattle.dw_base.specs.LineFormats.{format_at}
 use Rattle.dw_base.specs.LineSources.{LineSource, line_field}
 use Rattle.dw_base.specs.LineTables.{HasLists, IsLineTable, LineTable, new_lists, old_lists, table_bytes, texts_of}
 use Rattle.dw_base.specs.LineTexts.{file_numbers, inline_text, named_text, text_by, text_if, text_of}
 use Rattle.dw_base.specs.OldLineLists.{dir_step, file_step, next_dir, next_file}
 use Rattle.dw_base.specs.Refusals.{at as refused_at}
+use Rattle.dw_base.specs.TableTexts.{as_paths, column_text, column_texts, entries_texts, entry_texts, list_texts, texts_by, texts_counted, texts_formed, texts_then}
 use Rattle.dw_base.specs.Texts.{ends_in, text_in}
 use Rattle.dw_base.specs.Values.{value_at}
-use Rattle.dw_base.specs.Walks.{ComesTo, Step, Walks, ends, fallible_steps, goes, no_step, one_more, or_refused}
-use Rattle.dw_base.specs.WrittenLines.{paths_of}
+use Rattle.dw_base.specs.Walks.{ComesTo, Step, Walks, ends, goes, no_step, one_more, or_refused}
 use Rattle.dw_base.specs.declared.dwarf_numbers.TheConstants.{DW_FORM_line_strp, DW_FORM_string, DW_FORM_strp}
 use Rattle.dw_base.specs.declared.fault.Kind.TheVariants.{StringOffset}
 use Rattle.dw_base.specs.declared.fault.Refusal.{Refusal}
-use Rattle.dw_base.specs.declared.line_numbers.TheConstants.{DW_LNCT_path}
 use Rattle.dw_base.specs.declared.line_tables.Column.{Column}
 use Rattle.dw_base.specs.declared.line_tables.Entry.{Entry}
 use Rattle.dw_base.specs.declared.line_tables.FilePlace.{FilePlace}
 use Rattle.dw_base.specs.declared.line_tables.LineHeader.{LineHeader}
+use Rattle.dw_base.specs.declared.line_tables.LineText.{LineText}
 use Rattle.dw_base.specs.declared.line_tables.TextPlace.{TextPlace}
 use Rattle.dw_base.specs.declared.shared.Width.{Width}
 use Rattle.dw_base.specs.declared.values.Spec.{Spec}
@@ -45,10 +46,24 @@ each-append : (section : ℕ) (width : Width) (size : ℕ) (xs ys : List TextPla
 each-append section width size [] ys h k = k
 each-append section width size (x ∷ xs) ys h k = (h.0, each-append section width size xs ys h.1 k)
 
-each-all : (section : ℕ) (width : Width) (size large : ℕ) (xs : List TextPlace) → size ≤ large → EachRoom section width size xs → AllHaveRoom section width large xs
+-- so it is with texts
+abbrev EachTextRoom : ℕ → Width → ℕ → List LineText → Type 0
+EachTextRoom section width size [] = ⊤
+EachTextRoom section width size (x ∷ xs) = HasRoom section width size x.place × EachTextRoom section width size xs
+
+texts-append : (section : ℕ) (width : Width) (size : ℕ) (xs ys : List LineText) → EachTextRoom section width size xs → EachTextRoom section width size ys
+    → EachTextRoom section width size (xs ++ ys)
+texts-append section width size [] ys h k = k
+texts-append section width size (x ∷ xs) ys h k = (h.0, texts-append section width size xs ys h.1 k)
+
+paths-room : (section : ℕ) (width : Width) (size : ℕ) (xs : List TextPlace) → EachRoom section width size xs → EachTextRoom section width size (as_paths xs)
+paths-room section width size [] h = tt
+paths-room section width size (x ∷ xs) h = (h.0, paths-room section width size xs h.1)
+
+each-all : (section : ℕ) (width : Width) (size large : ℕ) (xs : List LineText) → size ≤ large → EachTextRoom section width size xs → AllHaveRoom section width large xs
 each-all section width size large [] le h i d lt = absurd (omega (arith, lt))
 each-all section width size large (x ∷ xs) le h zero d lt =
-    record { inside = λ (other : x.section ≢ section). (let room = h.0.inside other in omega (arith, room, le)) }
+    record { inside = λ (other : x.place.section ≢ section). (let room = h.0.inside other in omega (arith, room, le)) }
 each-all section width size large (x ∷ xs) le h (suc i) d lt = each-all section width size large xs le h.1 i d (omega (arith, lt))
 
 -- a text that stands in the section
@@ -138,77 +153,57 @@ column-room g h table spec place c e = by_form (spec.form == DW_FORM_string) (sp
     by_form false false true f = offset-room g h table g.line_str place c f
     by_form false false false f = value-room g h table place c (value_at (column_params g.order h) spec table place) f
 
--- the text of an entry
-first-room : (section : ℕ) (width : Width) (size : ℕ) (o t : Option TextPlace) → AnyRoom section width size o → AnyRoom section width size t → AnyRoom section width size (first_of o t)
-first-room section width size None t a b = b
-first-room section width size (Some x) t a b = a
+-- the texts of the columns of an entry
+column-texts-room : (g : LineSource) (h : LineHeader) (table : List ℕ) (spec : Spec) (e : Entry) (o : Option TextPlace) → AnyRoom g.number h.width (length table) o
+    → EachTextRoom g.number h.width (length table) (column_text spec e o)
+column-texts-room g h table spec e None room = tt
+column-texts-room g h table spec e (Some t) room = (room, tt)
 
-columns-room : (g : LineSource) (h : LineHeader) (table : List ℕ) (specs : List Spec) (e last : Entry) → columns g h table specs e ≡ Ok last
-    → AnyRoom g.number h.width (length table) e.text → AnyRoom g.number h.width (length table) last.text
-columns-room g h table [] e last is room = subst (λ (x : Entry). AnyRoom g.number h.width (length table) x.text) (ok-same is) room
-columns-room g h table (spec ∷ specs) e last is room =
-    by_column (column_at g h table spec e.next) refl is (λ c. columns-room g h table specs (with_column spec e c) last)
+entry-texts-room : (g : LineSource) (h : LineHeader) (table : List ℕ) (specs : List Spec) (e : Entry) → EachTextRoom g.number h.width (length table) (entry_texts g h table specs e)
+entry-texts-room g h table [] e = tt
+entry-texts-room g h table (spec ∷ specs) e =
+    by_column (column_at g h table spec e.next) refl (λ (n : Entry). entry-texts-room g h table specs n)
   where
-    by_name : (b : Bool) (c : Column) → AnyRoom g.number h.width (length table) c.text → AnyRoom g.number h.width (length table) (if b then first_of e.text c.text else e.text)
-    by_name true c own = first-room g.number h.width (length table) e.text c.text room own
-    by_name false c own = room
-
     by_column : (x : Result Column Refusal) → column_at g h table spec e.next ≡ x
-        → or_refused (columns g h table specs) (result_with (with_column spec e) x) ≡ Ok last
-        → ((c : Column) → columns g h table specs (with_column spec e c) ≡ Ok last → AnyRoom g.number h.width (length table) (with_column spec e c).text
-        → AnyRoom g.number h.width (length table) last.text) → AnyRoom g.number h.width (length table) last.text
-    by_column (Err r) at f rest = absurd cc
-    by_column (Ok c) at f rest = rest c f (by_name (spec.name == DW_LNCT_path) c (column-room g h table spec e.next c at))
+        → ((n : Entry) → EachTextRoom g.number h.width (length table) (entry_texts g h table specs n))
+        → EachTextRoom g.number h.width (length table) (column_texts spec e x ++ texts_then (λ n. entry_texts g h table specs n) (result_with (with_column spec e) x))
+    by_column (Err r) at rest = tt
+    by_column (Ok c) at rest =
+        texts-append g.number h.width (length table) (column_text spec e c.text) (entry_texts g h table specs (with_column spec e c))
+        (column-texts-room g h table spec e c.text (column-room g h table spec e.next c at)) (rest (with_column spec e c))
 
-entry-room : (g : LineSource) (h : LineHeader) (table : List ℕ) (specs : List Spec) (place : ℕ) (f : FilePlace × ℕ) → entry_at g h table specs place ≡ Ok f
-    → HasRoom g.number h.width (length table) f.0.text
-unfolding entry_at
-entry-room g h table specs place f e = by_columns (columns g h table specs (record { text = None; dir = None; next = place })) refl e
+-- of entries one after another, and of a list
+entries-texts-room : (g : LineSource) (h : LineHeader) (table : List ℕ) (specs : List Spec) (n place : ℕ)
+    → EachTextRoom g.number h.width (length table) (entries_texts g h table specs n place)
+entries-texts-room g h table specs zero place = tt
+entries-texts-room g h table specs (suc n) place =
+    texts-append g.number h.width (length table) (entry_texts g h table specs (record { text = None; dir = None; next = place }))
+    (texts_then (λ f. entries_texts g h table specs n f.1) (entry_at g h table specs place))
+    (entry-texts-room g h table specs (record { text = None; dir = None; next = place }))
+    (by_entry (entry_at g h table specs place) (λ (p : ℕ). entries-texts-room g h table specs n p))
   where
-    by_text : (last : Entry) (o : Option TextPlace) → AnyRoom g.number h.width (length table) o → file_of g.number h last o ≡ Ok f → HasRoom g.number h.width (length table) f.0.text
-    by_text last None room is = absurd cc
-    by_text last (Some t) room is = subst (λ (x : FilePlace × ℕ). HasRoom g.number h.width (length table) x.0.text) (ok-same is) room
+    by_entry : (x : Result (FilePlace × ℕ) Refusal) → ((p : ℕ) → EachTextRoom g.number h.width (length table) (entries_texts g h table specs n p))
+        → EachTextRoom g.number h.width (length table) (texts_then (λ f. entries_texts g h table specs n f.1) x)
+    by_entry (Err r) rest = tt
+    by_entry (Ok f) rest = rest f.1
 
-    by_columns : (x : Result Entry Refusal) → columns g h table specs (record { text = None; dir = None; next = place }) ≡ x
-        → or_refused (λ e. file_of g.number h e e.text) x ≡ Ok f → HasRoom g.number h.width (length table) f.0.text
-    by_columns (Err r) at is = absurd cc
-    by_columns (Ok last) at is = by_text last last.text (columns-room g h table specs (record { text = None; dir = None; next = place }) last at tt) is
+list-texts-room : (g : LineSource) (h : LineHeader) (table : List ℕ) (place : ℕ) → EachTextRoom g.number h.width (length table) (list_texts g h table place)
+list-texts-room g h table place = by_format (format_at table place)
+  where
+    by_count : (specs : List Spec) (behind : ℕ) (x : Option (ℕ × ℕ)) → EachTextRoom g.number h.width (length table) (texts_counted g h table specs behind x)
+    by_count specs behind None = tt
+    by_count specs behind (Some n) = entries-texts-room g h table specs n.0 (behind + n.1)
 
--- entries one after another
+    by_format : (x : Option (List Spec × ℕ)) → EachTextRoom g.number h.width (length table) (texts_formed g h table x)
+    by_format None = tt
+    by_format (Some f) = by_count f.0 f.1 (uleb_at table f.1)
+
+-- the lists before version 5, whose texts stand in the section
 one-more-room : (section : ℕ) (width : Width) (size : ℕ) (files : List FilePlace) (f : FilePlace) → EachRoom section width size (texts_of files) → HasRoom section width size f.text
     → EachRoom section width size (texts_of (files ++ f ∷ []))
 one-more-room section width size files f h room =
     subst (EachRoom section width size) (sym (map-append (λ (x : FilePlace). x.text) files (f ∷ []))) (each-append section width size (texts_of files) (f.text ∷ []) h (room, tt))
 
-steps-room : (g : LineSource) (h : LineHeader) (table : List ℕ) (specs : List Spec) (n : ℕ) (s last : List FilePlace × ℕ) → fallible_steps (next_entry g h table specs) n s ≡ Ok last
-    → EachRoom g.number h.width (length table) (texts_of s.0) → EachRoom g.number h.width (length table) (texts_of last.0)
-steps-room g h table specs zero s last is room = subst (λ (x : List FilePlace × ℕ). EachRoom g.number h.width (length table) (texts_of x.0)) (ok-same is) room
-steps-room g h table specs (suc n) s last is room =
-    by_entry (entry_at g h table specs s.1) refl is (λ t. steps-room g h table specs n t last)
-  where
-    by_entry : (x : Result (FilePlace × ℕ) Refusal) → entry_at g h table specs s.1 ≡ x
-        → or_refused (fallible_steps (next_entry g h table specs) n) (result_with (λ f. (s.0 ++ f.0 ∷ [], f.1)) x) ≡ Ok last
-        → ((t : List FilePlace × ℕ) → fallible_steps (next_entry g h table specs) n t ≡ Ok last → EachRoom g.number h.width (length table) (texts_of t.0)
-        → EachRoom g.number h.width (length table) (texts_of last.0)) → EachRoom g.number h.width (length table) (texts_of last.0)
-    by_entry (Err r) at f rest = absurd cc
-    by_entry (Ok x) at f rest =
-        rest (s.0 ++ x.0 ∷ [], x.1) f (one-more-room g.number h.width (length table) s.0 x.0 room (entry-room g h table specs s.1 x at))
-
-entries-room : (g : LineSource) (h : LineHeader) (table : List ℕ) (place : ℕ) (last : List FilePlace × ℕ) → entries_at g h table place ≡ Ok last
-    → EachRoom g.number h.width (length table) (texts_of last.0)
-unfolding entries_at
-entries-room g h table place last e = by_format (format_at table place) e
-  where
-    by_count : (specs : List Spec) (behind : ℕ) (x : Option (ℕ × ℕ)) → counted_entries g h table specs behind x ≡ Ok last
-        → EachRoom g.number h.width (length table) (texts_of last.0)
-    by_count specs behind None f = absurd cc
-    by_count specs behind (Some count) f = steps-room g h table specs count.0 ([], behind + count.1) last f tt
-
-    by_format : (x : Option (List Spec × ℕ)) → entries_behind g h table x ≡ Ok last → EachRoom g.number h.width (length table) (texts_of last.0)
-    by_format None f = absurd cc
-    by_format (Some x) f = by_count x.0 x.1 (uleb_at table x.1) f
-
--- the lists before version 5, whose texts stand in the section
 walk-keeps : {S X : Type 0} (step : S → Option (Step S X)) (P : S → Type 0) → ((s t : S) → step s ≡ Some (goes t) → P s → P t) → (s t : S) → Walks step s t → P s → P t
 walk-keeps step P keeps s t no_step p = p
 walk-keeps step P keeps s t (one_more a b w e) p = keeps a b e (walk-keeps step P keeps s a w p)
@@ -305,18 +300,24 @@ files-room section table width size place x w =
     by_last None e room = absurd cc
     by_last (Some text) e room = end_len w.last text (text.len == 0) e room
 
--- all paths of a table
+-- all texts of a table
 lists-room : (g : LineSource) (h : LineHeader) (table : List ℕ) (dirs : List TextPlace) (files : List FilePlace) (behind : ℕ) → HasLists g h table dirs files behind
-    → EachRoom g.number h.width (length table) (dirs ++ texts_of files)
+    → EachTextRoom g.number h.width (length table) (texts_by g h table (dirs ++ texts_of files))
 lists-room g h table dirs files behind (old_lists ds fs place e other d f) =
-    each-append g.number h.width (length table) dirs (texts_of files) (dirs-room g.number table h.width (length table) h.lists (dirs, place) d)
-    (files-room g.number table h.width (length table) place (files, behind) f)
+    subst (λ (b : Bool). EachTextRoom g.number h.width (length table)
+    (if b then list_texts g h table h.lists ++ list_texts g h table (list_end g h table h.lists) else as_paths (dirs ++ texts_of files))) (sym (ne_eqb h.version 5 other))
+    (paths-room g.number h.width (length table) (dirs ++ texts_of files)
+    (each-append g.number h.width (length table) dirs (texts_of files) (dirs-room g.number table h.width (length table) h.lists (dirs, place) d)
+    (files-room g.number table h.width (length table) place (files, behind) f)))
 lists-room g h table dirs files behind (new_lists ds fs place e five d f) =
-    each-append g.number h.width (length table) (texts_of ds) (texts_of files) (entries-room g h table h.lists (ds, place) d) (entries-room g h table place (files, behind) f)
+    subst (λ (b : Bool). EachTextRoom g.number h.width (length table)
+    (if b then list_texts g h table h.lists ++ list_texts g h table (list_end g h table h.lists) else as_paths (texts_of ds ++ texts_of files))) (sym (eq-eqb h.version 5 five))
+    (texts-append g.number h.width (length table) (list_texts g h table h.lists) (list_texts g h table (list_end g h table h.lists))
+    (list-texts-room g h table h.lists) (list-texts-room g h table (list_end g h table h.lists)))
 
-pub table-room : (g : LineSource) (start : ℕ) (t : LineTable) → IsLineTable g start t → AllHaveRoom g.number t.width (length g.bytes) (paths_of t)
+pub table-room : (g : LineSource) (start : ℕ) (t : LineTable) → IsLineTable g start t → AllHaveRoom g.number t.width (length g.bytes) t.texts
 table-room g start t is =
     let size = length-take is.header.end g.bytes in
-    subst (λ (x : LineTable). AllHaveRoom g.number x.width (length g.bytes) (paths_of x)) (sym is.is)
-    (each-all g.number is.header.width (length (table_bytes g is.header)) (length g.bytes) (is.dirs ++ texts_of is.files) (omega (arith, size))
+    subst (λ (x : LineTable). AllHaveRoom g.number x.width (length g.bytes) x.texts) (sym is.is)
+    (each-all g.number is.header.width (length (table_bytes g is.header)) (length g.bytes) (texts_by g is.header (table_bytes g is.header) (is.dirs ++ texts_of is.files)) (omega (arith, size))
     (lists-room g is.header (table_bytes g is.header) is.dirs is.files is.behind is.lists))

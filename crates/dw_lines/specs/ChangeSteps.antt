@@ -2,6 +2,7 @@
 use Rattle.std.specs.Prelude.{Bool, true, ◌≡◌, ℕ, ◌+◌, ◌^◌, ◌==◌, nat_lt, if◌then◌else◌, List, [], ◌∷◌, ◌++◌, length, All, Option, Some, None}
 use Rattle.dw_base.specs.Forms.{width_size}
 use Rattle.dw_base.specs.declared.shared.Width.{Width}
+use Rattle.dw_base.specs.declared.line_tables.LineText.{LineText}
 use Rattle.dw_base.specs.declared.line_tables.TextPlace.{TextPlace}
 use Rattle.dw_base.specs.WrittenLines.{Change, part}
 
@@ -17,9 +18,10 @@ abbrev pub fits_width : Width → Option ℕ → Bool
 fits_width width None = true
 fits_width width (Some place) = nat_lt place (256 ^ width_size width)
 
--- the path stands in the section of a number, or its new offset fits its field
+-- the text stands in the section of a number, or its new offset fits its field
 abbrev pub offset_fits : ℕ → Width → Option ℕ → TextPlace → Bool
 offset_fits section width place x = if x.section == section then true else fits_width width place
 
-abbrev pub OffsetsFit : ℕ → Width → (TextPlace → Option ℕ) → List TextPlace → Type 0
-OffsetsFit section width places xs = All (λ x. offset_fits section width (places x) x ≡ true) xs
+-- so it is with each text
+abbrev pub OffsetsFit : ℕ → Width → (LineText → Option ℕ) → List LineText → Type 0
+OffsetsFit section width places xs = All (λ x. offset_fits section width (places x) x.place ≡ true) xs

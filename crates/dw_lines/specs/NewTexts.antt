@@ -1,8 +1,11 @@
 -- The new places of texts, by the section of debug data that they are in and their old places (DWARF 5, 7.5.5, class string, and 6.2.4).
-use Rattle.std.specs.Prelude.{ℕ, [], List, Option, nat_eq}
+use Rattle.std.specs.Prelude.{ℕ, [], List, Option, None, nat_eq, if◌then◌else◌}
 use Rattle.std.specs.Map.{lookup}
+use Rattle.dw_base.specs.LineSources.{LineSource}
+use Rattle.dw_base.specs.WrittenLines.{new_place}
 use Rattle.dw_base.specs.declared.debug_sections.DebugSection.{DebugSection}
 use Rattle.dw_base.specs.declared.debug_sections.DebugSection.TheVariants.{LineStr, Str}
+use Rattle.dw_base.specs.declared.line_tables.LineText.{LineText}
 
 -- old places with new ones, of the texts in each table of texts
 pub record KnownTexts : Type 0 where
@@ -18,3 +21,7 @@ places_in p s = []
 -- the new place of the text at an old place of a section, where one is known
 abbrev pub texts_known : KnownTexts → DebugSection → ℕ → Option ℕ
 texts_known p s = λ o. lookup (nat_eq o) (places_in p s)
+
+-- that of a text of a line table, by those of both tables of texts: none of one that isn't a path
+abbrev pub text_known : LineSource → (ℕ → Option ℕ) → (ℕ → Option ℕ) → LineText → Option ℕ
+text_known g str line_str x = if x.path then new_place g str line_str x.place else None

@@ -4,11 +4,12 @@ use Rattle.std.specs.Prelude.{ℕ, zero, suc, ◌+◌, ◌-◌, ◌≤◌, List,
 use Rattle.dw_base.specs.LineSources.{LineSource}
 use Rattle.dw_base.specs.LineTables.{LineTable}
 use Rattle.dw_base.specs.Paths.{PathMap}
-use Rattle.dw_base.specs.WrittenLines.{behind_lengths, header_length_place, length_size, paths_of}
+use Rattle.dw_base.specs.WrittenLines.{behind_lengths, header_length_place, length_size}
 use Rattle.dw_base.specs.declared.line_tables.LineHeader.{LineHeader}
-use Rattle.dw_base.specs.declared.line_tables.TextPlace.{TextPlace}
+use Rattle.dw_base.specs.declared.line_tables.LineText.{LineText}
 use Rattle.dw_lines.specs.declared.moves.NewFieldOffset.{NewFieldOffset}
-use Rattle.dw_meaning.specs.LineStretches.{PlacedStretch, Stretch, all_path_stretches, kept_stretch, offset_stretch, other_stretch, stretch_size}
+use Rattle.dw_meaning.specs.LineStretches.{PlacedStretch, Stretch, kept_stretch, offset_stretch, other_stretch, stretch_size}
+use Rattle.dw_meaning.specs.TextLineCells.{texts_stretches}
 use Rattle.elf_relocs.specs.declared.runs.Run.{Run}
 
 -- the run of so many bytes at a place, which come to stand at another
@@ -53,9 +54,9 @@ abbrev pub InOrder : ℕ → ℕ → List PlacedStretch → Type 0
 InOrder from end [] = from ≤ end
 InOrder from end (c ∷ cs) = (from ≤ c.at) × InOrder (c.at + stretch_size c.stretch) end cs
 
--- so do the paths of a table
-abbrev pub PathsInOrder : LineSource → PathMap → (TextPlace → Option ℕ) → LineTable → Type 0
-PathsInOrder g m places t = InOrder (behind_lengths t.start t.width t.version) t.program (all_path_stretches g m places t.width (paths_of t))
+-- so do the texts of a table
+abbrev pub TextsInOrder : LineSource → PathMap → (LineText → Option ℕ) → LineTable → Type 0
+TextsInOrder g m places t = InOrder (behind_lengths t.start t.width t.version) t.program (texts_stretches g m places t.width t.texts)
 
 -- behind a stretch at a place, what stands before it being kept: where the next bytes stand, and where they come to stand
 abbrev pub behind_placed : Run → PlacedStretch → Run
@@ -89,7 +90,7 @@ header_start h new = record {
 abbrev pub last_runs : LineHeader → Run → List Run
 last_runs h s = kept_run s.old s.new (h.program - s.old) ++ kept_run h.program (s.new + (h.program - s.old)) (h.end - h.program)
 
--- and all: what stands between the lengths, the paths with what stands before each, and the rest
+-- and all: what stands between the lengths, the texts with what stands before each, and the rest
 abbrev pub header_runs : LineHeader → ℕ → List PlacedStretch → List Run
 header_runs h new cs =
     kept_run (h.start + length_size h.width) (new + length_size h.width) (header_length_place h.start h.width h.version - (h.start + length_size h.width))

@@ -2,24 +2,25 @@
 //!
 //! Read first: `WrittenLines` in `dw_base/specs`, then `specs/ChangeSteps.antt`.
 
-ghost use Rattle.std.specs.Prelude.{◌≡◌, ◌+◌, ◌≤◌, ◌<◌, ◌^◌, ◌==◌, ◌++◌, if◌then◌else◌, length, IfOk, IfErr, OnOk};
+ghost use Rattle.std.specs.Prelude.{◌≡◌, ◌+◌, ◌≤◌, ◌<◌, ◌^◌, ◌==◌, ◌++◌, if◌then◌else◌, length, None, IfOk, IfErr, OnOk};
 ghost use Rattle.dw_base.specs.Cells.{bytes_of, cells_at};
 ghost use Rattle.dw_base.specs.FileViews.{section_bytes, view_cells};
 ghost use Rattle.dw_base.specs.Forms.{width_size};
 ghost use Rattle.dw_base.specs.NewOffsets.{with_offset};
 ghost use Rattle.dw_base.specs.ViewData.{located};
 ghost use Rattle.dw_base.specs.declared.debug_sections.DebugSection.TheVariants.{LineStr, Str};
-ghost use Rattle.dw_lines.specs.NewTexts.{texts_known};
+ghost use Rattle.dw_lines.specs.NewTexts.{text_known, texts_known};
 ghost use Rattle.dw_lines.specs.ViewSources.{view_source};
 ghost use Rattle.dw_lines.specs.OffsetRooms.{AllHaveRoom, HasRoom};
 ghost use Rattle.dw_lines.specs.ChangeSteps.{after_changes, fits_width, offset_fits, OffsetsFit};
-ghost use Rattle.dw_base.specs.LineWriteFails.{WideOffset};
-ghost use Rattle.dw_base.specs.WrittenLines.{all_changes, bytes_at, new_place, part, path_changes};
+ghost use Rattle.dw_base.specs.TextLineChanges.{text_changes, texts_changes};
+ghost use Rattle.dw_base.specs.TextWriteFails.{WideText};
+ghost use Rattle.dw_base.specs.WrittenLines.{bytes_at, part};
 ghost use Rattle.dw_base.specs.LineTables.{texts_of};
 
 use crate::new_texts::NewTexts;
 use crate::parts::{bytes_at, part, push_number};
-use dw_base::{DebugSection, FilePlace, Kind, NoMemory, Refusal, TextPlace, Width};
+use dw_base::{DebugSection, FilePlace, Kind, LineText, NoMemory, Refusal, TextPlace, Width};
 use dw_paths::{Maps, map_path};
 use dw_view::View;
 use std::alloc::{AllocError, Global};
@@ -50,14 +51,18 @@ fn str_section(view: &View) -> u32
     }
 }
 
-/// The new place of a text, of those that are known in `.debug_str` and in `.debug_line_str`.
-pub(crate) fn new_place(view: &View, texts: &NewTexts, path: &TextPlace) -> Option<u64>
-    ensures place { result ≡ (if path.now.section == (located view.now Str).number then texts_known texts.now Str path.now.at else texts_known texts.now LineStr path.now.at) }
+/// The new place of a text, of those that are known in `.debug_str` and in `.debug_line_str`. `None` for one that isn't
+/// a path, which has none yet.
+pub(crate) fn new_place(view: &View, texts: &NewTexts, text: &LineText) -> Option<u64>
+    ensures place { result ≡ (if text.now.path then (if text.now.place.section == (located view.now Str).number then texts_known texts.now Str text.now.place.at else texts_known texts.now LineStr text.now.place.at) else None) }
 {
-    if path.section == str_section(view) {
-        return texts.get(DebugSection::Str, path.at);
+    if !text.path {
+        return None;
     }
-    texts.get(DebugSection::LineStr, path.at)
+    if text.place.section == str_section(view) {
+        return texts.get(DebugSection::Str, text.place.at);
+    }
+    texts.get(DebugSection::LineStr, text.place.at)
 }
 
 /// A new offset, where there is one, fits its field.
@@ -73,11 +78,11 @@ fn fits_width(width: Width, place: Option<u64>) -> bool
     }
 }
 
-/// A path stands in the section of a number, or its new offset fits its field.
-fn offset_fits(section: u32, width: Width, place: Option<u64>, path: &TextPlace) -> bool
-    ensures fits { result ≡ offset_fits section width place path.now }
+/// A text stands in the section of a number, or its new offset fits its field.
+fn offset_fits(section: u32, width: Width, place: Option<u64>, text: &TextPlace) -> bool
+    ensures fits { result ≡ offset_fits section width place text.now }
 {
-    if path.section == section {
+    if text.section == section {
         return true;
     }
     fits_width(width, place)
@@ -90,15 +95,15 @@ pub(crate) fn check_offsets(
     texts: &NewTexts,
     section: u32,
     width: Width,
-    paths: &[TextPlace],
+    all: &[LineText],
 ) -> Result<(), Refusal>
-    ensures fit { OnOk result (OffsetsFit section width (new_place (view_source view.now section) (texts_known texts.now Str) (texts_known texts.now LineStr)) paths.now) }
-    ensures refused { IfErr result (WideOffset section width (new_place (view_source view.now section) (texts_known texts.now Str) (texts_known texts.now LineStr)) paths.now) }
+    ensures fit { OnOk result (OffsetsFit section width (text_known (view_source view.now section) (texts_known texts.now Str) (texts_known texts.now LineStr)) all.now) }
+    ensures refused { IfErr result (WideText section width (text_known (view_source view.now section) (texts_known texts.now Str) (texts_known texts.now LineStr)) all.now) }
 {
-    for path in paths {
-        let place = new_place(view, texts, path);
-        if !offset_fits(section, width, place, path) {
-            return Err(Refusal::at(Kind::TooWide, section, path.field));
+    for text in all {
+        let place = new_place(view, texts, text);
+        if !offset_fits(section, width, place, &text.place) {
+            return Err(Refusal::at(Kind::TooWide, section, text.place.field));
         }
     }
     Ok(())
@@ -151,58 +156,70 @@ fn behind(bytes: &[u8], at: u64, n: u64) -> u64
     at + bytes_at(bytes, at, n).len() as u64
 }
 
-/// Appends the bytes from a place up to a path, and what becomes of the path; answers the place behind it.
+/// Appends the bytes from a place up to a text, and what becomes of the text; answers the place behind it.
 #[tactic(auto, using(crate::proofs::ChangeLaws::put_laws))]
-fn put_path(
+fn put_text(
     alloc: Global,
     view: &View,
     maps: &Maps,
     texts: &NewTexts,
     section: u32,
     width: Width,
-    path: &TextPlace,
+    text: &LineText,
     from: u64,
     out: &mut Vec<u8>,
 ) -> Result<u64, NoMemory>
     requires there { section < length view.now.sections }
-    requires room { HasRoom section width (length (section_bytes view.now section)) path.now }
-    ensures put { IfOk result (λ next. (out.new.items, next) ≡ after_changes (section_bytes view.now section) (out.old.items, from) (path_changes (view_source view.now section) maps.now (new_place (view_source view.now section) (texts_known texts.now Str) (texts_known texts.now LineStr)) width path.now)) }
+    requires room { HasRoom section width (length (section_bytes view.now section)) text.now.place }
+    ensures put { IfOk result (λ next. (out.new.items, next) ≡ after_changes (section_bytes view.now section) (out.old.items, from) (text_changes (view_source view.now section) maps.now (text_known (view_source view.now section) (texts_known texts.now Str) (texts_known texts.now LineStr)) width text.now)) }
 {
     let bytes = view.bytes(section);
-    if path.section == section {
-        let old = bytes_at(bytes, path.at, path.len);
+    if text.place.section == section {
+        if !text.path {
+            return Ok(from);
+        }
+        let old = bytes_at(bytes, text.place.at, text.place.len);
         let mapped = map_path(alloc, maps, old)?;
-        push_change(out, bytes, from, path.at, &mapped)?;
-        return Ok(behind(bytes, path.at, path.len));
+        push_change(out, bytes, from, text.place.at, &mapped)?;
+        return Ok(behind(bytes, text.place.at, text.place.len));
     }
-    let Some(place) = new_place(view, texts, path) else {
+    let Some(place) = new_place(view, texts, text) else {
         return Ok(from);
     };
-    push_offset(view, out, section, bytes, from, path.field, width, place)?;
-    Ok(behind(bytes, path.field, u64::from(width.offset_size())))
+    push_offset(
+        view,
+        out,
+        section,
+        bytes,
+        from,
+        text.place.field,
+        width,
+        place,
+    )?;
+    Ok(behind(bytes, text.place.field, u64::from(width.offset_size())))
 }
 
-/// Appends the bytes from a place up to the last of these paths, with what becomes of each; answers the place
+/// Appends the bytes from a place up to the last of these texts, with what becomes of each; answers the place
 /// behind them.
 #[tactic(auto, using(crate::proofs::ChangeLaws::put_all_laws))]
-pub(crate) fn put_paths(
+pub(crate) fn put_texts(
     alloc: Global,
     view: &View,
     maps: &Maps,
     texts: &NewTexts,
     section: u32,
     width: Width,
-    paths: &[TextPlace],
+    all: &[LineText],
     from: u64,
     out: &mut Vec<u8>,
 ) -> Result<u64, NoMemory>
     requires there { section < length view.now.sections }
-    requires rooms { AllHaveRoom section width (length (section_bytes view.now section)) paths.now }
-    ensures put { IfOk result (λ next. (out.new.items, next) ≡ after_changes (section_bytes view.now section) (out.old.items, from) (all_changes (view_source view.now section) maps.now (new_place (view_source view.now section) (texts_known texts.now Str) (texts_known texts.now LineStr)) width paths.now)) }
+    requires rooms { AllHaveRoom section width (length (section_bytes view.now section)) all.now }
+    ensures put { IfOk result (λ next. (out.new.items, next) ≡ after_changes (section_bytes view.now section) (out.old.items, from) (texts_changes (view_source view.now section) maps.now (text_known (view_source view.now section) (texts_known texts.now Str) (texts_known texts.now LineStr)) width all.now)) }
 {
     let mut place = from;
-    for path in paths {
-        place = put_path(alloc, view, maps, texts, section, width, path, place, out)?;
+    for text in all {
+        place = put_text(alloc, view, maps, texts, section, width, text, place, out)?;
     }
     Ok(place)
 }

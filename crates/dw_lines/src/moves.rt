@@ -2,29 +2,29 @@
 //! records of its section's relocations are moved by (gABI ch. 4 "Relocation").
 //!
 //! This file promises: runs and offsets are those of the stretches of which the new table is made, in their order. The cost grows
-//! with the number of paths.
-//! Read first: `LineStretches` in `dw_meaning/specs`, then `specs/TableMoves.antt`.
+//! with the number of texts.
+//! Read first: `LineStretches` and `TextLineCells` in `dw_meaning/specs`, then `specs/TableMoves.antt`.
 
 ghost use Rattle.std.specs.Prelude.{◌≡◌, ◌+◌, ◌-◌, ◌≤◌, ◌<◌, ◌^◌, ◌++◌, ◌∷◌, [], length, IfOk, OnOk};
 ghost use Rattle.dw_base.specs.Forms.{width_size};
 ghost use Rattle.dw_base.specs.LineTables.{IsLineTable};
-ghost use Rattle.dw_base.specs.WrittenLines.{behind_lengths, new_place};
+ghost use Rattle.dw_base.specs.WrittenLines.{behind_lengths};
 ghost use Rattle.dw_base.specs.declared.debug_sections.DebugSection.TheVariants.{LineStr, Str};
-ghost use Rattle.dw_lines.specs.TableMoves.{InOrder, PathsInOrder, header_runs, header_start, kept_run, last_runs, new_end, offsets_from, passed, passed_runs, placed_offsets, runs_from};
-ghost use Rattle.dw_lines.specs.NewTexts.{texts_known};
+ghost use Rattle.dw_lines.specs.TableMoves.{InOrder, TextsInOrder, header_runs, header_start, kept_run, last_runs, new_end, offsets_from, passed, passed_runs, placed_offsets, runs_from};
+ghost use Rattle.dw_lines.specs.NewTexts.{text_known, texts_known};
 ghost use Rattle.dw_lines.specs.ViewSources.{view_source};
-ghost use Rattle.dw_meaning.specs.LineStretches.{all_path_stretches, path_stretches, table_stretches};
+ghost use Rattle.dw_meaning.specs.TextLineCells.{table_stretches_by_texts, text_stretches, texts_stretches};
 
-use crate::changes::{new_place, paths_of};
+use crate::changes::new_place;
 use crate::new_texts::NewTexts;
 use crate::parts::bytes_at;
 use crate::table::LineTable;
 use crate::written::{header_length_place, header_of};
-use dw_base::{LineHeader, TextPlace, Width};
+use dw_base::{LineHeader, LineText, Width};
 use dw_paths::{Maps, map_len};
 use dw_view::View;
 use elf_relocs::Run;
-use std::alloc::{AllocError, Global};
+use std::alloc::AllocError;
 
 /// A field of a section, and the offset that it is to say.
 #[derive(Clone, Copy, Debug, PartialEq, Eq, Drop)]
@@ -101,61 +101,64 @@ fn pass_offset(
     })
 }
 
-/// Passes the bytes up to a path, and what becomes of the path; answers the run that begins behind it.
-#[tactic(auto, using(crate::proofs::PathMoveLaws::path_laws))]
-fn pass_path(
+/// Passes the bytes up to a text, and what becomes of the text; answers the run that begins behind it.
+#[tactic(auto, using(crate::proofs::PathMoveLaws::text_laws))]
+fn pass_text(
     view: &View,
     maps: &Maps,
     texts: &NewTexts,
     section: u32,
     width: Width,
-    path: &TextPlace,
+    text: &LineText,
     at: Run,
     runs: &mut Vec<Run>,
     offsets: &mut Vec<NewFieldOffset>,
 ) -> Result<Run, AllocError>
     requires there { section < length view.now.sections }
-    requires order { InOrder at.old (2 ^ 31) (path_stretches (view_source view.now section) maps.now (new_place (view_source view.now section) (texts_known texts.now Str) (texts_known texts.now LineStr)) width path.now) }
-    requires fits { (passed at (path_stretches (view_source view.now section) maps.now (new_place (view_source view.now section) (texts_known texts.now Str) (texts_known texts.now LineStr)) width path.now)).new < 2 ^ 64 }
-    ensures next { IfOk result (λ s. s ≡ passed at (path_stretches (view_source view.now section) maps.now (new_place (view_source view.now section) (texts_known texts.now Str) (texts_known texts.now LineStr)) width path.now)) }
-    ensures runs { OnOk result (runs.new.items ≡ runs.old.items ++ passed_runs at (path_stretches (view_source view.now section) maps.now (new_place (view_source view.now section) (texts_known texts.now Str) (texts_known texts.now LineStr)) width path.now)) }
-    ensures offsets { OnOk result (offsets.new.items ≡ offsets.old.items ++ placed_offsets (path_stretches (view_source view.now section) maps.now (new_place (view_source view.now section) (texts_known texts.now Str) (texts_known texts.now LineStr)) width path.now)) }
+    requires order { InOrder at.old (2 ^ 31) (text_stretches (view_source view.now section) maps.now (text_known (view_source view.now section) (texts_known texts.now Str) (texts_known texts.now LineStr)) width text.now) }
+    requires fits { (passed at (text_stretches (view_source view.now section) maps.now (text_known (view_source view.now section) (texts_known texts.now Str) (texts_known texts.now LineStr)) width text.now)).new < 2 ^ 64 }
+    ensures next { IfOk result (λ s. s ≡ passed at (text_stretches (view_source view.now section) maps.now (text_known (view_source view.now section) (texts_known texts.now Str) (texts_known texts.now LineStr)) width text.now)) }
+    ensures runs { OnOk result (runs.new.items ≡ runs.old.items ++ passed_runs at (text_stretches (view_source view.now section) maps.now (text_known (view_source view.now section) (texts_known texts.now Str) (texts_known texts.now LineStr)) width text.now)) }
+    ensures offsets { OnOk result (offsets.new.items ≡ offsets.old.items ++ placed_offsets (text_stretches (view_source view.now section) maps.now (text_known (view_source view.now section) (texts_known texts.now Str) (texts_known texts.now LineStr)) width text.now)) }
 {
-    if path.section == section {
-        let old = bytes_at(view.bytes(section), path.at, path.len);
+    if text.place.section == section {
+        if !text.path {
+            return Ok(at);
+        }
+        let old = bytes_at(view.bytes(section), text.place.at, text.place.len);
         let len = map_len(maps, old);
-        let next = pass_other(at, path.at, path.len, len, runs)?;
+        let next = pass_other(at, text.place.at, text.place.len, len, runs)?;
         return Ok(next);
     }
-    let Some(place) = new_place(view, texts, path) else {
+    let Some(place) = new_place(view, texts, text) else {
         return Ok(at);
     };
-    let next = pass_offset(at, path.field, width, place, runs, offsets)?;
+    let next = pass_offset(at, text.place.field, width, place, runs, offsets)?;
     Ok(next)
 }
 
-/// Passes the bytes up to the last of these paths, and what becomes of each; answers the run that begins behind them.
-fn pass_paths(
+/// Passes the bytes up to the last of these texts, and what becomes of each; answers the run that begins behind them.
+fn pass_texts(
     view: &View,
     maps: &Maps,
     texts: &NewTexts,
     section: u32,
     width: Width,
-    paths: &[TextPlace],
+    all: &[LineText],
     start: Run,
     runs: &mut Vec<Run>,
     offsets: &mut Vec<NewFieldOffset>,
 ) -> Result<Run, AllocError>
     requires there { section < length view.now.sections }
-    requires order { InOrder start.old (2 ^ 31) (all_path_stretches (view_source view.now section) maps.now (new_place (view_source view.now section) (texts_known texts.now Str) (texts_known texts.now LineStr)) width paths.now) }
-    requires fits { (passed start (all_path_stretches (view_source view.now section) maps.now (new_place (view_source view.now section) (texts_known texts.now Str) (texts_known texts.now LineStr)) width paths.now)).new < 2 ^ 64 }
-    ensures next { IfOk result (λ s. s ≡ passed start (all_path_stretches (view_source view.now section) maps.now (new_place (view_source view.now section) (texts_known texts.now Str) (texts_known texts.now LineStr)) width paths.now)) }
-    ensures runs { OnOk result (runs.new.items ≡ runs.old.items ++ passed_runs start (all_path_stretches (view_source view.now section) maps.now (new_place (view_source view.now section) (texts_known texts.now Str) (texts_known texts.now LineStr)) width paths.now)) }
-    ensures offsets { OnOk result (offsets.new.items ≡ offsets.old.items ++ placed_offsets (all_path_stretches (view_source view.now section) maps.now (new_place (view_source view.now section) (texts_known texts.now Str) (texts_known texts.now LineStr)) width paths.now)) }
+    requires order { InOrder start.old (2 ^ 31) (texts_stretches (view_source view.now section) maps.now (text_known (view_source view.now section) (texts_known texts.now Str) (texts_known texts.now LineStr)) width all.now) }
+    requires fits { (passed start (texts_stretches (view_source view.now section) maps.now (text_known (view_source view.now section) (texts_known texts.now Str) (texts_known texts.now LineStr)) width all.now)).new < 2 ^ 64 }
+    ensures next { IfOk result (λ s. s ≡ passed start (texts_stretches (view_source view.now section) maps.now (text_known (view_source view.now section) (texts_known texts.now Str) (texts_known texts.now LineStr)) width all.now)) }
+    ensures runs { OnOk result (runs.new.items ≡ runs.old.items ++ passed_runs start (texts_stretches (view_source view.now section) maps.now (text_known (view_source view.now section) (texts_known texts.now Str) (texts_known texts.now LineStr)) width all.now)) }
+    ensures offsets { OnOk result (offsets.new.items ≡ offsets.old.items ++ placed_offsets (texts_stretches (view_source view.now section) maps.now (text_known (view_source view.now section) (texts_known texts.now Str) (texts_known texts.now LineStr)) width all.now)) }
 {
     let mut at = start;
-    for path in paths {
-        at = pass_path(view, maps, texts, section, width, path, at, runs, offsets)?;
+    for text in all {
+        at = pass_text(view, maps, texts, section, width, text, at, runs, offsets)?;
     }
     Ok(at)
 }
@@ -186,7 +189,7 @@ fn push_header(
     texts: &NewTexts,
     section: u32,
     header: &LineHeader,
-    paths: &[TextPlace],
+    all: &[LineText],
     new: u64,
     runs: &mut Vec<Run>,
     offsets: &mut Vec<NewFieldOffset>,
@@ -194,10 +197,10 @@ fn push_header(
     requires there { section < length view.now.sections }
     requires small { header.now.start ≤ 2 ^ 31 }
     requires near { header.now.program ≤ 2 ^ 31 }
-    requires order { InOrder (behind_lengths header.now.start header.now.width header.now.version) header.now.program (all_path_stretches (view_source view.now section) maps.now (new_place (view_source view.now section) (texts_known texts.now Str) (texts_known texts.now LineStr)) header.now.width paths.now) }
-    requires fits { (passed (header_start header.now new) (all_path_stretches (view_source view.now section) maps.now (new_place (view_source view.now section) (texts_known texts.now Str) (texts_known texts.now LineStr)) header.now.width paths.now)).new + header.now.program < 2 ^ 64 }
-    ensures runs { OnOk result (runs.new.items ≡ runs.old.items ++ header_runs header.now new (all_path_stretches (view_source view.now section) maps.now (new_place (view_source view.now section) (texts_known texts.now Str) (texts_known texts.now LineStr)) header.now.width paths.now)) }
-    ensures offsets { OnOk result (offsets.new.items ≡ offsets.old.items ++ placed_offsets (all_path_stretches (view_source view.now section) maps.now (new_place (view_source view.now section) (texts_known texts.now Str) (texts_known texts.now LineStr)) header.now.width paths.now)) }
+    requires order { InOrder (behind_lengths header.now.start header.now.width header.now.version) header.now.program (texts_stretches (view_source view.now section) maps.now (text_known (view_source view.now section) (texts_known texts.now Str) (texts_known texts.now LineStr)) header.now.width all.now) }
+    requires fits { (passed (header_start header.now new) (texts_stretches (view_source view.now section) maps.now (text_known (view_source view.now section) (texts_known texts.now Str) (texts_known texts.now LineStr)) header.now.width all.now)).new + header.now.program < 2 ^ 64 }
+    ensures runs { OnOk result (runs.new.items ≡ runs.old.items ++ header_runs header.now new (texts_stretches (view_source view.now section) maps.now (text_known (view_source view.now section) (texts_known texts.now Str) (texts_known texts.now LineStr)) header.now.width all.now)) }
+    ensures offsets { OnOk result (offsets.new.items ≡ offsets.old.items ++ placed_offsets (texts_stretches (view_source view.now section) maps.now (text_known (view_source view.now section) (texts_known texts.now Str) (texts_known texts.now LineStr)) header.now.width all.now)) }
 {
     let size = header.width.length_size();
     let number = header_length_place(header);
@@ -208,13 +211,13 @@ fn push_header(
         old: behind,
         new: new + (behind - header.start),
     };
-    let last = pass_paths(
+    let last = pass_texts(
         view,
         maps,
         texts,
         section,
         header.width,
-        paths,
+        all,
         start,
         runs,
         offsets,
@@ -226,11 +229,10 @@ fn push_header(
 impl LineTable {
     /// Appends the runs by which the bytes of the table, which was read of the view, come to stand in the one that is written with mapped
     /// paths, whose bytes begin at `new`, and the offsets that its fields are to say, for the records of the section's relocations. The
-    /// paths of the table stand in their order.
+    /// texts of the table stand in their order.
     #[tactic(auto, using(crate::proofs::TableRunLaws::table_laws))]
     pub fn push_moves(
         &self,
-        alloc: Global,
         view: &View,
         maps: &Maps,
         texts: &NewTexts,
@@ -240,16 +242,23 @@ impl LineTable {
     ) -> Result<(), AllocError>
         requires there { self.now.section < length view.now.sections }
         requires table { IsLineTable (view_source view.now self.now.section) self.now.start self.now }
-        requires order { PathsInOrder (view_source view.now self.now.section) maps.now (new_place (view_source view.now self.now.section) (texts_known texts.now Str) (texts_known texts.now LineStr)) self.now }
-        requires fits { new_end new (table_stretches (view_source view.now self.now.section) maps.now (new_place (view_source view.now self.now.section) (texts_known texts.now Str) (texts_known texts.now LineStr)) self.now) < 2 ^ 63 }
-        ensures runs { OnOk result (runs.new.items ≡ runs.old.items ++ runs_from self.now.start new (table_stretches (view_source view.now self.now.section) maps.now (new_place (view_source view.now self.now.section) (texts_known texts.now Str) (texts_known texts.now LineStr)) self.now)) }
-        ensures offsets { OnOk result (offsets.new.items ≡ offsets.old.items ++ offsets_from self.now.start (table_stretches (view_source view.now self.now.section) maps.now (new_place (view_source view.now self.now.section) (texts_known texts.now Str) (texts_known texts.now LineStr)) self.now)) }
+        requires order { TextsInOrder (view_source view.now self.now.section) maps.now (text_known (view_source view.now self.now.section) (texts_known texts.now Str) (texts_known texts.now LineStr)) self.now }
+        requires fits { new_end new (table_stretches_by_texts (view_source view.now self.now.section) maps.now (text_known (view_source view.now self.now.section) (texts_known texts.now Str) (texts_known texts.now LineStr)) self.now) < 2 ^ 63 }
+        ensures runs { OnOk result (runs.new.items ≡ runs.old.items ++ runs_from self.now.start new (table_stretches_by_texts (view_source view.now self.now.section) maps.now (text_known (view_source view.now self.now.section) (texts_known texts.now Str) (texts_known texts.now LineStr)) self.now)) }
+        ensures offsets { OnOk result (offsets.new.items ≡ offsets.old.items ++ offsets_from self.now.start (table_stretches_by_texts (view_source view.now self.now.section) maps.now (text_known (view_source view.now self.now.section) (texts_known texts.now Str) (texts_known texts.now LineStr)) self.now)) }
     {
         let section = self.section;
         let header = header_of(view, section, self.start);
-        let paths = paths_of(alloc, &self.dirs, &self.files)?;
         push_header(
-            view, maps, texts, section, &header, &paths, new, runs, offsets,
+            view,
+            maps,
+            texts,
+            section,
+            &header,
+            &self.texts,
+            new,
+            runs,
+            offsets,
         )?;
         Ok(())
     }

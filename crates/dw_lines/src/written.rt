@@ -2,12 +2,12 @@
 //!
 //! This file promises: the table that is given is the defined one, byte for byte; it is refused exactly where a
 //! new length or offset doesn't fit its field, or the program defines a file whose path changes.
-//! Read first: `WrittenLines` and `LineWriteFails` in `dw_base/specs`.
+//! Read first: `TextLineChanges` and `TextWriteFails` in `dw_base/specs`.
 
 ghost use Rattle.std.specs.Prelude.{◌≡◌, ◌↔◌, ◌+◌, ◌-◌, ◌≤◌, ◌<◌, ◌^◌, ◌++◌, [], length, Some, IsSome, IsTrue, IfOk, IfErr, OnOk};
 ghost use Rattle.dw_base.specs.FileViews.{section_bytes};
 ghost use Rattle.dw_lines.specs.OffsetRooms.{AllHaveRoom};
-ghost use Rattle.dw_lines.specs.NewTexts.{texts_known};
+ghost use Rattle.dw_lines.specs.NewTexts.{text_known, texts_known};
 ghost use Rattle.dw_lines.specs.ViewSources.{view_source};
 ghost use Rattle.dw_base.specs.Refusals.{Blames, at};
 ghost use Rattle.dw_base.specs.declared.debug_sections.DebugSection.TheVariants.{LineStr, Str};
@@ -17,17 +17,19 @@ ghost use Rattle.dw_base.specs.LineTables.{IsLineTable, table_bytes, table_made}
 ghost use Rattle.dw_base.specs.LineHeaders.{line_header};
 ghost use Rattle.dw_base.specs.LinePrograms.{next_opcode};
 ghost use Rattle.dw_base.specs.Walks.{ComesTo, Since};
-ghost use Rattle.dw_base.specs.LineWriteFails.{CanWrite, ProgramFails, WriteFails, length_field, length_limit};
-ghost use Rattle.dw_base.specs.WrittenLines.{all_changes, behind_lengths, changed, header_length_place, length_bytes, length_size, new_place, with_header_length, with_program, written_front, written_header, written_program, written_table};
+ghost use Rattle.dw_base.specs.LineWriteFails.{ProgramFails, length_field, length_limit};
+ghost use Rattle.dw_base.specs.TextLineChanges.{program_by_texts, table_by_texts, texts_changes};
+ghost use Rattle.dw_base.specs.TextWriteFails.{CanWriteTexts, TextWriteFails};
+ghost use Rattle.dw_base.specs.WrittenLines.{behind_lengths, changed, header_length_place, length_bytes, length_size, with_header_length, with_program};
 
-use crate::changes::{check_offsets, paths_of, put_paths};
+use crate::changes::{check_offsets, put_texts};
 use crate::defined_paths::check_opcodes;
 use crate::header::{length_place, line_header};
 use crate::new_texts::NewTexts;
 use crate::parts::{part, push_length, push_number};
 use crate::table::LineTable;
 use dw_base::{
-    FIRST_RESERVED_LENGTH, Fault, FilePlace, Kind, LineHeader, NoMemory, Refusal, TextPlace, Width,
+    FIRST_RESERVED_LENGTH, Fault, FilePlace, Kind, LineHeader, LineText, NoMemory, Refusal, Width,
 };
 use dw_paths::Maps;
 use dw_view::View;
@@ -55,7 +57,7 @@ pub(crate) fn header_length_place(header: &LineHeader) -> u64
     )
 }
 
-/// The header from behind its length up to the program, with what becomes of its paths.
+/// The header from behind its length up to the program, with what becomes of its texts.
 #[tactic(auto, using(crate::proofs::WrittenLaws::header_laws))]
 fn written_header(
     alloc: Global,
@@ -64,23 +66,23 @@ fn written_header(
     texts: &NewTexts,
     section: u32,
     header: &LineHeader,
-    paths: &[TextPlace],
+    all: &[LineText],
 ) -> Result<Vec<u8>, NoMemory>
     requires there { section < length view.now.sections }
-    requires rooms { AllHaveRoom section header.now.width (length (section_bytes view.now section)) paths.now }
+    requires rooms { AllHaveRoom section header.now.width (length (section_bytes view.now section)) all.now }
     requires small { header.now.start ≤ 2 ^ 31 }
-    ensures bytes { IfOk result (λ out. out.items ≡ changed (section_bytes view.now section) (behind_lengths header.now.start header.now.width header.now.version) header.now.program (all_changes (view_source view.now section) maps.now (new_place (view_source view.now section) (texts_known texts.now Str) (texts_known texts.now LineStr)) header.now.width paths.now)) }
+    ensures bytes { IfOk result (λ out. out.items ≡ changed (section_bytes view.now section) (behind_lengths header.now.start header.now.width header.now.version) header.now.program (texts_changes (view_source view.now section) maps.now (text_known (view_source view.now section) (texts_known texts.now Str) (texts_known texts.now LineStr)) header.now.width all.now)) }
 {
     let first = header_length_place(header) + u64::from(header.width.offset_size());
     let mut out = Vec::new(alloc);
-    let place = put_paths(
+    let place = put_texts(
         alloc,
         view,
         maps,
         texts,
         section,
         header.width,
-        paths,
+        all,
         first,
         &mut out,
     )?;
@@ -210,7 +212,8 @@ fn check_program(
 impl LineTable {
     /// The table with mapped paths, which was read of the view: a path that stands in it is mapped there, and the
     /// offset of another becomes the new place of its text, where one is known in `.debug_str` or
-    /// `.debug_line_str` by the old place: its bytes do, or the addend of its relocation; both lengths are those of what follows them, and all else is copied.
+    /// `.debug_line_str` by the old place: its bytes do, or the addend of its relocation; both lengths are those of what
+    /// follows them, and all else is copied, texts beside paths too.
     /// Refused as `TooWide` at the field exactly where a new length or offset doesn't fit it, and as `DefinedPath`
     /// at the opcode exactly where the program defines a file whose path the map changes.
     #[tactic(auto, using(crate::proofs::WrittenLaws::write_laws))]
@@ -223,22 +226,21 @@ impl LineTable {
     ) -> Result<WrittenTable, Fault>
         requires there { self.now.section < length view.now.sections }
         requires table { IsLineTable (view_source view.now self.now.section) self.now.start self.now }
-        ensures bytes { IfOk result (λ w. w.bytes.items ≡ written_table (view_source view.now self.now.section) maps.now (new_place (view_source view.now self.now.section) (texts_known texts.now Str) (texts_known texts.now LineStr)) self.now) }
-        ensures program { IfOk result (λ w. w.program ≡ written_program (view_source view.now self.now.section) maps.now (new_place (view_source view.now self.now.section) (texts_known texts.now Str) (texts_known texts.now LineStr)) self.now) }
-        ensures can { OnOk result (CanWrite (view_source view.now self.now.section) maps.now (new_place (view_source view.now self.now.section) (texts_known texts.now Str) (texts_known texts.now LineStr)) self.now) }
-        ensures none { OnOk result ((r : RefusalOf) → WriteFails (view_source view.now self.now.section) maps.now (new_place (view_source view.now self.now.section) (texts_known texts.now Str) (texts_known texts.now LineStr)) self.now r → ⊥) }
-        ensures refused { IfErr result (Blames (WriteFails (view_source view.now self.now.section) maps.now (new_place (view_source view.now self.now.section) (texts_known texts.now Str) (texts_known texts.now LineStr)) self.now)) }
+        ensures bytes { IfOk result (λ w. w.bytes.items ≡ table_by_texts (view_source view.now self.now.section) maps.now (text_known (view_source view.now self.now.section) (texts_known texts.now Str) (texts_known texts.now LineStr)) self.now) }
+        ensures program { IfOk result (λ w. w.program ≡ program_by_texts (view_source view.now self.now.section) maps.now (text_known (view_source view.now self.now.section) (texts_known texts.now Str) (texts_known texts.now LineStr)) self.now) }
+        ensures can { OnOk result (CanWriteTexts (view_source view.now self.now.section) maps.now (text_known (view_source view.now self.now.section) (texts_known texts.now Str) (texts_known texts.now LineStr)) self.now) }
+        ensures none { OnOk result ((r : RefusalOf) → TextWriteFails (view_source view.now self.now.section) maps.now (text_known (view_source view.now self.now.section) (texts_known texts.now Str) (texts_known texts.now LineStr)) self.now r → ⊥) }
+        ensures refused { IfErr result (Blames (TextWriteFails (view_source view.now self.now.section) maps.now (text_known (view_source view.now self.now.section) (texts_known texts.now Str) (texts_known texts.now LineStr)) self.now)) }
     {
         let section = self.section;
         let header = header_of(view, section, self.start);
         if let Err(fault) = check_program(alloc, view, maps, section, &header, &self.defined) {
             return Err(fault);
         }
-        let paths = paths_of(alloc, &self.dirs, &self.files)?;
-        if let Err(refusal) = check_offsets(view, texts, section, header.width, &paths) {
+        if let Err(refusal) = check_offsets(view, texts, section, header.width, &self.texts) {
             return Err(Fault::Refused(refusal));
         }
-        let lists = written_header(alloc, view, maps, texts, section, &header, &paths)?;
+        let lists = written_header(alloc, view, maps, texts, section, &header, &self.texts)?;
         let front = written_front(alloc, view, section, &header, &lists)?;
         match whole_table(alloc, view, section, &header, &front) {
             Ok(written) => Ok(written),

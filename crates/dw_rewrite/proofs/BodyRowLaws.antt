@@ -5,7 +5,7 @@ use Rattle.dw_base.specs.DebugData.{around_of, line_source}
 use Rattle.dw_base.specs.DebugSections.{name_of}
 use Rattle.dw_base.specs.FileViews.{View, section_named, view_of}
 use Rattle.dw_base.specs.Layout.{output_limit}
-use Rattle.dw_base.specs.LineReadings.{LineReading, TablesTo, all_lines}
+use Rattle.dw_base.specs.LineReadings.{all_lines}
 use Rattle.dw_base.specs.LineSources.{LineSource}
 use Rattle.dw_base.specs.LineTables.{LineTable}
 use Rattle.dw_base.specs.Paths.{PathMap}
@@ -24,11 +24,7 @@ use Rattle.dw_base.specs.declared.texts.TextSection.TheVariants.{InStr, InLineSt
 use Rattle.dw_lines.specs.NewTexts.{KnownTexts}
 use Rattle.dw_lines.specs.ViewTables.{tables_read}
 use Rattle.dw_lines.proofs.ReadingLaws.{source-is}
-use Rattle.dw_meaning.proofs.DataKeptLaws.{places-stay}
-use Rattle.dw_meaning.proofs.LineRowLaws.{table-among}
-use Rattle.dw_meaning.proofs.TextRowLaws.{fails-texts}
-use Rattle.dw_meaning.specs.DataOutput.{PathsFit, changes_of, table_change}
-use Rattle.dw_meaning.specs.NewAddends.{places_by}
+use Rattle.dw_meaning.specs.DataOutput.{PathsFit, table_change}
 use Rattle.dw_find.specs.FoundPaths.{PathsFound, without_lines}
 use Rattle.dw_rewrite.specs.Bodies.{BodiesRefuse, addend_of, long_table_of, long_lines_of, line_table_of}
 use Rattle.dw_rewrite.specs.Changes.{start_known}
@@ -75,11 +71,7 @@ lines-row m v us ts ps pl ks kl r f s l (table_fails before behind t split fails
     let x : TableRefused (line_source (debug_data v)) m (change_of_table m v f.readings InStr) (change_of_table m v f.readings InLineStr) f.readings.lines r =
     table-refused (line_source (debug_data v)) m (change_of_table m v f.readings InStr) (change_of_table m v f.readings InLineStr) ks kl f.readings.lines before behind t r
     (lines-agree m v us ts ps pl ks kl f s l) (sym f.tables ∙ split) fails in
-    let one = table-among (line_source (debug_data v)) 0 (length (line_source (debug_data v)).bytes) x.before x.behind x.table
-    (subst (λ (rs : List LineReading). TablesTo (line_source (debug_data v)) 0 rs (length (line_source (debug_data v)).bytes)) x.split f.reads.lines) in
-    line_table_of f.readings x.before x.behind x.table f.reads x.split
-    (fails-texts (line_source (debug_data v)) m (places_by (changes_of m (around_of (debug_data v) f.readings) f.readings) (debug_data v)) one.start x.table r
-    (places-stay m (debug_data v) f.readings) one.reads x.fails)
+    line_table_of f.readings x.before x.behind x.table f.reads x.split x.fails
 
 -- and line tables that would be too long
 some-number : (m : PathMap) (v : View) (ks kl : ℕ → Option ℕ) (us : List SectionFields) (ts : List LineTable) (bs : List ℕ) → PathsFound m v us ts → bs ≡ all_lines (lines_known m (line_source (debug_data v)) ks kl ts)

@@ -3,21 +3,28 @@ use Rattle.std.proofs.Common.{Bool, true, false, ◌≡◌, ◌≢◌, ℕ, zero
 use Rattle.std.specs.Prelude.{⊤}
 use Rattle.std.proofs.lemmas.Bool.{ne_eqb, true≢false}
 use Rattle.dw_base.specs.Forms.{width_size}
-use Rattle.dw_base.specs.LineChanges.{asked_place, line_place, lines_after, path_in}
+use Rattle.dw_base.specs.LineChanges.{asked_place, line_place, path_in}
 use Rattle.dw_base.specs.LineReadings.{LineReading, TablesTo, table_read}
 use Rattle.dw_base.specs.LineSources.{LineSource}
 use Rattle.dw_base.specs.LineTables.{LineTable}
-use Rattle.dw_base.specs.LineWriteFails.{CanWrite, WriteFails, wide, wide_table, wide_header, wide_offset, program, length_limit}
+use Rattle.dw_base.specs.LineWriteFails.{length_limit}
 use Rattle.dw_base.specs.Paths.{PathMap}
-use Rattle.dw_base.specs.StringTables.{Plan, new_place as text_place}
+use Rattle.dw_base.specs.StringTables.{Plan, new_place as place_in}
+use Rattle.dw_base.specs.TableTexts.{paths_among}
 use Rattle.dw_base.specs.TextChanges.{TableChange}
-use Rattle.dw_base.specs.WrittenLines.{Change, all_changes, inline_change, new_place, offset_changes, path_changes, paths_of, written_header, written_rest, written_table, with_header_length, with_program, changed, behind_lengths, length_bytes}
+use Rattle.dw_base.specs.TextLineChanges.{header_by_texts, on_paths, rest_by_texts, table_by_texts, tables_by_texts, text_changes, text_place, texts_changes}
+use Rattle.dw_base.specs.TextWriteFails.{CanWriteTexts, TextWriteFails, text_header, text_offset, text_program, text_table, wide_text}
+use Rattle.dw_base.specs.WrittenLines.{Change, inline_change, new_place, offset_changes, paths_of, with_header_length, with_program, changed, behind_lengths, length_bytes}
 use Rattle.dw_base.specs.declared.fault.Refusal.{Refusal}
+use Rattle.dw_base.specs.declared.line_tables.LineText.{LineText}
 use Rattle.dw_base.specs.declared.line_tables.TextPlace.{TextPlace}
 use Rattle.dw_base.specs.declared.shared.Width.{Width}
 use Rattle.dw_base.specs.declared.texts.TextField.{TextField}
 use Rattle.dw_base.specs.declared.texts.TextSection.TheVariants.{InStr, InLineStr}
+use Rattle.dw_lines.specs.NewTexts.{text_known}
 use Rattle.dw_lines.specs.ViewTables.{tables_read}
+use Rattle.dw_meaning.proofs.FurtherLaws.{FurtherStay}
+use Rattle.dw_meaning.proofs.LineTextLaws.{table-paths-among}
 use Rattle.dw_rewrite.specs.Changes.{FieldSource, IsNoted, Knows, offset_at, path_of}
 use Rattle.dw_rewrite.specs.NewLines.{AllCanWrite, lines_known}
 use Rattle.dw_find.specs.ViewLines.{is_text_of, table_fields, text_field, text_fields}
@@ -25,72 +32,78 @@ use Rattle.dw_rewrite.proofs.LineMentionLaws.{IsWhole, line_texts, text-offset}
 use Rattle.dw_find.proofs.LinePlaceLaws.{EachReads, PathReads, table-paths}
 use Rattle.dw_find.proofs.PlaceValueLaws.{EachOf}
 
--- the new places of paths that stand elsewhere are the same
-abbrev pub EachAgree : LineSource → (TextPlace → Option ℕ) → (TextPlace → Option ℕ) → List TextPlace → Type 0
+-- the new places of texts that stand elsewhere are the same
+abbrev pub EachAgree : LineSource → (LineText → Option ℕ) → (LineText → Option ℕ) → List LineText → Type 0
 EachAgree g p q [] = ⊤
-EachAgree g p q (x ∷ xs) = ((x.section == g.number) ≡ false → p x ≡ q x) × EachAgree g p q xs
+EachAgree g p q (x ∷ xs) = ((x.place.section == g.number) ≡ false → p x ≡ q x) × EachAgree g p q xs
 
-agree-back : (g : LineSource) (p q : TextPlace → Option ℕ) (xs : List TextPlace) → EachAgree g p q xs → EachAgree g q p xs
+agree-back : (g : LineSource) (p q : LineText → Option ℕ) (xs : List LineText) → EachAgree g p q xs → EachAgree g q p xs
 agree-back g p q [] a = tt
 agree-back g p q (x ∷ xs) a = ((λ other. sym (a.0 other)), agree-back g p q xs a.1)
 
-agree-at : (g : LineSource) (p q : TextPlace → Option ℕ) (xs : List TextPlace) (x : TextPlace) → EachAgree g p q xs → Contains xs x → x.section ≢ g.number → p x ≡ q x
+agree-at : (g : LineSource) (p q : LineText → Option ℕ) (xs : List LineText) (x : LineText) → EachAgree g p q xs → Contains xs x → x.place.section ≢ g.number → p x ≡ q x
 agree-at g p q [] x a here other = absurd (omega (arith, here.1))
 agree-at g p q (y ∷ ys) x a here other = by (λ c. agree-at g p q ys x a.1 c other) here.0 here.1 here.2
   where
     by : (Contains ys x → p x ≡ q x) → (k : ℕ) → k < suc (length ys) → get_or (y ∷ ys) k x ≡ x → p x ≡ q x
-    by rest zero lt e = subst (λ (z : TextPlace). (z.section == g.number) ≡ false → p z ≡ q z) e a.0 (ne_eqb x.section g.number other)
+    by rest zero lt e = subst (λ (z : LineText). (z.place.section == g.number) ≡ false → p z ≡ q z) e a.0 (ne_eqb x.place.section g.number other)
     by rest (suc k) lt e = rest (k, omega (arith, lt), e)
 
 -- so changes are
-one-change : (g : LineSource) (m : PathMap) (p q : TextPlace → Option ℕ) (w : Width) (x : TextPlace) → ((x.section == g.number) ≡ false → p x ≡ q x)
-    → path_changes g m p w x ≡ path_changes g m q w x
-one-change g m p q w x a = by (x.section == g.number) refl
+one-change : (g : LineSource) (m : PathMap) (p q : LineText → Option ℕ) (w : Width) (x : LineText) → ((x.place.section == g.number) ≡ false → p x ≡ q x)
+    → text_changes g m p w x ≡ text_changes g m q w x
+one-change g m p q w x a = by_path x.path (x.place.section == g.number) refl a
   where
-    by : (b : Bool) → (x.section == g.number) ≡ b
-        → (if b then inline_change m g.bytes x ∷ [] else offset_changes g.order w g.bytes g.cells x.field (p x)) ≡ (if b then inline_change m g.bytes x ∷ [] else offset_changes g.order w g.bytes g.cells x.field (q x))
-    by true e = refl
-    by false e = ap (offset_changes g.order w g.bytes g.cells x.field) (a e)
+    by_path : (b t : Bool) → (x.place.section == g.number) ≡ t
+        → ((x.place.section == g.number) ≡ false → p (record { place = x.place; path = b }) ≡ q (record { place = x.place; path = b }))
+        → (if b then (if t then inline_change m g.bytes x.place ∷ [] else offset_changes g.order w g.bytes g.cells x.place.field (p (record { place = x.place; path = true })))
+        else (if t then [] else offset_changes g.order w g.bytes g.cells x.place.field (p (record { place = x.place; path = b }))))
+        ≡ (if b then (if t then inline_change m g.bytes x.place ∷ [] else offset_changes g.order w g.bytes g.cells x.place.field (q (record { place = x.place; path = true })))
+        else (if t then [] else offset_changes g.order w g.bytes g.cells x.place.field (q (record { place = x.place; path = b }))))
+    by_path true true e a = refl
+    by_path true false e a = ap (offset_changes g.order w g.bytes g.cells x.place.field) (a e)
+    by_path false true e a = refl
+    by_path false false e a = ap (offset_changes g.order w g.bytes g.cells x.place.field) (a e)
 
-changes-same : (g : LineSource) (m : PathMap) (p q : TextPlace → Option ℕ) (w : Width) (xs : List TextPlace) → EachAgree g p q xs → all_changes g m p w xs ≡ all_changes g m q w xs
+changes-same : (g : LineSource) (m : PathMap) (p q : LineText → Option ℕ) (w : Width) (xs : List LineText) → EachAgree g p q xs → texts_changes g m p w xs ≡ texts_changes g m q w xs
 changes-same g m p q w [] a = refl
 changes-same g m p q w (x ∷ xs) a =
-    ap (λ (cs : List Change). cs ++ all_changes g m p w xs) (one-change g m p q w x a.0) ∙ ap (λ (cs : List Change). path_changes g m q w x ++ cs) (changes-same g m p q w xs a.1)
+    ap (λ (cs : List Change). cs ++ texts_changes g m p w xs) (one-change g m p q w x a.0) ∙ ap (λ (cs : List Change). text_changes g m q w x ++ cs) (changes-same g m p q w xs a.1)
 
 -- and the table
-header-same : (g : LineSource) (m : PathMap) (p q : TextPlace → Option ℕ) (t : LineTable) → EachAgree g p q (paths_of t) → written_header g m p t ≡ written_header g m q t
-unfolding written_header
+header-same : (g : LineSource) (m : PathMap) (p q : LineText → Option ℕ) (t : LineTable) → EachAgree g p q t.texts → header_by_texts g m p t ≡ header_by_texts g m q t
+unfolding header_by_texts
 header-same g m p q t a =
-    ap (changed g.bytes (behind_lengths t.start t.width t.version) t.program) (changes-same g m p q t.width (paths_of t) a)
+    ap (changed g.bytes (behind_lengths t.start t.width t.version) t.program) (changes-same g m p q t.width t.texts a)
 
-rest-same : (g : LineSource) (m : PathMap) (p q : TextPlace → Option ℕ) (t : LineTable) → EachAgree g p q (paths_of t) → written_rest g m p t ≡ written_rest g m q t
+rest-same : (g : LineSource) (m : PathMap) (p q : LineText → Option ℕ) (t : LineTable) → EachAgree g p q t.texts → rest_by_texts g m p t ≡ rest_by_texts g m q t
 rest-same g m p q t a = ap (λ (header : List ℕ). with_program g t (with_header_length g t header)) (header-same g m p q t a)
 
-pub table-same : (g : LineSource) (m : PathMap) (p q : TextPlace → Option ℕ) (t : LineTable) → EachAgree g p q (paths_of t) → written_table g m p t ≡ written_table g m q t
-unfolding written_table
+pub table-same : (g : LineSource) (m : PathMap) (p q : LineText → Option ℕ) (t : LineTable) → EachAgree g p q t.texts → table_by_texts g m p t ≡ table_by_texts g m q t
+unfolding table_by_texts
 table-same g m p q t a = ap (λ (rest : List ℕ). length_bytes g.order t.width (length rest) ++ rest) (rest-same g m p q t a)
 
-pub can-same : (g : LineSource) (m : PathMap) (p q : TextPlace → Option ℕ) (t : LineTable) → EachAgree g p q (paths_of t) → CanWrite g m p t → CanWrite g m q t
+pub can-same : (g : LineSource) (m : PathMap) (p q : LineText → Option ℕ) (t : LineTable) → EachAgree g p q t.texts → CanWriteTexts g m p t → CanWriteTexts g m q t
 can-same g m p q t a can = record {
   table = subst (λ (rest : List ℕ). length rest < length_limit t.width) (rest-same g m p q t a) can.table;
   header = subst (λ (header : List ℕ). length header < 256 ^ width_size t.width) (header-same g m p q t a) can.header;
-  offsets = λ x place here other is. can.offsets x place here other (agree-at g p q (paths_of t) x a here other ∙ is);
+  offsets = λ x place here other is. can.offsets x place here other (agree-at g p q t.texts x a here other ∙ is);
   defined = can.defined;
 }
 
-pub fails-same : (g : LineSource) (m : PathMap) (p q : TextPlace → Option ℕ) (t : LineTable) (r : Refusal) → EachAgree g p q (paths_of t) → WriteFails g m p t r → WriteFails g m q t r
-fails-same g m p q t r a (wide_table far) = wide_table (subst (λ (rest : List ℕ). length_limit t.width ≤ length rest) (rest-same g m p q t a) far)
-fails-same g m p q t r a (wide_header far) = wide_header (subst (λ (header : List ℕ). 256 ^ width_size t.width ≤ length header) (header-same g m p q t a) far)
-fails-same g m p q t r a (wide_offset (wide x place here other is far)) =
-    wide_offset (wide x place here other (agree-at g q p (paths_of t) x (agree-back g p q (paths_of t) a) here other ∙ is) far)
-fails-same g m p q t r a (program h e f) = program h e f
+pub fails-same : (g : LineSource) (m : PathMap) (p q : LineText → Option ℕ) (t : LineTable) (r : Refusal) → EachAgree g p q t.texts → TextWriteFails g m p t r → TextWriteFails g m q t r
+fails-same g m p q t r a (text_table far) = text_table (subst (λ (rest : List ℕ). length_limit t.width ≤ length rest) (rest-same g m p q t a) far)
+fails-same g m p q t r a (text_header far) = text_header (subst (λ (header : List ℕ). 256 ^ width_size t.width ≤ length header) (header-same g m p q t a) far)
+fails-same g m p q t r a (text_offset (wide_text x place here other is far)) =
+    text_offset (wide_text x place here other (agree-at g q p t.texts x (agree-back g p q t.texts a) here other ∙ is) far)
+fails-same g m p q t r a (text_program h e f) = text_program h e f
 
 -- the place of a path that is known is the one that it asks for
 pub known-asked : (plan : Plan) (m : PathMap) (table : List ℕ) (ts : List (List ℕ)) (known : ℕ → Option ℕ) (o : ℕ) → Knows plan m table ts known → IsNoted plan table known o
-    → known o ≡ (if plan.asks (path_of table o) then Some (text_place plan m ts (path_of table o)) else None)
+    → known o ≡ (if plan.asks (path_of table o) then Some (place_in plan m ts (path_of table o)) else None)
 known-asked plan m table ts known o knows noted = by (known o) refl (plan.asks (path_of table o)) refl
   where
-    by : (k : Option ℕ) → known o ≡ k → (b : Bool) → plan.asks (path_of table o) ≡ b → k ≡ (if b then Some (text_place plan m ts (path_of table o)) else None)
+    by : (k : Option ℕ) → known o ≡ k → (b : Bool) → plan.asks (path_of table o) ≡ b → k ≡ (if b then Some (place_in plan m ts (path_of table o)) else None)
     by None e true a = absurd (true≢false (sym (noted.noted a) ∙ ap is_some e))
     by None e false a = refl
     by (Some n) e true a = ap Some (knows.each o n e).place_is
@@ -123,55 +136,82 @@ each-parts : {X : Type 0} (P : X → Type 0) (xs ys : List X) → EachOf P (xs +
 each-parts P [] ys h = (tt, h)
 each-parts P (x ∷ xs) ys h = let rest = each-parts P xs ys h.1 in ((h.0, rest.0), rest.1)
 
+abbrev PathsAgree : LineSource → (TextPlace → Option ℕ) → (TextPlace → Option ℕ) → List TextPlace → Type 0
+PathsAgree g p q [] = ⊤
+PathsAgree g p q (x ∷ xs) = ((x.section == g.number) ≡ false → p x ≡ q x) × PathsAgree g p q xs
+
 paths-agree : (g : LineSource) (m : PathMap) (str line_str : TableChange) (ks kl : ℕ → Option ℕ) (w : Width) (xs : List TextPlace) → IsWhole g → EachReads g w xs
     → Knows str.plan m g.str.bytes str.texts ks → Knows line_str.plan m g.line_str.bytes line_str.texts kl
     → EachOf (NotedIn str.plan (line_texts g InStr) ks) (text_fields g.number g.str.number InStr w xs)
     → EachOf (NotedIn line_str.plan (line_texts g InLineStr) kl) (text_fields g.number g.str.number InLineStr w xs)
-    → EachAgree g (new_place g ks kl) (line_place m str line_str g) xs
+    → PathsAgree g (new_place g ks kl) (line_place m str line_str g) xs
 paths-agree g m str line_str ks kl w [] whole reads s l ns nl = tt
 paths-agree g m str line_str ks kl w (x ∷ xs) whole reads s l ns nl =
     let a = each-parts (NotedIn str.plan (line_texts g InStr) ks) (text_field g.number g.str.number InStr w x) (text_fields g.number g.str.number InStr w xs) ns in
     let b = each-parts (NotedIn line_str.plan (line_texts g InLineStr) kl) (text_field g.number g.str.number InLineStr w x) (text_fields g.number g.str.number InLineStr w xs) nl in
     (one-agrees g m str line_str ks kl w x whole reads.0 s l a.0 b.0, paths-agree g m str line_str ks kl w xs whole reads.1 s l a.1 b.1)
 
--- of all tables
-abbrev pub TablesAgree : LineSource → (TextPlace → Option ℕ) → (TextPlace → Option ℕ) → List LineReading → Type 0
-TablesAgree g p q [] = ⊤
-TablesAgree g p q (r ∷ rs) = EachAgree g p q (paths_of (table_read g r)) × TablesAgree g p q rs
+-- so it is of all texts, where one that isn't a path gets no new place
+texts-agree : (g : LineSource) (ks kl : ℕ → Option ℕ) (q : LineText → Option ℕ) (xs : List LineText) → FurtherStay q → PathsAgree g (new_place g ks kl) (on_paths q) (paths_among xs)
+    → EachAgree g (text_known g ks kl) q xs
+texts-agree g ks kl q [] stay a = tt
+texts-agree g ks kl q (x ∷ xs) stay a = by_path x.path refl a (texts-agree g ks kl q xs stay)
+  where
+    further : (b : Bool) → b ≡ false → (if b then new_place g ks kl x.place else None) ≡ None
+    further true e = absurd (true≢false e)
+    further false e = refl
 
-pub tables-agree : (g : LineSource) (m : PathMap) (str line_str : TableChange) (ks kl : ℕ → Option ℕ) (p e : ℕ) (rs : List LineReading) → IsWhole g → TablesTo g p rs e
-    → Knows str.plan m g.str.bytes str.texts ks → Knows line_str.plan m g.line_str.bytes line_str.texts kl
+    known : (b : Bool) → b ≡ true → new_place g ks kl x.place ≡ q (record { place = x.place; path = true })
+        → (if b then new_place g ks kl x.place else None) ≡ q (record { place = x.place; path = b })
+    known true e is = is
+    known false e is = absurd (true≢false (sym e))
+
+    by_path : (b : Bool) → x.path ≡ b → PathsAgree g (new_place g ks kl) (on_paths q) (if b then x.place ∷ paths_among xs else paths_among xs)
+        → (PathsAgree g (new_place g ks kl) (on_paths q) (paths_among xs) → EachAgree g (text_known g ks kl) q xs)
+        → ((x.place.section == g.number) ≡ false → text_known g ks kl x ≡ q x) × EachAgree g (text_known g ks kl) q xs
+    by_path true e a rest = ((λ other. known x.path e (a.0 other)), rest a.1)
+    by_path false e a rest = ((λ other. further x.path e ∙ sym (stay.none x e)), rest a)
+
+-- of all tables
+abbrev pub TablesAgree : LineSource → (LineText → Option ℕ) → (LineText → Option ℕ) → List LineReading → Type 0
+TablesAgree g p q [] = ⊤
+TablesAgree g p q (r ∷ rs) = EachAgree g p q (table_read g r).texts × TablesAgree g p q rs
+
+pub tables-agree : (g : LineSource) (m : PathMap) (str line_str : TableChange) (ks kl : ℕ → Option ℕ) (p e : ℕ) (rs : List LineReading) → IsWhole g → FurtherStay (text_place m str line_str g)
+    → TablesTo g p rs e → Knows str.plan m g.str.bytes str.texts ks → Knows line_str.plan m g.line_str.bytes line_str.texts kl
     → EachOf (NotedIn str.plan (line_texts g InStr) ks) (table_fields g.number g.str.number InStr (tables_read g rs))
     → EachOf (NotedIn line_str.plan (line_texts g InLineStr) kl) (table_fields g.number g.str.number InLineStr (tables_read g rs))
-    → TablesAgree g (new_place g ks kl) (line_place m str line_str g) rs
-tables-agree g m str line_str ks kl p e [] whole reads s l ns nl = tt
-tables-agree g m str line_str ks kl p e (r ∷ rs) whole reads s l ns nl =
+    → TablesAgree g (text_known g ks kl) (text_place m str line_str g) rs
+tables-agree g m str line_str ks kl p e [] whole stay reads s l ns nl = tt
+tables-agree g m str line_str ks kl p e (r ∷ rs) whole stay reads s l ns nl =
     let a = each-parts (NotedIn str.plan (line_texts g InStr) ks) (text_fields g.number g.str.number InStr r.header.width (paths_of (table_read g r)))
     (table_fields g.number g.str.number InStr (tables_read g rs)) ns in
     let b = each-parts (NotedIn line_str.plan (line_texts g InLineStr) kl) (text_fields g.number g.str.number InLineStr r.header.width (paths_of (table_read g r)))
     (table_fields g.number g.str.number InLineStr (tables_read g rs)) nl in (
-      paths-agree g m str line_str ks kl r.header.width (paths_of (table_read g r)) whole (table-paths g p r reads.0) s l a.0 b.0,
-      tables-agree g m str line_str ks kl r.header.end e rs whole reads.1 s l a.1 b.1,
+      texts-agree g ks kl (text_place m str line_str g) (table_read g r).texts stay
+          (subst (PathsAgree g (new_place g ks kl) (line_place m str line_str g)) (sym (table-paths-among g p r reads.0))
+          (paths-agree g m str line_str ks kl r.header.width (paths_of (table_read g r)) whole (table-paths g p r reads.0) s l a.0 b.0)),
+      tables-agree g m str line_str ks kl r.header.end e rs whole stay reads.1 s l a.1 b.1,
     )
 
 -- the new tables
 pub lines-same : (g : LineSource) (m : PathMap) (str line_str : TableChange) (ks kl : ℕ → Option ℕ) (rs : List LineReading)
-    → TablesAgree g (new_place g ks kl) (line_place m str line_str g) rs → lines_known m g ks kl (tables_read g rs) ≡ lines_after m str line_str g rs
+    → TablesAgree g (text_known g ks kl) (text_place m str line_str g) rs → lines_known m g ks kl (tables_read g rs) ≡ tables_by_texts m str line_str g rs
 lines-same g m str line_str ks kl [] a = refl
 lines-same g m str line_str ks kl (r ∷ rs) a =
-    ap (λ (t : List ℕ). t ∷ lines_known m g ks kl (tables_read g rs)) (table-same g m (new_place g ks kl) (line_place m str line_str g) (table_read g r) a.0)
-    ∙ ap (λ (ts : List (List ℕ)). written_table g m (line_place m str line_str g) (table_read g r) ∷ ts) (lines-same g m str line_str ks kl rs a.1)
+    ap (λ (t : List ℕ). t ∷ lines_known m g ks kl (tables_read g rs)) (table-same g m (text_known g ks kl) (text_place m str line_str g) (table_read g r) a.0)
+    ∙ ap (λ (ts : List (List ℕ)). table_by_texts g m (text_place m str line_str g) (table_read g r) ∷ ts) (lines-same g m str line_str ks kl rs a.1)
 
 -- each can be written
 abbrev pub EachCanWrite : LineSource → PathMap → TableChange → TableChange → List LineReading → Type 0
 EachCanWrite g m str line_str [] = ⊤
-EachCanWrite g m str line_str (r ∷ rs) = CanWrite g m (line_place m str line_str g) (table_read g r) × EachCanWrite g m str line_str rs
+EachCanWrite g m str line_str (r ∷ rs) = CanWriteTexts g m (text_place m str line_str g) (table_read g r) × EachCanWrite g m str line_str rs
 
 pub all-can : (g : LineSource) (m : PathMap) (str line_str : TableChange) (ks kl : ℕ → Option ℕ) (rs : List LineReading)
-    → TablesAgree g (new_place g ks kl) (line_place m str line_str g) rs → AllCanWrite m g ks kl (tables_read g rs) → EachCanWrite g m str line_str rs
+    → TablesAgree g (text_known g ks kl) (text_place m str line_str g) rs → AllCanWrite m g ks kl (tables_read g rs) → EachCanWrite g m str line_str rs
 all-can g m str line_str ks kl [] a can = tt
 all-can g m str line_str ks kl (r ∷ rs) a can =
-    (can-same g m (new_place g ks kl) (line_place m str line_str g) (table_read g r) a.0 can.0, all-can g m str line_str ks kl rs a.1 can.1)
+    (can-same g m (text_known g ks kl) (text_place m str line_str g) (table_read g r) a.0 can.0, all-can g m str line_str ks kl rs a.1 can.1)
 
 -- or one can't
 pub record TableRefused (g : LineSource) (m : PathMap) (str line_str : TableChange) (rs : List LineReading) (r : Refusal) : Type 0 where
@@ -179,7 +219,7 @@ pub record TableRefused (g : LineSource) (m : PathMap) (str line_str : TableChan
   pub behind : List LineReading
   pub table : LineReading
   pub split : rs ≡ before ++ table ∷ behind
-  pub fails : WriteFails g m (line_place m str line_str g) (table_read g table) r
+  pub fails : TextWriteFails g m (text_place m str line_str g) (table_read g table) r
 
 abbrev tail-of : (d : List LineTable) → List LineTable → List LineTable
 tail-of d [] = d
@@ -190,7 +230,7 @@ head-of d [] = d
 head-of d (x ∷ xs) = x
 
 pub table-refused : (g : LineSource) (m : PathMap) (str line_str : TableChange) (ks kl : ℕ → Option ℕ) (rs : List LineReading) (before behind : List LineTable) (t : LineTable) (r : Refusal)
-    → TablesAgree g (new_place g ks kl) (line_place m str line_str g) rs → tables_read g rs ≡ before ++ t ∷ behind → WriteFails g m (new_place g ks kl) t r
+    → TablesAgree g (text_known g ks kl) (text_place m str line_str g) rs → tables_read g rs ≡ before ++ t ∷ behind → TextWriteFails g m (text_known g ks kl) t r
     → TableRefused g m str line_str rs r
 table-refused g m str line_str ks kl [] [] behind t r a split fails = absurd cc
 table-refused g m str line_str ks kl [] (b ∷ bs) behind t r a split fails = absurd cc
@@ -201,8 +241,8 @@ table-refused g m str line_str ks kl (x ∷ xs) [] behind t r a split fails =
       behind = xs;
       table = x;
       split = refl;
-      fails = fails-same g m (new_place g ks kl) (line_place m str line_str g) (table_read g x) r a.0
-          (subst (λ (y : LineTable). WriteFails g m (new_place g ks kl) y r) (sym here) fails);
+      fails = fails-same g m (text_known g ks kl) (text_place m str line_str g) (table_read g x) r a.0
+          (subst (λ (y : LineTable). TextWriteFails g m (text_known g ks kl) y r) (sym here) fails);
     }
 table-refused g m str line_str ks kl (x ∷ xs) (b ∷ bs) behind t r a split fails =
     let rest = table-refused g m str line_str ks kl xs bs behind t r a.1 (ap (tail-of []) split) fails in

@@ -12,22 +12,25 @@ use Rattle.dw_base.specs.LineTables.{LineTable}
 use Rattle.dw_base.specs.Paths.{PathMap}
 use Rattle.dw_base.specs.RelocationRows.{moving_sections}
 use Rattle.dw_base.specs.ViewData.{debug_data, located}
-use Rattle.dw_base.specs.WrittenLines.{new_place, written_table}
+use Rattle.dw_base.specs.TextLineChanges.{table_by_texts}
 use Rattle.dw_base.specs.declared.debug_sections.DebugSection.TheVariants.{Str, LineStr, Line}
 use Rattle.dw_base.specs.Layout.{output_limit}
 use Rattle.dw_meaning.specs.FileMeanings.{file_data}
-use Rattle.dw_meaning.specs.LineStretches.{Stretch, stretches_end, table_stretches}
+use Rattle.dw_meaning.specs.LineStretches.{Stretch, stretches_end}
+use Rattle.dw_meaning.specs.TextLineCells.{table_stretches_by_texts}
 use Rattle.dw_meaning.specs.RelocationFails.{LeftRelocationsRead}
 use Rattle.dw_meaning.proofs.FileKeptLaws.{differ, line-bytes, line-place, lines-number, name-apart, str-place, tables-place}
 use Rattle.dw_meaning.proofs.LineClearLaws.{EachClear}
 use Rattle.dw_meaning.proofs.LineHeaderLaws.{header-is}
 use Rattle.dw_meaning.proofs.LineSectionLaws.{TablesApart, no-tables}
 use Rattle.dw_meaning.proofs.LineShiftLaws.{left-clear}
-use Rattle.dw_meaning.proofs.LineStretchLaws.{table-are, texts-apart}
+use Rattle.dw_meaning.proofs.LineStretchLaws.{texts-apart}
+use Rattle.dw_meaning.proofs.TextStretchLaws.{text_table-are}
 use Rattle.dw_meaning.proofs.LineTableLaws.{header-places}
 use Rattle.dw_meaning.proofs.TableKeptLaws.{TablePlace, lies_at, nowhere}
 use Rattle.elf_relocs.specs.declared.runs.Run.{Run}
-use Rattle.dw_lines.specs.TableMoves.{PathsInOrder, new_end, offsets_from, runs_from}
+use Rattle.dw_lines.specs.NewTexts.{text_known}
+use Rattle.dw_lines.specs.TableMoves.{TextsInOrder, new_end, offsets_from, runs_from}
 use Rattle.dw_lines.specs.ViewSources.{view_source}
 use Rattle.dw_lines.specs.ViewTables.{TablesFound, tables_read}
 use Rattle.dw_lines.proofs.MoveLaws.{offsets-append, runs-append}
@@ -49,27 +52,27 @@ pub all-move : (m : PathMap) (g : LineSource) (ks kl : ℕ → Option ℕ) (p n 
     → AllMove m g ks kl p n (tables_read g rs) (starts_from n (lines_known m g ks kl (tables_read g rs)))
 all-move m g ks kl p n e [] own apart clear tables stand small = tt
 all-move m g ks kl p n e (r ∷ rs) own apart clear tables stand small =
-    let places : _ = new_place g ks kl in
+    let places : _ = text_known g ks kl in
     let texts = texts-apart g r rs apart in
     let begins : r.header.start ≡ p = (header-places g p r.header (header-is g.order g.bytes p r.header tables.0.header)).0 in
-    let ends = table-end g m (new_place g ks kl) p n r own texts clear.0 tables.0 in
-    let are = table-are g m (new_place g ks kl) p r own texts clear.0 tables.0 in
-    let next : stretches_end p (table_stretches g m (new_place g ks kl) (table_read g r)) ≡ r.header.end =
-    ap (λ (i : ℕ). stretches_end i (table_stretches g m (new_place g ks kl) (table_read g r))) (sym begins) ∙ are.ends in
-    let size = length-append (written_table g m (new_place g ks kl) (table_read g r)) (all_lines (lines_known m g ks kl (tables_read g rs))) in
-    let rest = all-move m g ks kl r.header.end (n + length (written_table g m (new_place g ks kl) (table_read g r))) e rs own (apart-behind g r rs apart) clear.1 tables.1 stand.1
+    let ends = table-end g m (text_known g ks kl) p n r own texts clear.0 tables.0 in
+    let are = text_table-are g m (text_known g ks kl) p r own texts clear.0 tables.0 in
+    let next : stretches_end p (table_stretches_by_texts g m (text_known g ks kl) (table_read g r)) ≡ r.header.end =
+    ap (λ (i : ℕ). stretches_end i (table_stretches_by_texts g m (text_known g ks kl) (table_read g r))) (sym begins) ∙ are.ends in
+    let size = length-append (table_by_texts g m (text_known g ks kl) (table_read g r)) (all_lines (lines_known m g ks kl (tables_read g rs))) in
+    let rest = all-move m g ks kl r.header.end (n + length (table_by_texts g m (text_known g ks kl) (table_read g r))) e rs own (apart-behind g r rs apart) clear.1 tables.1 stand.1
     (omega (arith, size, small)) in (
       record {
         stands = stand.0;
         begins = begins;
         start_is = refl;
-        order = clear-order g m (new_place g ks kl) p r texts clear.0 tables.0;
+        order = clear-order g m (text_known g ks kl) p r texts clear.0 tables.0;
         fits = omega (arith, ends, size, small);
       },
-      subst (λ (i : ℕ). AllMove m g ks kl i (new_end n (table_stretches g m (new_place g ks kl) (table_read g r))) (tables_read g rs)
-          (starts_from (n + length (written_table g m (new_place g ks kl) (table_read g r))) (lines_known m g ks kl (tables_read g rs)))) (sym next)
+      subst (λ (i : ℕ). AllMove m g ks kl i (new_end n (table_stretches_by_texts g m (text_known g ks kl) (table_read g r))) (tables_read g rs)
+          (starts_from (n + length (table_by_texts g m (text_known g ks kl) (table_read g r))) (lines_known m g ks kl (tables_read g rs)))) (sym next)
           (subst (λ (j : ℕ). AllMove m g ks kl r.header.end j (tables_read g rs)
-          (starts_from (n + length (written_table g m (new_place g ks kl) (table_read g r))) (lines_known m g ks kl (tables_read g rs)))) (sym ends) rest),
+          (starts_from (n + length (table_by_texts g m (text_known g ks kl) (table_read g r))) (lines_known m g ks kl (tables_read g rs)))) (sym ends) rest),
     )
 
 -- the section of line tables of a file is none of those of texts
@@ -125,7 +128,7 @@ view-move m b v i ks kl ts ns file left found starts e =
 record TableHere (m : PathMap) (g : LineSource) (ks kl : ℕ → Option ℕ) (place new : ℕ) (t : LineTable) (ts : List LineTable) (ns : List ℕ) (i : ℕ) : Type 0 where
   inside : i < length ns
   moves : TableMoves m g ks kl place new (get_or ns i 0) t
-  rest : AllMove m g ks kl (stretches_end place (table_stretches g m (new_place g ks kl) t)) (new_end new (table_stretches g m (new_place g ks kl) t)) ts (drop (suc i) ns)
+  rest : AllMove m g ks kl (stretches_end place (table_stretches_by_texts g m (text_known g ks kl) t)) (new_end new (table_stretches_by_texts g m (text_known g ks kl) t)) ts (drop (suc i) ns)
 
 table-here : (m : PathMap) (g : LineSource) (ks kl : ℕ → Option ℕ) (place new : ℕ) (t : LineTable) (ts : List LineTable) (ns : List ℕ) (i : ℕ)
     → AllMove m g ks kl place new (t ∷ ts) (drop i ns) → TableHere m g ks kl place new t ts ns i
@@ -175,28 +178,28 @@ pub pass-stands : (m : PathMap) (g : LineSource) (ks kl : ℕ → Option ℕ) (t
 pass-stands m g ks kl ts ns runs offsets i t p lt is = (here m g ks kl ts ns runs offsets i t p lt is).moves.stands
 
 pub pass-order : (m : PathMap) (g : LineSource) (ks kl : ℕ → Option ℕ) (ts : List LineTable) (ns : List ℕ) (runs : List Run) (offsets : List NewFieldOffset) (i : ℕ) (t : LineTable)
-    → MovePass m g ks kl ts ns runs offsets i → i < length ts → t ≡ get_or ts i t → PathsInOrder g m (new_place g ks kl) t
+    → MovePass m g ks kl ts ns runs offsets i → i < length ts → t ≡ get_or ts i t → TextsInOrder g m (text_known g ks kl) t
 pass-order m g ks kl ts ns runs offsets i t p lt is = (here m g ks kl ts ns runs offsets i t p lt is).moves.order
 
 -- one table more
 pub pass-more : (m : PathMap) (g : LineSource) (ks kl : ℕ → Option ℕ) (ts : List LineTable) (ns : List ℕ) (runs more : List Run) (offsets fields : List NewFieldOffset) (i n : ℕ) (t : LineTable)
     → MovePass m g ks kl ts ns runs offsets i → i < length ts → t ≡ get_or ts i t → n ≡ get_or ns i 0
-    → more ≡ runs ++ runs_from t.start n (table_stretches g m (new_place g ks kl) t) → fields ≡ offsets ++ offsets_from t.start (table_stretches g m (new_place g ks kl) t)
+    → more ≡ runs ++ runs_from t.start n (table_stretches_by_texts g m (text_known g ks kl) t) → fields ≡ offsets ++ offsets_from t.start (table_stretches_by_texts g m (text_known g ks kl) t)
     → MovePass m g ks kl ts ns more fields (i + 1)
 pass-more m g ks kl ts ns runs more offsets fields i n t p lt is start e f =
     let h = here m g ks kl ts ns runs offsets i t p lt is in
-    let xs : List Stretch = table_stretches g m (new_place g ks kl) t in
+    let xs : List Stretch = table_stretches_by_texts g m (text_known g ks kl) t in
     let rest : List Stretch = stretches_known m g ks kl (drop (i + 1) ts) in
     let cut : drop i ts ≡ t ∷ drop (i + 1) ts = front ts t i lt is in
     let next : suc i ≡ i + 1 = omega arith in
-    let own : more ≡ runs ++ runs_from p.place p.new (table_stretches g m (new_place g ks kl) t) =
-    e ∙ ap (λ (k : ℕ). runs ++ runs_from k n (table_stretches g m (new_place g ks kl) t)) h.moves.begins
-    ∙ ap (λ (k : ℕ). runs ++ runs_from p.place k (table_stretches g m (new_place g ks kl) t)) (start ∙ h.moves.start_is) in
-    let said : fields ≡ offsets ++ offsets_from p.place (table_stretches g m (new_place g ks kl) t) =
-    f ∙ ap (λ (k : ℕ). offsets ++ offsets_from k (table_stretches g m (new_place g ks kl) t)) h.moves.begins in
+    let own : more ≡ runs ++ runs_from p.place p.new (table_stretches_by_texts g m (text_known g ks kl) t) =
+    e ∙ ap (λ (k : ℕ). runs ++ runs_from k n (table_stretches_by_texts g m (text_known g ks kl) t)) h.moves.begins
+    ∙ ap (λ (k : ℕ). runs ++ runs_from p.place k (table_stretches_by_texts g m (text_known g ks kl) t)) (start ∙ h.moves.start_is) in
+    let said : fields ≡ offsets ++ offsets_from p.place (table_stretches_by_texts g m (text_known g ks kl) t) =
+    f ∙ ap (λ (k : ℕ). offsets ++ offsets_from k (table_stretches_by_texts g m (text_known g ks kl) t)) h.moves.begins in
     record {
-      place = stretches_end p.place (table_stretches g m (new_place g ks kl) t);
-      new = new_end p.new (table_stretches g m (new_place g ks kl) t);
+      place = stretches_end p.place (table_stretches_by_texts g m (text_known g ks kl) t);
+      new = new_end p.new (table_stretches_by_texts g m (text_known g ks kl) t);
       runs_are = ap (λ (l : List Run). l ++ runs_from (stretches_end p.place xs) (new_end p.new xs) rest) own
           ∙ append_assoc runs (runs_from p.place p.new xs) (runs_from (stretches_end p.place xs) (new_end p.new xs) rest)
           ∙ ap (λ (l : List Run). runs ++ l) (sym (runs-append p.place p.new xs rest))
@@ -205,7 +208,7 @@ pass-more m g ks kl ts ns runs more offsets fields i n t p lt is start e f =
           ∙ append_assoc offsets (offsets_from p.place xs) (offsets_from (stretches_end p.place xs) rest)
           ∙ ap (λ (l : List NewFieldOffset). offsets ++ l) (sym (offsets-append p.place xs rest))
           ∙ ap (λ (us : List LineTable). offsets ++ offsets_from p.place (stretches_known m g ks kl us)) (sym cut) ∙ p.offsets_are;
-      moves = subst (λ (k : ℕ). AllMove m g ks kl (stretches_end p.place (table_stretches g m (new_place g ks kl) t)) (new_end p.new (table_stretches g m (new_place g ks kl) t))
+      moves = subst (λ (k : ℕ). AllMove m g ks kl (stretches_end p.place (table_stretches_by_texts g m (text_known g ks kl) t)) (new_end p.new (table_stretches_by_texts g m (text_known g ks kl) t))
           (drop (i + 1) ts) (drop k ns)) next h.rest;
     }
 
@@ -220,25 +223,25 @@ pass-offsets m g ks kl ts ns runs offsets i end p =
     sym (append-nil offsets) ∙ ap (λ (us : List LineTable). offsets ++ offsets_from p.place (stretches_known m g ks kl us)) (sym (drop_all i ts end)) ∙ p.offsets_are
 
 -- a table that stands in a section of a number, by its own number
-pub order-own : (m : PathMap) (v : View) (i : ℕ) (ks kl : ℕ → Option ℕ) (t : LineTable) → StandsIn (view_source v i) t → PathsInOrder (view_source v i) m (new_place (view_source v i) ks kl) t
-    → PathsInOrder (view_source v t.section) m (new_place (view_source v t.section) ks kl) t
-order-own m v i ks kl t s h = subst (λ (n : ℕ). PathsInOrder (view_source v n) m (new_place (view_source v n) ks kl) t) (sym s.section) h
+pub order-own : (m : PathMap) (v : View) (i : ℕ) (ks kl : ℕ → Option ℕ) (t : LineTable) → StandsIn (view_source v i) t → TextsInOrder (view_source v i) m (text_known (view_source v i) ks kl) t
+    → TextsInOrder (view_source v t.section) m (text_known (view_source v t.section) ks kl) t
+order-own m v i ks kl t s h = subst (λ (n : ℕ). TextsInOrder (view_source v n) m (text_known (view_source v n) ks kl) t) (sym s.section) h
 
 pub fits-own : (m : PathMap) (v : View) (i new : ℕ) (ks kl : ℕ → Option ℕ) (t : LineTable) → StandsIn (view_source v i) t
-    → new_end new (table_stretches (view_source v i) m (new_place (view_source v i) ks kl) t) < 2 ^ 63
-    → new_end new (table_stretches (view_source v t.section) m (new_place (view_source v t.section) ks kl) t) < 2 ^ 63
-fits-own m v i new ks kl t s h = subst (λ (n : ℕ). new_end new (table_stretches (view_source v n) m (new_place (view_source v n) ks kl) t) < 2 ^ 63) (sym s.section) h
+    → new_end new (table_stretches_by_texts (view_source v i) m (text_known (view_source v i) ks kl) t) < 2 ^ 63
+    → new_end new (table_stretches_by_texts (view_source v t.section) m (text_known (view_source v t.section) ks kl) t) < 2 ^ 63
+fits-own m v i new ks kl t s h = subst (λ (n : ℕ). new_end new (table_stretches_by_texts (view_source v n) m (text_known (view_source v n) ks kl) t) < 2 ^ 63) (sym s.section) h
 
 pub runs-there : (m : PathMap) (v : View) (i new : ℕ) (ks kl : ℕ → Option ℕ) (t : LineTable) (runs more : List Run) → StandsIn (view_source v i) t
-    → more ≡ runs ++ runs_from t.start new (table_stretches (view_source v t.section) m (new_place (view_source v t.section) ks kl) t)
-    → more ≡ runs ++ runs_from t.start new (table_stretches (view_source v i) m (new_place (view_source v i) ks kl) t)
+    → more ≡ runs ++ runs_from t.start new (table_stretches_by_texts (view_source v t.section) m (text_known (view_source v t.section) ks kl) t)
+    → more ≡ runs ++ runs_from t.start new (table_stretches_by_texts (view_source v i) m (text_known (view_source v i) ks kl) t)
 runs-there m v i new ks kl t runs more s e =
-    e ∙ ap (λ (n : ℕ). runs ++ runs_from t.start new (table_stretches (view_source v n) m (new_place (view_source v n) ks kl) t)) s.section
+    e ∙ ap (λ (n : ℕ). runs ++ runs_from t.start new (table_stretches_by_texts (view_source v n) m (text_known (view_source v n) ks kl) t)) s.section
 
 pub offsets-there : (m : PathMap) (v : View) (i : ℕ) (ks kl : ℕ → Option ℕ) (t : LineTable) (offsets more : List NewFieldOffset) → StandsIn (view_source v i) t
-    → more ≡ offsets ++ offsets_from t.start (table_stretches (view_source v t.section) m (new_place (view_source v t.section) ks kl) t)
-    → more ≡ offsets ++ offsets_from t.start (table_stretches (view_source v i) m (new_place (view_source v i) ks kl) t)
+    → more ≡ offsets ++ offsets_from t.start (table_stretches_by_texts (view_source v t.section) m (text_known (view_source v t.section) ks kl) t)
+    → more ≡ offsets ++ offsets_from t.start (table_stretches_by_texts (view_source v i) m (text_known (view_source v i) ks kl) t)
 offsets-there m v i ks kl t offsets more s e =
-    e ∙ ap (λ (n : ℕ). offsets ++ offsets_from t.start (table_stretches (view_source v n) m (new_place (view_source v n) ks kl) t)) s.section
+    e ∙ ap (λ (n : ℕ). offsets ++ offsets_from t.start (table_stretches_by_texts (view_source v n) m (text_known (view_source v n) ks kl) t)) s.section
 
 pub ruleset table_rules = (stands-there, stands-own, order-own, fits-own, runs-there, offsets-there)

@@ -19,7 +19,7 @@ use Rattle.dw_base.specs.RelocationRows.{moving_sections}
 use Rattle.dw_base.specs.RelocationSectionFails.{RelocationSectionsRead, TableReads, is_read_section}
 use Rattle.dw_base.specs.SectionRelocations.{RelocationSource, cells_from, relocation_section, relocation_source, relocations_by, relocations_in, relocations_of, section_cells}
 use Rattle.dw_base.specs.ViewData.{cells_located, debug_data}
-use Rattle.dw_base.specs.WrittenLines.{new_place, written_table}
+use Rattle.dw_base.specs.TextLineChanges.{table_by_texts}
 use Rattle.dw_base.specs.declared.debug_sections.DebugSection.{DebugSection}
 use Rattle.dw_base.specs.declared.debug_sections.DebugSection.TheVariants.{Line}
 use Rattle.dw_base.specs.declared.fault.Fault.{Fault}
@@ -29,18 +29,19 @@ use Rattle.dw_base.proofs.UnitEditLaws.{length-bytes_of}
 use Rattle.dw_base.proofs.ViewCellLaws.{view_cells-view_of}
 use Rattle.dw_meaning.specs.DataOutput.{Body}
 use Rattle.dw_meaning.specs.FileMeanings.{file_data}
-use Rattle.dw_meaning.specs.LineCells.{all_written_cells, written_cells}
 use Rattle.dw_meaning.specs.LineStretches.{Stretch, stretches_end}
+use Rattle.dw_meaning.specs.TextLineCells.{all_cells_by_texts, table_cells_by_texts}
 use Rattle.dw_meaning.specs.RelocationFails.{LeftRelocationsRead}
 use Rattle.dw_meaning.proofs.FileBackLaws.{SectionBack}
-use Rattle.dw_meaning.proofs.LineCellLaws.{written-bytes}
 use Rattle.dw_meaning.proofs.LineShiftLaws.{left-clear}
-use Rattle.dw_meaning.proofs.LineStretchLaws.{section-are}
+use Rattle.dw_meaning.proofs.TextCellLaws.{text_table-bytes}
+use Rattle.dw_meaning.proofs.TextStretchLaws.{text_section-are}
 use Rattle.dw_meaning.proofs.TableKeptLaws.{FoundAt, drop-at, found-named, sections-self}
 use Rattle.dw_meaning.proofs.TableMoveLaws.{reads-apart, section-source}
 use Rattle.dw_patch.specs.RecordMoves.{PlacesFit, moved_table}
 use Rattle.elf_layout.specs.declared.patch.Patch.{Patch}
 use Rattle.dw_view.specs.Firsts.{held_source}
+use Rattle.dw_lines.specs.NewTexts.{text_known}
 use Rattle.dw_lines.specs.TableMoves.{offsets_from, runs_from}
 use Rattle.dw_lines.specs.ViewSources.{view_source}
 use Rattle.dw_lines.specs.ViewTables.{TablesFound, tables_read}
@@ -166,14 +167,14 @@ line-cells b i k e is = view_cells-view_of b i (line-found b i e).within ∙ sec
 
 -- as many bytes as the new tables have
 pub known-length : (m : PathMap) (g : LineSource) (ks kl : ℕ → Option ℕ) (rs : List LineReading) → bytes_of g.cells ≡ g.bytes
-    → length (all_written_cells g m (new_place g ks kl) rs) ≡ length (all_lines (lines_known m g ks kl (tables_read g rs)))
+    → length (all_cells_by_texts g m (text_known g ks kl) rs) ≡ length (all_lines (lines_known m g ks kl (tables_read g rs)))
 known-length m g ks kl [] own = refl
 known-length m g ks kl (r ∷ rs) own =
-    let here : length (written_cells g m (new_place g ks kl) (table_read g r)) ≡ length (written_table g m (new_place g ks kl) (table_read g r)) =
-    sym (length-bytes_of (written_cells g m (new_place g ks kl) (table_read g r))) ∙ ap (λ (x : List ℕ). length x) (written-bytes g m (new_place g ks kl) (table_read g r) own) in
+    let here : length (table_cells_by_texts g m (text_known g ks kl) (table_read g r)) ≡ length (table_by_texts g m (text_known g ks kl) (table_read g r)) =
+    sym (length-bytes_of (table_cells_by_texts g m (text_known g ks kl) (table_read g r))) ∙ ap (λ (x : List ℕ). length x) (text_table-bytes g m (text_known g ks kl) (table_read g r) own) in
     let rest = known-length m g ks kl rs own in
-    let old = length-append (written_cells g m (new_place g ks kl) (table_read g r)) (all_written_cells g m (new_place g ks kl) rs) in
-    let new = length-append (written_table g m (new_place g ks kl) (table_read g r)) (all_lines (lines_known m g ks kl (tables_read g rs))) in
+    let old = length-append (table_cells_by_texts g m (text_known g ks kl) (table_read g r)) (all_cells_by_texts g m (text_known g ks kl) rs) in
+    let new = length-append (table_by_texts g m (text_known g ks kl) (table_read g r)) (all_lines (lines_known m g ks kl (tables_read g rs))) in
     omega (arith, here, rest, old, new)
 
 -- what the file and its tables are
@@ -187,11 +188,11 @@ pub file-carried : (m : PathMap) (b : List ℕ) (ks kl : ℕ → Option ℕ) (rs
     → AreTables (line_source (file_data b)) rs
     → Carried (line_runs m (line_source (file_data b)) ks kl (tables_read (line_source (file_data b)) rs))
     (said_fields (line_offsets m (line_source (file_data b)) ks kl (tables_read (line_source (file_data b)) rs))) 0 0 (line_source (file_data b)).cells
-    (all_written_cells (line_source (file_data b)) m (new_place (line_source (file_data b)) ks kl) rs)
+    (all_cells_by_texts (line_source (file_data b)) m (text_known (line_source (file_data b)) ks kl) rs)
 file-carried m b ks kl rs left reads =
     let g : LineSource = line_source (file_data b) in
-    subst (λ (xs : List Stretch). Carried (runs_from 0 0 xs) (said_fields (offsets_from 0 xs)) 0 0 g.cells (all_written_cells g m (new_place g ks kl) rs)) (sym (stretches-read m g ks kl rs))
-    (section-carried g m (new_place g ks kl) rs refl (file-apart b rs reads) (left-clear (file_data b) (moving_sections (view_of b)) rs left reads) reads)
+    subst (λ (xs : List Stretch). Carried (runs_from 0 0 xs) (said_fields (offsets_from 0 xs)) 0 0 g.cells (all_cells_by_texts g m (text_known g ks kl) rs)) (sym (stretches-read m g ks kl rs))
+    (section-carried g m (text_known g ks kl) rs refl (file-apart b rs reads) (left-clear (file_data b) (moving_sections (view_of b)) rs left reads) reads)
 
 file-fit : (m : PathMap) (b : List ℕ) (i : ℕ) (ks kl : ℕ → Option ℕ) (ts : List LineTable) (ns : List ℕ) → LinesOf m b ks kl ts ns → section_named (view_of b) (name_of Line) ≡ Some i
     → LinesFit b m (line_source (file_data b)) ks kl ts i
@@ -207,9 +208,9 @@ file-fit m b i ks kl ts ns h e = record {
       let own : (line_source (file_data b)).cells ≡ cells_from (relocations_in (relocation_source (contents_of b) b k)) 0 (contents_of b i) =
       ap (λ (s : LineSource). s.cells) (source-is (view_of b) i (sym e)) ∙ line-cells b i k e is in
       subst (λ (us : List LineTable). PlacesFit (relocation_source (contents_of b) b k) (line_runs m (line_source (file_data b)) ks kl us)) (sym h.found.is)
-      (carried-fit z (contents_of b i) (all_written_cells g m (new_place g ks kl) rs) (line_runs m g ks kl (tables_read g rs)) (said_fields (line_offsets m g ks kl (tables_read g rs)))
+      (carried-fit z (contents_of b i) (all_cells_by_texts g m (text_known g ks kl) rs) (line_runs m g ks kl (tables_read g rs)) (said_fields (line_offsets m g ks kl (tables_read g rs)))
       (reads-apart (contents_of b) b i k (line-tables b i k e h.relocations is))
-      (subst (λ (old : List Cell). Carried (line_runs m g ks kl (tables_read g rs)) (said_fields (line_offsets m g ks kl (tables_read g rs))) 0 0 old (all_written_cells g m (new_place g ks kl) rs)) own
+      (subst (λ (old : List Cell). Carried (line_runs m g ks kl (tables_read g rs)) (said_fields (line_offsets m g ks kl (tables_read g rs))) 0 0 old (all_cells_by_texts g m (text_known g ks kl) rs)) own
       (file-carried m b ks kl h.found.readings h.left h.found.reads)) (omega (arith, size, small)));
 }
 
@@ -218,7 +219,7 @@ file-inside : (m : PathMap) (b : List ℕ) (ks kl : ℕ → Option ℕ) (ts : Li
 file-inside m b ks kl ts left found =
     let g : LineSource = line_source (file_data b) in
     let rs : List LineReading = found.readings in
-    let are = section-are g m (new_place g ks kl) found.readings refl (file-apart b found.readings found.reads)
+    let are = text_section-are g m (text_known g ks kl) found.readings refl (file-apart b found.readings found.reads)
     (left-clear (file_data b) (moving_sections (view_of b)) found.readings left found.reads) found.reads in
     let ends : stretches_end 0 (stretches_known m g ks kl ts) ≡ length g.cells =
     ap (λ (us : List LineTable). stretches_end 0 (stretches_known m g ks kl us)) found.is ∙ ap (λ (xs : List Stretch). stretches_end 0 xs) (stretches-read m g ks kl rs) ∙ are.ends in

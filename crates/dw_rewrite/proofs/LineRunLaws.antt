@@ -14,19 +14,20 @@ use Rattle.dw_base.specs.Paths.{PathMap}
 use Rattle.dw_base.specs.RelocationBodies.{relocation_body}
 use Rattle.dw_base.specs.RelocationFields.{relocation_at}
 use Rattle.dw_base.specs.SectionRelocations.{RelocationSource, cells_from, relocations_in}
-use Rattle.dw_base.specs.WrittenLines.{behind_lengths, cells_part, new_place, paths_of}
-use Rattle.dw_base.specs.declared.line_tables.TextPlace.{TextPlace}
+use Rattle.dw_base.specs.WrittenLines.{behind_lengths, cells_part}
+use Rattle.dw_base.specs.declared.line_tables.LineText.{LineText}
 use Rattle.dw_base.specs.declared.shared.Order.{Order}
 use Rattle.dw_base.specs.declared.shared.Width.{Width}
 use Rattle.dw_base.specs.declared.shared.Width.TheVariants.{W32, W64}
 use Rattle.dw_base.proofs.RelocationFieldLaws.{length-cells_at}
-use Rattle.dw_meaning.specs.LineCells.{all_written_cells}
-use Rattle.dw_meaning.specs.LineStretches.{PlacedStretch, Stretch, all_path_stretches, header_stretches, inline_stretch, kept_stretch, line_stretches, offset_stretch, offset_stretches, other_stretch, path_stretches, stretch_after, stretch_size, stretches_after, stretches_between, stretches_end, table_stretches}
+use Rattle.dw_meaning.specs.LineStretches.{PlacedStretch, Stretch, inline_stretch, kept_stretch, offset_stretch, offset_stretches, other_stretch, stretch_after, stretch_size, stretches_after, stretches_between, stretches_end}
+use Rattle.dw_meaning.specs.TextLineCells.{all_cells_by_texts, all_stretches_by_texts, stretches_by_texts, table_stretches_by_texts, text_stretches, texts_stretches}
 use Rattle.dw_meaning.proofs.ClearLaws.{Clear, relocation-behind, relocation-taken}
 use Rattle.dw_meaning.proofs.LineCellLaws.{cells-split}
 use Rattle.dw_meaning.proofs.LineClearLaws.{EachClear}
 use Rattle.dw_meaning.proofs.LineSectionLaws.{TablesApart}
-use Rattle.dw_meaning.proofs.LineStretchLaws.{StretchIs, StretchesAre, section-are}
+use Rattle.dw_meaning.proofs.LineStretchLaws.{StretchIs, StretchesAre}
+use Rattle.dw_meaning.proofs.TextStretchLaws.{text_section-are}
 use Rattle.dw_meaning.proofs.RecordMoveLaws.{RecordsApart}
 use Rattle.elf_relocs.specs.Runs.{place_by}
 use Rattle.elf_relocs.specs.declared.runs.Run.{Run}
@@ -35,6 +36,7 @@ use Rattle.elf_relocs.proofs.RunPlaceLaws.{BeginFrom, place-here, rise-begin}
 use Rattle.dw_patch.specs.RecordMoves.{moved_table, patch_for}
 use Rattle.elf_layout.specs.declared.patch.Patch.{Patch}
 use Rattle.dw_patch.proofs.SaidCellLaws.{NoneBegin, said-kept, said-put}
+use Rattle.dw_lines.specs.NewTexts.{text_known}
 use Rattle.dw_lines.specs.TableMoves.{kept_run, offsets_from, runs_from, stretch_new, stretch_offset, stretch_run}
 use Rattle.dw_lines.specs.ViewTables.{tables_read}
 use Rattle.dw_lines.proofs.MoveLaws.{runs-order, stretch-length}
@@ -200,28 +202,28 @@ stretches-carried order cells runs before fields fs a b (x ∷ xs) run field low
     (stretches_after order cells (a + stretch_size x) xs)) new_size rest)))
 
 -- those of the whole section
-pub section-carried : (g : LineSource) (m : PathMap) (places : TextPlace → Option ℕ) (rs : List LineReading) → bytes_of g.cells ≡ g.bytes → TablesApart g rs → EachClear g rs
-    → AreTables g rs → Carried (runs_from 0 0 (line_stretches g m places rs)) (said_fields (offsets_from 0 (line_stretches g m places rs))) 0 0 g.cells (all_written_cells g m places rs)
+pub section-carried : (g : LineSource) (m : PathMap) (places : LineText → Option ℕ) (rs : List LineReading) → bytes_of g.cells ≡ g.bytes → TablesApart g rs → EachClear g rs
+    → AreTables g rs → Carried (runs_from 0 0 (all_stretches_by_texts g m places rs)) (said_fields (offsets_from 0 (all_stretches_by_texts g m places rs))) 0 0 g.cells (all_cells_by_texts g m places rs)
 section-carried g m places rs own apart clear tables =
-    let s = section-are g m places rs own apart clear tables in
+    let s = text_section-are g m places rs own apart clear tables in
     let none : length g.cells - 0 ≡ length g.cells = omega arith in
     let whole : cells_part g.cells 0 (length g.cells) ≡ g.cells = ap (λ (n : ℕ). take n g.cells) none ∙ take_all (length g.cells) g.cells (omega arith) in
-    let ends : stretches_end 0 (line_stretches g m places rs) ≤ length g.cells = (let e = s.ends in omega (arith, e)) in
-    subst (λ (old : List Cell). Carried (runs_from 0 0 (line_stretches g m places rs)) (said_fields (offsets_from 0 (line_stretches g m places rs))) 0 0 old (all_written_cells g m places rs))
+    let ends : stretches_end 0 (all_stretches_by_texts g m places rs) ≤ length g.cells = (let e = s.ends in omega (arith, e)) in
+    subst (λ (old : List Cell). Carried (runs_from 0 0 (all_stretches_by_texts g m places rs)) (said_fields (offsets_from 0 (all_stretches_by_texts g m places rs))) 0 0 old (all_cells_by_texts g m places rs))
     (ap (cells_part g.cells 0) s.ends ∙ whole)
-    (subst (λ (new : List Cell). Carried (runs_from 0 0 (line_stretches g m places rs)) (said_fields (offsets_from 0 (line_stretches g m places rs))) 0 0
-    (cells_part g.cells 0 (stretches_end 0 (line_stretches g m places rs))) new) s.cells
-    (stretches-carried g.order g.cells (runs_from 0 0 (line_stretches g m places rs)) [] (said_fields (offsets_from 0 (line_stretches g m places rs))) [] 0 0 (line_stretches g m places rs)
+    (subst (λ (new : List Cell). Carried (runs_from 0 0 (all_stretches_by_texts g m places rs)) (said_fields (offsets_from 0 (all_stretches_by_texts g m places rs))) 0 0
+    (cells_part g.cells 0 (stretches_end 0 (all_stretches_by_texts g m places rs))) new) s.cells
+    (stretches-carried g.order g.cells (runs_from 0 0 (all_stretches_by_texts g m places rs)) [] (said_fields (offsets_from 0 (all_stretches_by_texts g m places rs))) [] 0 0 (all_stretches_by_texts g m places rs)
     refl refl tt s.are ends))
 
 -- so the records that are moved by them are those of the new section
-pub lines-table : (z : RelocationSource) (bytes : List ℕ) (g : LineSource) (m : PathMap) (places : TextPlace → Option ℕ) (rs : List LineReading)
+pub lines-table : (z : RelocationSource) (bytes : List ℕ) (g : LineSource) (m : PathMap) (places : LineText → Option ℕ) (rs : List LineReading)
     → g.cells ≡ cells_from (relocations_in z) 0 bytes → RecordsApart z bytes → bytes_of g.cells ≡ g.bytes → TablesApart g rs → EachClear g rs → AreTables g rs
-    → moved_table z (runs_from 0 0 (line_stretches g m places rs)) (said_fields (offsets_from 0 (line_stretches g m places rs)))
-    ≡ relocation_body z (cells_from (relocations_in z) 0 bytes) (all_written_cells g m places rs)
+    → moved_table z (runs_from 0 0 (all_stretches_by_texts g m places rs)) (said_fields (offsets_from 0 (all_stretches_by_texts g m places rs)))
+    ≡ relocation_body z (cells_from (relocations_in z) 0 bytes) (all_cells_by_texts g m places rs)
 lines-table z bytes g m places rs is records own apart clear tables =
-    carried-table z bytes (all_written_cells g m places rs) (runs_from 0 0 (line_stretches g m places rs)) (said_fields (offsets_from 0 (line_stretches g m places rs))) records
-    (subst (λ (old : List Cell). Carried (runs_from 0 0 (line_stretches g m places rs)) (said_fields (offsets_from 0 (line_stretches g m places rs))) 0 0 old (all_written_cells g m places rs)) is
+    carried-table z bytes (all_cells_by_texts g m places rs) (runs_from 0 0 (all_stretches_by_texts g m places rs)) (said_fields (offsets_from 0 (all_stretches_by_texts g m places rs))) records
+    (subst (λ (old : List Cell). Carried (runs_from 0 0 (all_stretches_by_texts g m places rs)) (said_fields (offsets_from 0 (all_stretches_by_texts g m places rs))) 0 0 old (all_cells_by_texts g m places rs)) is
     (section-carried g m places rs own apart clear tables))
 
 -- the fields rise, so each is added where none begins
@@ -286,36 +288,39 @@ width-sized : (w : Width) → (width_size w ≡ 4) ⊎ (width_size w ≡ 8)
 width-sized W32 = inl refl
 width-sized W64 = inr refl
 
-path-sized : (g : LineSource) (m : PathMap) (places : TextPlace → Option ℕ) (w : Width) (x : TextPlace) → AllSizedPlaced (path_stretches g m places w x)
-path-sized g m places w x = by_section (x.section == g.number)
+place-sized : (w : Width) (field : ℕ) (o : Option ℕ) → AllSizedPlaced (offset_stretches w field o)
+place-sized w field None = tt
+place-sized w field (Some to) = (width-sized w, tt)
+
+text-sized : (g : LineSource) (m : PathMap) (places : LineText → Option ℕ) (w : Width) (x : LineText) → AllSizedPlaced (text_stretches g m places w x)
+text-sized g m places w x = by_path x.path (x.place.section == g.number)
   where
-    by_place : (o : Option ℕ) → AllSizedPlaced (offset_stretches w x.field o)
-    by_place None = tt
-    by_place (Some to) = (width-sized w, tt)
+    by_path : (b t : Bool) → AllSizedPlaced (if b then (if t then inline_stretch m g.cells x.place ∷ [] else offset_stretches w x.place.field (places (record { place = x.place; path = true })))
+        else (if t then [] else offset_stretches w x.place.field (places x)))
+    by_path true true = (tt, tt)
+    by_path true false = place-sized w x.place.field (places (record { place = x.place; path = true }))
+    by_path false true = tt
+    by_path false false = place-sized w x.place.field (places x)
 
-    by_section : (b : Bool) → AllSizedPlaced (if b then inline_stretch m g.cells x ∷ [] else offset_stretches w x.field (places x))
-    by_section true = (tt, tt)
-    by_section false = by_place (places x)
-
-paths-sized : (g : LineSource) (m : PathMap) (places : TextPlace → Option ℕ) (w : Width) (xs : List TextPlace) → AllSizedPlaced (all_path_stretches g m places w xs)
-paths-sized g m places w [] = tt
-paths-sized g m places w (x ∷ xs) =
-    placed-both (path_stretches g m places w x) (all_path_stretches g m places w xs) (path-sized g m places w x) (paths-sized g m places w xs)
+texts-sized : (g : LineSource) (m : PathMap) (places : LineText → Option ℕ) (w : Width) (xs : List LineText) → AllSizedPlaced (texts_stretches g m places w xs)
+texts-sized g m places w [] = tt
+texts-sized g m places w (x ∷ xs) =
+    placed-both (text_stretches g m places w x) (texts_stretches g m places w xs) (text-sized g m places w x) (texts-sized g m places w xs)
 
 between-sized : (from end : ℕ) (cs : List PlacedStretch) → AllSizedPlaced cs → AllSizedStretches (stretches_between from end cs)
 between-sized from end [] h = (tt, tt)
 between-sized from end (c ∷ cs) h = (tt, (h.0, between-sized (c.at + stretch_size c.stretch) end cs h.1))
 
-table-sized : (g : LineSource) (m : PathMap) (places : TextPlace → Option ℕ) (t : LineTable) → AllSizedStretches (table_stretches g m places t)
-unfolding table_stretches
+table-sized : (g : LineSource) (m : PathMap) (places : LineText → Option ℕ) (t : LineTable) → AllSizedStretches (table_stretches_by_texts g m places t)
+unfolding table_stretches_by_texts
 table-sized g m places t = (
   tt,
   (
     tt,
     (
       tt,
-      stretches-both (header_stretches g m places t) (kept_stretch (t.end - t.program) ∷ [])
-          (between-sized (behind_lengths t.start t.width t.version) t.program (all_path_stretches g m places t.width (paths_of t)) (paths-sized g m places t.width (paths_of t))) (tt, tt),
+      stretches-both (stretches_by_texts g m places t) (kept_stretch (t.end - t.program) ∷ [])
+          (between-sized (behind_lengths t.start t.width t.version) t.program (texts_stretches g m places t.width t.texts) (texts-sized g m places t.width t.texts)) (tt, tt),
     ),
   ),
 )
@@ -323,7 +328,7 @@ table-sized g m places t = (
 lines-sized : (m : PathMap) (g : LineSource) (ks kl : ℕ → Option ℕ) (ts : List LineTable) → AllSizedStretches (stretches_known m g ks kl ts)
 lines-sized m g ks kl [] = tt
 lines-sized m g ks kl (t ∷ ts) =
-    stretches-both (table_stretches g m (new_place g ks kl) t) (stretches_known m g ks kl ts) (table-sized g m (new_place g ks kl) t) (lines-sized m g ks kl ts)
+    stretches-both (table_stretches_by_texts g m (text_known g ks kl) t) (stretches_known m g ks kl ts) (table-sized g m (text_known g ks kl) t) (lines-sized m g ks kl ts)
 
 stretches-sized : (a : ℕ) (xs : List Stretch) → AllSizedStretches xs → OffsetsSized (offsets_from a xs)
 stretches-sized a [] h = tt
@@ -336,6 +341,6 @@ pub offsets-sized : (m : PathMap) (g : LineSource) (ks kl : ℕ → Option ℕ) 
 offsets-sized m g ks kl ts = stretches-sized 0 (stretches_known m g ks kl ts) (lines-sized m g ks kl ts)
 
 -- what tables that were read become
-pub stretches-read : (m : PathMap) (g : LineSource) (ks kl : ℕ → Option ℕ) (rs : List LineReading) → stretches_known m g ks kl (tables_read g rs) ≡ line_stretches g m (new_place g ks kl) rs
+pub stretches-read : (m : PathMap) (g : LineSource) (ks kl : ℕ → Option ℕ) (rs : List LineReading) → stretches_known m g ks kl (tables_read g rs) ≡ all_stretches_by_texts g m (text_known g ks kl) rs
 stretches-read m g ks kl [] = refl
-stretches-read m g ks kl (r ∷ rs) = ap (λ (xs : List Stretch). table_stretches g m (new_place g ks kl) (table_read g r) ++ xs) (stretches-read m g ks kl rs)
+stretches-read m g ks kl (r ∷ rs) = ap (λ (xs : List Stretch). table_stretches_by_texts g m (text_known g ks kl) (table_read g r) ++ xs) (stretches-read m g ks kl rs)

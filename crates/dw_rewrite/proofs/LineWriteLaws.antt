@@ -9,16 +9,17 @@ use Rattle.dw_base.specs.Layout.{output_limit}
 use Rattle.dw_base.specs.LineReadings.{all_lines, starts_from}
 use Rattle.dw_base.specs.LineSources.{LineSource}
 use Rattle.dw_base.specs.LineTables.{IsLineTable, LineTable}
-use Rattle.dw_base.specs.LineWriteFails.{CanWrite, WriteFails}
+use Rattle.dw_base.specs.TextWriteFails.{CanWriteTexts, TextWriteFails}
 use Rattle.dw_base.specs.Paths.{PathMap}
 use Rattle.dw_base.specs.Refusals.{Blames, at}
 use Rattle.dw_base.specs.ViewData.{debug_data}
-use Rattle.dw_base.specs.WrittenLines.{new_place, written_table}
+use Rattle.dw_base.specs.TextLineChanges.{table_by_texts}
 use Rattle.dw_base.specs.declared.debug_sections.DebugSection.TheVariants.{Line}
 use Rattle.dw_base.specs.declared.fault.Fault.{Fault}
 use Rattle.dw_base.specs.declared.fault.Fault.TheVariants.{NoMemory, Refused}
 use Rattle.dw_base.specs.declared.fault.Kind.TheVariants.{TooLarge}
 use Rattle.dw_base.specs.declared.fault.Refusal.{Refusal}
+use Rattle.dw_lines.specs.NewTexts.{text_known}
 use Rattle.dw_lines.specs.ViewSources.{view_source}
 use Rattle.dw_lines.specs.ViewTables.{TablesFound, tables_read}
 use Rattle.dw_lines.proofs.ViewTableLaws.{source-none}
@@ -35,18 +36,18 @@ pub stands-own : (v : View) (i : ℕ) (t : LineTable) → StandsIn (view_source 
 stands-own v i t s = subst (λ (n : ℕ). IsLineTable (view_source v n) t.start t) (sym s.section) s.is
 
 pub written-there : (m : PathMap) (v : View) (i : ℕ) (t : LineTable) (ks kl : ℕ → Option ℕ) (old new bytes slice : List ℕ) → StandsIn (view_source v i) t
-    → bytes ≡ written_table (view_source v t.section) m (new_place (view_source v t.section) ks kl) t → slice ≡ bytes → new ≡ old ++ slice
-    → new ≡ old ++ written_table (view_source v i) m (new_place (view_source v i) ks kl) t
+    → bytes ≡ table_by_texts (view_source v t.section) m (text_known (view_source v t.section) ks kl) t → slice ≡ bytes → new ≡ old ++ slice
+    → new ≡ old ++ table_by_texts (view_source v i) m (text_known (view_source v i) ks kl) t
 written-there m v i t ks kl old new bytes slice s is same more =
-    more ∙ ap (λ (bs : List ℕ). old ++ bs) (same ∙ is) ∙ ap (λ (n : ℕ). old ++ written_table (view_source v n) m (new_place (view_source v n) ks kl) t) s.section
+    more ∙ ap (λ (bs : List ℕ). old ++ bs) (same ∙ is) ∙ ap (λ (n : ℕ). old ++ table_by_texts (view_source v n) m (text_known (view_source v n) ks kl) t) s.section
 
 pub can-there : (m : PathMap) (v : View) (i : ℕ) (t : LineTable) (ks kl : ℕ → Option ℕ) → StandsIn (view_source v i) t
-    → CanWrite (view_source v t.section) m (new_place (view_source v t.section) ks kl) t → CanWrite (view_source v i) m (new_place (view_source v i) ks kl) t
-can-there m v i t ks kl s can = subst (λ (n : ℕ). CanWrite (view_source v n) m (new_place (view_source v n) ks kl) t) s.section can
+    → CanWriteTexts (view_source v t.section) m (text_known (view_source v t.section) ks kl) t → CanWriteTexts (view_source v i) m (text_known (view_source v i) ks kl) t
+can-there m v i t ks kl s can = subst (λ (n : ℕ). CanWriteTexts (view_source v n) m (text_known (view_source v n) ks kl) t) s.section can
 
 pub fault-there : (m : PathMap) (v : View) (i : ℕ) (t : LineTable) (ks kl : ℕ → Option ℕ) (f : Fault) → StandsIn (view_source v i) t
-    → Blames (WriteFails (view_source v t.section) m (new_place (view_source v t.section) ks kl) t) f → Blames (WriteFails (view_source v i) m (new_place (view_source v i) ks kl) t) f
-fault-there m v i t ks kl f s b = subst (λ (n : ℕ). Blames (WriteFails (view_source v n) m (new_place (view_source v n) ks kl) t) f) s.section b
+    → Blames (TextWriteFails (view_source v t.section) m (text_known (view_source v t.section) ks kl) t) f → Blames (TextWriteFails (view_source v i) m (text_known (view_source v i) ks kl) t) f
+fault-there m v i t ks kl f s b = subst (λ (n : ℕ). Blames (TextWriteFails (view_source v n) m (text_known (view_source v n) ks kl) t) f) s.section b
 
 pub ruleset table_rules = (stands-there, stands-own, written-there, can-there, fault-there)
 
@@ -69,21 +70,21 @@ front ts t i lt is =
     drop-cons ts i t lt ∙ ap (λ (x : LineTable). x ∷ drop (suc i) ts) (sym is) ∙ ap (λ (n : ℕ). t ∷ drop n ts) next
 
 pub pass-more : (m : PathMap) (g : LineSource) (ks kl : ℕ → Option ℕ) (ts : List LineTable) (i n : ℕ) (t : LineTable) (old new starts_ pushed : List ℕ) → i < length ts
-    → t ≡ get_or ts i t → WritePass m g ks kl ts old starts_ i → n ≡ length old → pushed ≡ starts_ ++ n ∷ [] → new ≡ old ++ written_table g m (new_place g ks kl) t
-    → CanWrite g m (new_place g ks kl) t → WritePass m g ks kl ts new pushed (i + 1)
+    → t ≡ get_or ts i t → WritePass m g ks kl ts old starts_ i → n ≡ length old → pushed ≡ starts_ ++ n ∷ [] → new ≡ old ++ table_by_texts g m (text_known g ks kl) t
+    → CanWriteTexts g m (text_known g ks kl) t → WritePass m g ks kl ts new pushed (i + 1)
 pass-more m g ks kl ts i n t old new starts_ pushed lt is p at more_starts more can =
-    let w : List ℕ = written_table g m (new_place g ks kl) t in
+    let w : List ℕ = table_by_texts g m (text_known g ks kl) t in
     let rest : List (List ℕ) = lines_known m g ks kl (drop (i + 1) ts) in
     let here : drop i ts ≡ t ∷ drop (i + 1) ts = front ts t i lt is in
-    let size : length new ≡ length old + length (written_table g m (new_place g ks kl) t) = ap (λ (xs : List ℕ). length xs) more ∙ length-append old w in
+    let size : length new ≡ length old + length (table_by_texts g m (text_known g ks kl) t) = ap (λ (xs : List ℕ). length xs) more ∙ length-append old w in
     record {
       bytes = ap (λ (xs : List ℕ). xs ++ all_lines (lines_known m g ks kl (drop (i + 1) ts))) more
-          ∙ append_assoc old (written_table g m (new_place g ks kl) t) (all_lines (lines_known m g ks kl (drop (i + 1) ts)))
+          ∙ append_assoc old (table_by_texts g m (text_known g ks kl) t) (all_lines (lines_known m g ks kl (drop (i + 1) ts)))
           ∙ ap (λ (us : List LineTable). old ++ all_lines (lines_known m g ks kl us)) (sym here) ∙ p.bytes;
       starts = ap (λ (k : ℕ). pushed ++ starts_from k (lines_known m g ks kl (drop (i + 1) ts))) size
-          ∙ ap (λ (xs : List ℕ). xs ++ starts_from (length old + length (written_table g m (new_place g ks kl) t)) (lines_known m g ks kl (drop (i + 1) ts))) more_starts
-          ∙ append_assoc starts_ (n ∷ []) (starts_from (length old + length (written_table g m (new_place g ks kl) t)) (lines_known m g ks kl (drop (i + 1) ts)))
-          ∙ ap (λ (k : ℕ). starts_ ++ k ∷ starts_from (length old + length (written_table g m (new_place g ks kl) t)) (lines_known m g ks kl (drop (i + 1) ts))) at
+          ∙ ap (λ (xs : List ℕ). xs ++ starts_from (length old + length (table_by_texts g m (text_known g ks kl) t)) (lines_known m g ks kl (drop (i + 1) ts))) more_starts
+          ∙ append_assoc starts_ (n ∷ []) (starts_from (length old + length (table_by_texts g m (text_known g ks kl) t)) (lines_known m g ks kl (drop (i + 1) ts)))
+          ∙ ap (λ (k : ℕ). starts_ ++ k ∷ starts_from (length old + length (table_by_texts g m (text_known g ks kl) t)) (lines_known m g ks kl (drop (i + 1) ts))) at
           ∙ ap (λ (us : List LineTable). starts_ ++ starts_from (length old) (lines_known m g ks kl us)) (sym here) ∙ p.starts;
       can = λ all. p.can (subst (AllCanWrite m g ks kl) (sym here) (can, all));
     }
@@ -98,7 +99,7 @@ pass-ends m g ks kl ts i bs starts_ end p = record {
 
 -- a table that can't be written, among all
 pub tables-fault : (m : PathMap) (g : LineSource) (ks kl : ℕ → Option ℕ) (ts : List LineTable) (i : ℕ) (t : LineTable) (f : Fault) → i < length ts → t ≡ get_or ts i t
-    → Blames (WriteFails g m (new_place g ks kl) t) f → Blames (LinesRefuse m g ks kl ts) f
+    → Blames (TextWriteFails g m (text_known g ks kl) t) f → Blames (LinesRefuse m g ks kl ts) f
 tables-fault m g ks kl ts i t NoMemory lt is b = tt
 tables-fault m g ks kl ts i t (Refused r) lt is b =
     table_fails (take i ts) (drop (i + 1) ts) t (sym (take-append-drop i ts) ∙ ap (λ (us : List LineTable). take i ts ++ us) (front ts t i lt is)) b

@@ -7,29 +7,27 @@ use Rattle.dw_base.specs.DebugData.{DebugData, DataReadings, around_of, line_sou
 use Rattle.dw_base.specs.DebugSections.{name_of}
 use Rattle.dw_base.specs.FileViews.{View, section_named}
 use Rattle.dw_base.specs.Layout.{output_limit}
-use Rattle.dw_base.specs.LineChanges.{line_place}
-use Rattle.dw_base.specs.LineReadings.{LineReading, TablesTo, all_lines, starts_from, table_starts}
+use Rattle.dw_base.specs.LineReadings.{LineReading, all_lines, starts_from, table_starts}
 use Rattle.dw_base.specs.LineSources.{LineSource}
 use Rattle.dw_base.specs.LineTables.{LineTable}
 use Rattle.dw_base.specs.Paths.{PathMap}
 use Rattle.dw_base.specs.Pieces.{joined}
 use Rattle.dw_base.specs.StringTables.{TextTable, table_bytes}
 use Rattle.dw_base.specs.TextChanges.{TableChange}
+use Rattle.dw_base.specs.TextLineChanges.{table_by_texts, text_place}
 use Rattle.dw_base.specs.Texts.{laid_texts}
 use Rattle.dw_base.specs.ViewData.{debug_data}
-use Rattle.dw_base.specs.WrittenLines.{new_place, written_table}
 use Rattle.dw_base.specs.declared.debug_sections.DebugSection.TheVariants.{Info, Str, LineStr, StrOffsets, Line, Macro, Names}
 use Rattle.dw_base.specs.declared.texts.TextField.{TextField}
 use Rattle.dw_base.specs.declared.texts.TextSection.{TextSection}
 use Rattle.dw_base.specs.declared.texts.TextSection.TheVariants.{InStr, InLineStr}
+use Rattle.dw_lines.specs.NewTexts.{text_known}
 use Rattle.dw_lines.specs.ViewTables.{TablesFound}
 use Rattle.dw_meaning.specs.DataOutput.{Body, DataFits, EachWritable, cells_body, changes_of, lines_body, macro_bodies, macros_after, names_after, new_bodies, new_lines, offsets_after, table_change, unit_bodies}
-use Rattle.dw_meaning.specs.NewAddends.{AddendsFit, places_by}
+use Rattle.dw_meaning.specs.NewAddends.{AddendsFit}
 use Rattle.dw_find.specs.FoundPaths.{PathsFound, without_lines}
 use Rattle.dw_find.specs.MacroSections.{HaveUnits, SectionUnits, UnitsFoundIn, macros_read}
-use Rattle.dw_meaning.proofs.DataKeptLaws.{places-stay, table-asks}
-use Rattle.dw_meaning.proofs.FurtherTableLaws.{lines-same as texts-same}
-use Rattle.dw_meaning.proofs.TextRowLaws.{can-texts}
+use Rattle.dw_meaning.proofs.DataKeptLaws.{places-stay}
 use Rattle.dw_rewrite.specs.Changes.{FieldSource, Knows, start_known}
 use Rattle.dw_rewrite.specs.NewStarts.{StartsFit}
 use Rattle.dw_find.specs.ViewFields.{AllHaveOffsets, AllHavePlaces, AllRoomsFit, fields_of, table_number}
@@ -128,15 +126,15 @@ table-knows m v table us ts pool known f t =
 lines-agree-by : (m : PathMap) (v : View) (us : List SectionFields) (ts : List LineTable) (ps pl : TextTable) (ks kl : ℕ → Option ℕ) (f : PathsFound m v us ts) → TableMade m v InStr us ps ks
     → TableMade m v InLineStr us pl kl → (o : Option ℕ) → o ≡ section_named v (name_of Line)
     → EachOf (λ u. IsSectionNoted m v InStr u ks) (lines_by o (line_source (debug_data v)) ts) → EachOf (λ u. IsSectionNoted m v InLineStr u kl) (lines_by o (line_source (debug_data v)) ts)
-    → TablesAgree (line_source (debug_data v)) (new_place (line_source (debug_data v)) ks kl)
-    (line_place m (change_of_table m v f.readings InStr) (change_of_table m v f.readings InLineStr) (line_source (debug_data v))) f.readings.lines
+    → TablesAgree (line_source (debug_data v)) (text_known (line_source (debug_data v)) ks kl)
+    (text_place m (change_of_table m v f.readings InStr) (change_of_table m v f.readings InLineStr) (line_source (debug_data v))) f.readings.lines
 unfolding table_change
 lines-agree-by m v us ts ps pl ks kl f s l None e ns nl =
-    subst (TablesAgree (line_source (debug_data v)) (new_place (line_source (debug_data v)) ks kl)
-    (line_place m (change_of_table m v f.readings InStr) (change_of_table m v f.readings InLineStr) (line_source (debug_data v)))) (sym (lines-none v f.readings.lines e f.reads.lines)) tt
+    subst (TablesAgree (line_source (debug_data v)) (text_known (line_source (debug_data v)) ks kl)
+    (text_place m (change_of_table m v f.readings InStr) (change_of_table m v f.readings InLineStr) (line_source (debug_data v)))) (sym (lines-none v f.readings.lines e f.reads.lines)) tt
 lines-agree-by m v us ts ps pl ks kl f s l (Some i) e ns nl =
     tables-agree (line_source (debug_data v)) m (change_of_table m v f.readings InStr) (change_of_table m v f.readings InLineStr) ks kl 0 (length (line_source (debug_data v)).bytes)
-    f.readings.lines (lines-whole v) f.reads.lines (table-knows m v InStr us ts ps ks f s) (table-knows m v InLineStr us ts pl kl f l)
+    f.readings.lines (lines-whole v) (places-stay m (debug_data v) f.readings) f.reads.lines (table-knows m v InStr us ts ps ks f s) (table-knows m v InLineStr us ts pl kl f l)
     (subst (λ (us_ : List LineTable). EachOf (NotedIn (plan_in m v InStr) (line_texts (line_source (debug_data v)) InStr) ks)
     (table_fields (line_source (debug_data v)).number (line_source (debug_data v)).str.number InStr us_)) f.tables (noted-lines m v InStr i ts ks e ns.0))
     (subst (λ (us_ : List LineTable). EachOf (NotedIn (plan_in m v InLineStr) (line_texts (line_source (debug_data v)) InLineStr) kl)
@@ -160,8 +158,8 @@ noted-parts m v table us ts pool known f t =
 
 pub lines-agree : (m : PathMap) (v : View) (us : List SectionFields) (ts : List LineTable) (ps pl : TextTable) (ks kl : ℕ → Option ℕ) (f : PathsFound m v us ts) → TableMade m v InStr us ps ks
     → TableMade m v InLineStr us pl kl
-    → TablesAgree (line_source (debug_data v)) (new_place (line_source (debug_data v)) ks kl)
-    (line_place m (change_of_table m v f.readings InStr) (change_of_table m v f.readings InLineStr) (line_source (debug_data v))) f.readings.lines
+    → TablesAgree (line_source (debug_data v)) (text_known (line_source (debug_data v)) ks kl)
+    (text_place m (change_of_table m v f.readings InStr) (change_of_table m v f.readings InLineStr) (line_source (debug_data v))) f.readings.lines
 lines-agree m v us ts ps pl ks kl f s l =
     lines-agree-by m v us ts ps pl ks kl f s l (section_named v (name_of Line)) refl (noted-parts m v InStr us ts ps ks f s).lines (noted-parts m v InLineStr us ts pl kl f l).lines
 
@@ -172,18 +170,13 @@ known-lines m v us ts ps pl ks kl f s l =
     ap (lines_known m (line_source (debug_data v)) ks kl) f.tables
     ∙ lines-same (line_source (debug_data v)) m (change_of_table m v f.readings InStr) (change_of_table m v f.readings InLineStr) ks kl f.readings.lines
     (lines-agree m v us ts ps pl ks kl f s l)
-    ∙ sym (texts-same m (change_of_table m v f.readings InStr) (change_of_table m v f.readings InLineStr) (line_source (debug_data v)) 0 (length (line_source (debug_data v)).bytes)
-    f.readings.lines (table-asks m InStr (around_of (debug_data v) f.readings) f.readings) (table-asks m InLineStr (around_of (debug_data v) f.readings) f.readings) f.reads.lines)
 
 -- each can be written
-each-writable : (m : PathMap) (d : DebugData) (rs : DataReadings) (p e : ℕ) (xs : List LineReading) → TablesTo (line_source d) p xs e
+each-writable : (m : PathMap) (d : DebugData) (rs : DataReadings) (xs : List LineReading)
     → EachCanWrite (line_source d) m ((changes_of m (around_of d rs) rs).new Str) ((changes_of m (around_of d rs) rs).new LineStr) xs
     → EachWritable m (changes_of m (around_of d rs) rs) (around_of d rs) xs
-each-writable m d rs p e [] reads can = tt
-each-writable m d rs p e (x ∷ xs) reads can = (
-  can-texts (line_source d) m (places_by (changes_of m (around_of d rs) rs) d) p x (places-stay m d rs) reads.0 can.0,
-  each-writable m d rs x.header.end e xs reads.1 can.1,
-)
+each-writable m d rs [] can = tt
+each-writable m d rs (x ∷ xs) can = (can.0, each-writable m d rs xs can.1)
 
 pub made-fits : (m : PathMap) (v : View) (us : List SectionFields) (ts : List LineTable) (ps pl : TextTable) (ks kl : ℕ → Option ℕ) (bs ns : List ℕ) (f : PathsFound m v us ts)
     → TableMade m v InStr us ps ks → TableMade m v InLineStr us pl kl → LinesWritten m (line_source (debug_data v)) ks kl ts bs ns
@@ -192,7 +185,7 @@ pub made-fits : (m : PathMap) (v : View) (us : List SectionFields) (ts : List Li
 made-fits m v us ts ps pl ks kl bs ns f s l w addends = record {
   inline = f.inline;
   slots = f.slots;
-  lines = each-writable m (debug_data v) f.readings 0 (length (line_source (debug_data v)).bytes) f.readings.lines f.reads.lines
+  lines = each-writable m (debug_data v) f.readings f.readings.lines
       (all-can (line_source (debug_data v)) m (change_of_table m v f.readings InStr) (change_of_table m v f.readings InLineStr) ks kl f.readings.lines
       (lines-agree m v us ts ps pl ks kl f s l) (subst (AllCanWrite m (line_source (debug_data v)) ks kl) f.tables w.can));
   addends = addends;
@@ -307,7 +300,7 @@ start-within n (suc k) (t ∷ ts) lt =
 
 length-known : (m : PathMap) (g : LineSource) (ks kl : ℕ → Option ℕ) (n : ℕ) (ts : List LineTable) → length (starts_from n (lines_known m g ks kl ts)) ≡ length (starts_of ts)
 length-known m g ks kl n [] = refl
-length-known m g ks kl n (t ∷ ts) = ap suc (length-known m g ks kl (n + length (written_table g m (new_place g ks kl) t)) ts)
+length-known m g ks kl n (t ∷ ts) = ap suc (length-known m g ks kl (n + length (table_by_texts g m (text_known g ks kl) t)) ts)
 
 pub starts-fit : (m : PathMap) (v : View) (us : List SectionFields) (ts : List LineTable) (ks kl : ℕ → Option ℕ) (bs ns old : List ℕ) → PathsFound m v us ts
     → LinesWritten m (line_source (debug_data v)) ks kl ts bs ns → old ≡ starts_of ts → length bs ≤ output_limit → StartsFit (record { old = old; new = ns })

@@ -11,23 +11,24 @@ use Rattle.dw_base.specs.Paths.{PathMap}
 use Rattle.dw_base.specs.Refusals.{at}
 use Rattle.dw_base.specs.RelocationFields.{relocation_at}
 use Rattle.dw_base.specs.SectionRelocations.{relocation_section, relocation_source}
-use Rattle.dw_base.specs.WrittenLines.{new_place}
 use Rattle.dw_base.specs.declared.fault.Kind.TheVariants.{TooWide}
 use Rattle.dw_base.specs.declared.fault.Refusal.{Refusal}
 use Rattle.dw_meaning.specs.DataOutput.{Body}
-use Rattle.dw_meaning.specs.LineStretches.{Stretch, stretches_end, table_stretches}
+use Rattle.dw_meaning.specs.LineStretches.{Stretch, stretches_end}
 use Rattle.dw_meaning.specs.NewAddends.{Makes, Misses}
 use Rattle.elf_relocs.specs.declared.runs.Run.{Run}
 use Rattle.dw_patch.specs.RecordMoves.{PlacesFit, moved_table}
 use Rattle.elf_layout.specs.declared.patch.Patch.{Patch}
-use Rattle.dw_lines.specs.TableMoves.{PathsInOrder, new_end, offsets_from, runs_from}
+use Rattle.dw_meaning.specs.TextLineCells.{table_stretches_by_texts}
+use Rattle.dw_lines.specs.NewTexts.{text_known}
+use Rattle.dw_lines.specs.TableMoves.{TextsInOrder, new_end, offsets_from, runs_from}
 use Rattle.dw_lines.specs.declared.moves.NewFieldOffset.{NewFieldOffset}
 use Rattle.dw_rewrite.specs.NewLines.{StandsIn, lines_known}
 
 -- what tables one behind another become, stretch by stretch, from the new places that are known in each table of texts
 abbrev pub stretches_known : PathMap → LineSource → (ℕ → Option ℕ) → (ℕ → Option ℕ) → List LineTable → List Stretch
 stretches_known m g ks kl [] = []
-stretches_known m g ks kl (t ∷ ts) = table_stretches g m (new_place g ks kl) t ++ stretches_known m g ks kl ts
+stretches_known m g ks kl (t ∷ ts) = table_stretches_by_texts g m (text_known g ks kl) t ++ stretches_known m g ks kl ts
 
 -- the runs of their bytes, and their fields that say other offsets
 abbrev pub line_runs : PathMap → LineSource → (ℕ → Option ℕ) → (ℕ → Option ℕ) → List LineTable → List Run
@@ -43,13 +44,13 @@ said_field f = record { at = f.at; size = f.size; value = f.offset }
 abbrev pub said_fields : List NewFieldOffset → List Patch
 said_fields fs = map said_field fs
 
--- a table starts at a place, its new bytes at another, below which all new bytes lie, and its paths stand in their order
+-- a table starts at a place, its new bytes at another, below which all new bytes lie, and its texts stand in their order
 pub record TableMoves (m : PathMap) (g : LineSource) (ks kl : ℕ → Option ℕ) (place new start : ℕ) (t : LineTable) : Type 0 where
   pub stands : StandsIn g t
   pub begins : t.start ≡ place
   pub start_is : start ≡ new
-  pub order : PathsInOrder g m (new_place g ks kl) t
-  pub fits : new_end new (table_stretches g m (new_place g ks kl) t) < 2 ^ 63
+  pub order : TextsInOrder g m (text_known g ks kl) t
+  pub fits : new_end new (table_stretches_by_texts g m (text_known g ks kl) t) < 2 ^ 63
 
 -- tables do, one behind another, and start anew at these places
 abbrev pub AllMove : PathMap → LineSource → (ℕ → Option ℕ) → (ℕ → Option ℕ) → ℕ → ℕ → List LineTable → List ℕ → Type 0
@@ -57,7 +58,7 @@ AllMove m g ks kl place new [] starts = ⊤
 AllMove m g ks kl place new (t ∷ ts) [] = ⊥
 AllMove m g ks kl place new (t ∷ ts) (n ∷ ns) =
     TableMoves m g ks kl place new n t
-    × AllMove m g ks kl (stretches_end place (table_stretches g m (new_place g ks kl) t)) (new_end new (table_stretches g m (new_place g ks kl) t)) ts ns
+    × AllMove m g ks kl (stretches_end place (table_stretches_by_texts g m (text_known g ks kl) t)) (new_end new (table_stretches_by_texts g m (text_known g ks kl) t)) ts ns
 
 -- the starts of new tables that are small enough to be written
 pub record StartsKnown (m : PathMap) (g : LineSource) (ks kl : ℕ → Option ℕ) (ts : List LineTable) (ns : List ℕ) : Type 0 where

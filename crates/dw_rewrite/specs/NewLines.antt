@@ -4,12 +4,13 @@ use Rattle.dw_base.specs.Layout.{output_limit}
 use Rattle.dw_base.specs.LineReadings.{all_lines, starts_from}
 use Rattle.dw_base.specs.LineSources.{LineSource}
 use Rattle.dw_base.specs.LineTables.{LineTable, IsLineTable}
-use Rattle.dw_base.specs.LineWriteFails.{CanWrite, WriteFails}
+use Rattle.dw_base.specs.TextWriteFails.{CanWriteTexts, TextWriteFails}
 use Rattle.dw_base.specs.Paths.{PathMap}
 use Rattle.dw_base.specs.Refusals.{at}
-use Rattle.dw_base.specs.WrittenLines.{new_place, written_table}
+use Rattle.dw_base.specs.TextLineChanges.{table_by_texts}
 use Rattle.dw_base.specs.declared.fault.Kind.TheVariants.{TooLarge}
 use Rattle.dw_base.specs.declared.fault.Refusal.{Refusal}
+use Rattle.dw_lines.specs.NewTexts.{text_known}
 
 -- each table stands in the section of line tables, where it starts
 pub record StandsIn (g : LineSource) (t : LineTable) : Type 0 where
@@ -23,12 +24,12 @@ AllStandIn g (t ∷ ts) = StandsIn g t × AllStandIn g ts
 -- the new tables, from the new places that are known in each table of texts
 abbrev pub lines_known : PathMap → LineSource → (ℕ → Option ℕ) → (ℕ → Option ℕ) → List LineTable → List (List ℕ)
 lines_known m g ks kl [] = []
-lines_known m g ks kl (t ∷ ts) = written_table g m (new_place g ks kl) t ∷ lines_known m g ks kl ts
+lines_known m g ks kl (t ∷ ts) = table_by_texts g m (text_known g ks kl) t ∷ lines_known m g ks kl ts
 
 -- each of them can be written
 abbrev pub AllCanWrite : PathMap → LineSource → (ℕ → Option ℕ) → (ℕ → Option ℕ) → List LineTable → Type 0
 AllCanWrite m g ks kl [] = ⊤
-AllCanWrite m g ks kl (t ∷ ts) = CanWrite g m (new_place g ks kl) t × AllCanWrite m g ks kl ts
+AllCanWrite m g ks kl (t ∷ ts) = CanWriteTexts g m (text_known g ks kl) t × AllCanWrite m g ks kl ts
 
 -- these are their bytes, and where they start
 pub record LinesWritten (m : PathMap) (g : LineSource) (ks kl : ℕ → Option ℕ) (ts : List LineTable) (bs ns : List ℕ) : Type 0 where
@@ -38,7 +39,7 @@ pub record LinesWritten (m : PathMap) (g : LineSource) (ks kl : ℕ → Option �
 
 -- one of them can't
 pub data LinesRefuse (m : PathMap) (g : LineSource) (ks kl : ℕ → Option ℕ) (ts : List LineTable) : Refusal → Type 0 where
-  table_fails : (before behind : List LineTable) (t : LineTable) {r : Refusal} → ts ≡ before ++ t ∷ behind → WriteFails g m (new_place g ks kl) t r
+  table_fails : (before behind : List LineTable) (t : LineTable) {r : Refusal} → ts ≡ before ++ t ∷ behind → TextWriteFails g m (text_known g ks kl) t r
       → LinesRefuse m g ks kl ts r
 
 -- or all together would be longer than a file that is written

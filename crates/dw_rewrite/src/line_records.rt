@@ -17,18 +17,17 @@ ghost use Rattle.dw_base.specs.RelocationRows.{moving_sections};
 ghost use Rattle.dw_base.specs.RelocationSectionFails.{RelocationSectionsRead};
 ghost use Rattle.dw_base.specs.SectionRelocations.{relocation_section};
 ghost use Rattle.dw_base.specs.ViewData.{debug_data};
-ghost use Rattle.dw_base.specs.WrittenLines.{new_place};
 ghost use Rattle.dw_base.specs.declared.debug_sections.DebugSection.TheVariants.{Str, LineStr, Line};
-ghost use Rattle.dw_lines.specs.TableMoves.{PathsInOrder, new_end, offsets_from, runs_from};
+ghost use Rattle.dw_lines.specs.TableMoves.{TextsInOrder, new_end, offsets_from, runs_from};
 ghost use Rattle.dw_lines.specs.ViewSources.{view_source};
 ghost use Rattle.dw_lines.specs.ViewTables.{TablesFound};
-ghost use Rattle.dw_meaning.specs.LineStretches.{table_stretches};
+ghost use Rattle.dw_meaning.specs.TextLineCells.{table_stretches_by_texts};
 ghost use Rattle.dw_meaning.specs.NewAddends.{Makes, Misses};
 ghost use Rattle.dw_meaning.specs.RelocationFails.{LeftRelocationsRead};
 ghost use Rattle.dw_patch.specs.RecordMoves.{PlacesFit, moved_table};
 ghost use Rattle.dw_rewrite.specs.LineOffsets.{AllMove, LinesFit, OffsetMisses, OffsetsInside, OffsetsMake, OffsetsRise, OffsetsSized, StartsKnown, held_lines, line_offsets, line_record, line_runs, said_fields};
 ghost use Rattle.dw_rewrite.specs.NewLines.{StandsIn};
-ghost use Rattle.dw_lines.specs.NewTexts.{texts_known};
+ghost use Rattle.dw_lines.specs.NewTexts.{text_known, texts_known};
 
 use crate::new_sections::Body;
 use crate::sources::FieldSource;
@@ -162,7 +161,6 @@ fn line_moves(
     let mut offsets = Vec::new(alloc);
     for (i, table) in tables.iter().enumerate() {
         push_table(
-            alloc,
             view,
             maps,
             new_texts,
@@ -179,7 +177,6 @@ fn line_moves(
 /// Appends the runs and offsets of a table of the section of a number, whose new bytes begin at `new`.
 #[tactic(auto, using(crate::proofs::LineMoveLaws::table_rules))]
 fn push_table(
-    alloc: Global,
     view: &View,
     maps: &Maps,
     new_texts: &NewTexts,
@@ -191,12 +188,12 @@ fn push_table(
 ) -> Result<(), AllocError>
     requires there { section < length view.now.sections }
     requires stands { StandsIn (view_source view.now section) table.now }
-    requires order { PathsInOrder (view_source view.now section) maps.now (new_place (view_source view.now section) (texts_known new_texts.now Str) (texts_known new_texts.now LineStr)) table.now }
-    requires fits { new_end new (table_stretches (view_source view.now section) maps.now (new_place (view_source view.now section) (texts_known new_texts.now Str) (texts_known new_texts.now LineStr)) table.now) < 2 ^ 63 }
-    ensures runs { OnOk result (runs.new.items ≡ runs.old.items ++ runs_from table.now.start new (table_stretches (view_source view.now section) maps.now (new_place (view_source view.now section) (texts_known new_texts.now Str) (texts_known new_texts.now LineStr)) table.now)) }
-    ensures offsets { OnOk result (offsets.new.items ≡ offsets.old.items ++ offsets_from table.now.start (table_stretches (view_source view.now section) maps.now (new_place (view_source view.now section) (texts_known new_texts.now Str) (texts_known new_texts.now LineStr)) table.now)) }
+    requires order { TextsInOrder (view_source view.now section) maps.now (text_known (view_source view.now section) (texts_known new_texts.now Str) (texts_known new_texts.now LineStr)) table.now }
+    requires fits { new_end new (table_stretches_by_texts (view_source view.now section) maps.now (text_known (view_source view.now section) (texts_known new_texts.now Str) (texts_known new_texts.now LineStr)) table.now) < 2 ^ 63 }
+    ensures runs { OnOk result (runs.new.items ≡ runs.old.items ++ runs_from table.now.start new (table_stretches_by_texts (view_source view.now section) maps.now (text_known (view_source view.now section) (texts_known new_texts.now Str) (texts_known new_texts.now LineStr)) table.now)) }
+    ensures offsets { OnOk result (offsets.new.items ≡ offsets.old.items ++ offsets_from table.now.start (table_stretches_by_texts (view_source view.now section) maps.now (text_known (view_source view.now section) (texts_known new_texts.now Str) (texts_known new_texts.now LineStr)) table.now)) }
 {
-    table.push_moves(alloc, view, maps, new_texts, new, runs, offsets)?;
+    table.push_moves(view, maps, new_texts, new, runs, offsets)?;
     Ok(())
 }
 

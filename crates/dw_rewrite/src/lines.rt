@@ -6,15 +6,15 @@
 
 ghost use Rattle.std.specs.Prelude.{◌≡◌, ◌++◌, ◌<◌, length, IfErr, IfOk, OnOk};
 ghost use Rattle.dw_base.specs.DebugData.{line_source};
-ghost use Rattle.dw_base.specs.LineWriteFails.{CanWrite, WriteFails};
+ghost use Rattle.dw_base.specs.TextWriteFails.{CanWriteTexts, TextWriteFails};
 ghost use Rattle.dw_base.specs.Refusals.{Blames};
 ghost use Rattle.dw_base.specs.ViewData.{debug_data};
-ghost use Rattle.dw_base.specs.WrittenLines.{new_place, written_table};
+ghost use Rattle.dw_base.specs.TextLineChanges.{table_by_texts};
 ghost use Rattle.dw_base.specs.declared.debug_sections.DebugSection.TheVariants.{Str, LineStr};
 ghost use Rattle.dw_lines.specs.ViewSources.{view_source};
 ghost use Rattle.dw_lines.specs.ViewTables.{TablesFound};
 ghost use Rattle.dw_rewrite.specs.NewLines.{AllStandIn, LinesRefuse, LinesWritten, StandsIn};
-ghost use Rattle.dw_lines.specs.NewTexts.{texts_known};
+ghost use Rattle.dw_lines.specs.NewTexts.{text_known, texts_known};
 
 use dw_base::{DebugSection, Fault};
 use dw_lines::{LineTable, NewTexts};
@@ -91,9 +91,9 @@ fn write_table(
 ) -> Result<(), Fault>
     requires there { section < length view.now.sections }
     requires stands { StandsIn (view_source view.now section) table.now }
-    ensures bytes { OnOk result (bytes.new.items ≡ bytes.old.items ++ written_table (view_source view.now section) maps.now (new_place (view_source view.now section) (texts_known new_texts.now Str) (texts_known new_texts.now LineStr)) table.now) }
-    ensures can { OnOk result (CanWrite (view_source view.now section) maps.now (new_place (view_source view.now section) (texts_known new_texts.now Str) (texts_known new_texts.now LineStr)) table.now) }
-    ensures refused { IfErr result (Blames (WriteFails (view_source view.now section) maps.now (new_place (view_source view.now section) (texts_known new_texts.now Str) (texts_known new_texts.now LineStr)) table.now)) }
+    ensures bytes { OnOk result (bytes.new.items ≡ bytes.old.items ++ table_by_texts (view_source view.now section) maps.now (text_known (view_source view.now section) (texts_known new_texts.now Str) (texts_known new_texts.now LineStr)) table.now) }
+    ensures can { OnOk result (CanWriteTexts (view_source view.now section) maps.now (text_known (view_source view.now section) (texts_known new_texts.now Str) (texts_known new_texts.now LineStr)) table.now) }
+    ensures refused { IfErr result (Blames (TextWriteFails (view_source view.now section) maps.now (text_known (view_source view.now section) (texts_known new_texts.now Str) (texts_known new_texts.now LineStr)) table.now)) }
 {
     let written = table.write_mapped(alloc, view, maps, new_texts)?;
     bytes.extend_from_slice(&written.bytes)?;
