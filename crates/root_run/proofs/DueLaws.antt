@@ -15,7 +15,6 @@ use Rattle.work_texts.specs.declared.journal_err.WorkFile.TheVariants as file
 use Rattle.work_texts.specs.declared.key.RunKey.{RunKey}
 use Rattle.work_texts.specs.declared.plan.FinishedData.{FinishedData}
 use Rattle.work_texts.specs.declared.plan.PlanData.{PlanData}
-use Rattle.work_texts.specs.declared.plan.VersionedPlan.{VersionedPlan}
 use Rattle.work_texts.specs.BadFields.{PlanBlames, FinishedBlames}
 use Rattle.work_texts.specs.Fields.{plan_text_fields, finished_fields}
 use Rattle.work_texts.specs.Keys.{KeyBlames, key_part}
@@ -95,7 +94,7 @@ no-tree false m t e h = cc
 
 plan-one : (bytes : List ℕ) (x y : PlanData) → IsPlanText bytes x → IsPlanText bytes y → x ≡ y
 plan-one bytes x y a b =
-    ap (λ (v : VersionedPlan). v.plan)
+    ap (λ v. v.plan)
     (one_value plan_text_fields rule.IsVersionedPlan plan_at plan_reader bytes (record { old = a.old; plan = x }) (record { old = b.old; plan = y }) (plan_whole bytes x a) (plan_whole bytes y b))
 
 finished-one : (bytes : List ℕ) (x y : FinishedData) → IsFinishedText bytes x → IsFinishedText bytes y → x ≡ y

@@ -16,7 +16,6 @@ use Rattle.work_texts.specs.declared.journal_err.JournalErr.{JournalErr}
 use Rattle.work_texts.specs.declared.key.RunKey.{RunKey}
 use Rattle.work_texts.specs.declared.plan.FinishedData.{FinishedData}
 use Rattle.work_texts.specs.declared.plan.PlanData.{PlanData}
-use Rattle.work_texts.specs.declared.plan.VersionedPlan.{VersionedPlan}
 use Rattle.work_texts.specs.Fields.{Field, text_of, plan_fields, plan_text_fields, finished_fields}
 use Rattle.work_texts.specs.Reading.{Reading, plan_at, finished_at}
 use Rattle.work_texts.specs.Rules.{IsPlan, IsVersionedPlan, IsFinished, IsPlanText, IsFinishedText, text_limit}
@@ -116,7 +115,7 @@ module _ (start : TreeMap) (root work : List ℕ) (p : PlanData) (made : List (L
   -- so what is read there is the plan, and the end of its run
   pub plan-read : (bytes : List ℕ) (mode : ℕ) (q : PlanData) → IsPlan p → stands_at t (work_path work plan) text_limit ≡ found.File bytes mode → IsPlanText bytes q → q ≡ p
   plan-read bytes mode q fits e text =
-      ap (λ (v : VersionedPlan). v.plan)
+      ap (λ v. v.plan)
       (one-value plan_text_fields IsVersionedPlan plan_at plan_reader (record { old = text.old; plan = q }) (record { old = false; plan = p }) (record { plan = text.plan; one = text.one }) (written-plan p fits)
       (sym text.text ∙ plan-bytes bytes mode e))
 
