@@ -9,12 +9,13 @@ use Rattle.dw_base.specs.LineSources.{LineSource}
 use Rattle.dw_base.specs.Numbers.{number_bytes}
 use Rattle.dw_base.specs.Paths.{PathMap}
 use Rattle.dw_base.specs.RelocationFields.{reach_of, relocation_at}
-use Rattle.dw_base.specs.WrittenLines.{cells_part, header_length_place, length_bytes, length_size, paths_of}
-use Rattle.dw_base.specs.declared.line_tables.TextPlace.{TextPlace}
+use Rattle.dw_base.specs.WrittenLines.{cells_part, header_length_place, length_bytes, length_size}
+use Rattle.dw_base.specs.declared.line_tables.LineText.{LineText}
 use Rattle.dw_base.proofs.NumberLaws.{length-number_bytes}
 use Rattle.dw_base.proofs.PlainCellLaws.{plain_cells-plain}
 use Rattle.dw_base.proofs.RelocationFieldLaws.{relocation_at-plain}
-use Rattle.dw_meaning.specs.LineCells.{all_path_cells, changed_cells, header_cells, rest_cells, written_cells}
+use Rattle.dw_meaning.specs.LineCells.{changed_cells, rest_cells}
+use Rattle.dw_meaning.specs.TextLineCells.{cells_by_texts, table_cells_by_texts, texts_cells}
 use Rattle.dw_meaning.proofs.CellRestLaws.{CellRest, drop-front, over-there, part-size, plain-none, plain-size, take-front}
 use Rattle.dw_meaning.proofs.ClearLaws.{Clear, NoneOver, clear-join, clear-part, front-clear, relocation-behind, relocation-front, relocation-taken}
 use Rattle.dw_meaning.proofs.LineCellLaws.{cells-split}
@@ -44,24 +45,24 @@ part-none cells a b h i r lt e size =
     clash u v = cc
 
 -- from behind the lengths on
-pub laid-cells : (g : LineSource) (m : PathMap) (places : TextPlace → Option ℕ) (p : ℕ) (r : LineReading) (cells more : List Cell) (start : ℕ) → ReadsTable g p r → TableClear g r
+pub laid-cells : (g : LineSource) (m : PathMap) (places : LineText → Option ℕ) (p : ℕ) (r : LineReading) (cells more : List Cell) (start : ℕ) → ReadsTable g p r → TableClear g r
     → r.header.program ≤ r.header.end → r.header.end ≤ length g.cells → r.header.lists ≤ r.header.program → start ≤ length cells → NoneOver cells start
-    → drop start cells ≡ written_cells g m places (table_read g r) ++ more
-    → CellRest g.cells cells r.header.program (all_path_cells g m places r.header.width (paths_of (table_read g r))) (cells_part g.cells r.header.program r.header.end ++ more)
+    → drop start cells ≡ table_cells_by_texts g m places (table_read g r) ++ more
+    → CellRest g.cells cells r.header.program (texts_cells g m places r.header.width (table_read g r).texts) (cells_part g.cells r.header.program r.header.end ++ more)
     (first_place r.header.version (r.header.start + length_size r.header.width) r.header.width) (first_place r.header.version (start + length_size r.header.width) r.header.width)
-unfolding written_cells header_cells
+unfolding table_cells_by_texts cells_by_texts
 laid-cells g m places p r cells more start reads clear program end lists_in begin over is =
-    go (plain_cells (length_bytes g.order r.header.width (length (rest_cells g (table_read g r) (header_cells g m places (table_read g r))))))
+    go (plain_cells (length_bytes g.order r.header.width (length (rest_cells g (table_read g r) (cells_by_texts g m places (table_read g r))))))
     (cells_part g.cells (r.header.start + length_size r.header.width) (header_length_place r.header.start r.header.width r.header.version))
-    (plain_cells (number_bytes g.order (width_size r.header.width) (length (header_cells g m places (table_read g r)))))
+    (plain_cells (number_bytes g.order (width_size r.header.width) (length (cells_by_texts g m places (table_read g r)))))
     (changed_cells g.cells (first_place r.header.version (r.header.start + length_size r.header.width) r.header.width) r.header.program
-    (all_path_cells g m places r.header.width (paths_of (table_read g r)))) refl
-    (plain-size (length_bytes g.order r.header.width (length (rest_cells g (table_read g r) (header_cells g m places (table_read g r)))))
-    ∙ length-bytes g.order r.header.width (length (rest_cells g (table_read g r) (header_cells g m places (table_read g r)))))
-    (plain-none (length_bytes g.order r.header.width (length (rest_cells g (table_read g r) (header_cells g m places (table_read g r))))))
-    (plain-size (number_bytes g.order (width_size r.header.width) (length (header_cells g m places (table_read g r))))
-    ∙ length-number_bytes g.order (width_size r.header.width) (length (header_cells g m places (table_read g r))))
-    (plain-none (number_bytes g.order (width_size r.header.width) (length (header_cells g m places (table_read g r)))))
+    (texts_cells g m places r.header.width (table_read g r).texts)) refl
+    (plain-size (length_bytes g.order r.header.width (length (rest_cells g (table_read g r) (cells_by_texts g m places (table_read g r)))))
+    ∙ length-bytes g.order r.header.width (length (rest_cells g (table_read g r) (cells_by_texts g m places (table_read g r)))))
+    (plain-none (length_bytes g.order r.header.width (length (rest_cells g (table_read g r) (cells_by_texts g m places (table_read g r))))))
+    (plain-size (number_bytes g.order (width_size r.header.width) (length (cells_by_texts g m places (table_read g r))))
+    ∙ length-number_bytes g.order (width_size r.header.width) (length (cells_by_texts g m places (table_read g r))))
+    (plain-none (number_bytes g.order (width_size r.header.width) (length (cells_by_texts g m places (table_read g r)))))
     front_size (λ i q lt e. part-none g.cells (r.header.start + length_size r.header.width) (header_length_place r.header.start r.header.width r.header.version) front_clear i q lt e front_whole) is
   where
     at : header_length_place r.header.start r.header.width r.header.version ≡ r.header.start + length_size r.header.width + sizes_size r.header.version
@@ -87,7 +88,7 @@ laid-cells g m places p r cells more start reads clear program end lists_in begi
 
     go : (first front number header : List Cell)
         → header ≡ changed_cells g.cells (first_place r.header.version (r.header.start + length_size r.header.width) r.header.width) r.header.program
-        (all_path_cells g m places r.header.width (paths_of (table_read g r)))
+        (texts_cells g m places r.header.width (table_read g r).texts)
         → length first ≡ length_size r.header.width
         → ((i : ℕ) (q : Relocation) → i < length first → relocation_at first i ≡ Some q → i + reach_of q ≤ length first)
         → length number ≡ width_size r.header.width
@@ -95,7 +96,7 @@ laid-cells g m places p r cells more start reads clear program end lists_in begi
         → length front ≡ sizes_size r.header.version
         → ((i : ℕ) (q : Relocation) → i < length front → relocation_at front i ≡ Some q → i + reach_of q ≤ length front)
         → drop start cells ≡ (first ++ ((front ++ (number ++ header)) ++ cells_part g.cells r.header.program r.header.end)) ++ more
-        → CellRest g.cells cells r.header.program (all_path_cells g m places r.header.width (paths_of (table_read g r))) (cells_part g.cells r.header.program r.header.end ++ more)
+        → CellRest g.cells cells r.header.program (texts_cells g m places r.header.width (table_read g r).texts) (cells_part g.cells r.header.program r.header.end ++ more)
         (first_place r.header.version (r.header.start + length_size r.header.width) r.header.width) (first_place r.header.version (start + length_size r.header.width) r.header.width)
     go first front number header header_is first_size first_none number_size number_none front_size front_none is =
         let lp = length-place r.header.version (start + length_size r.header.width) in
@@ -124,25 +125,25 @@ laid-cells g m places p r cells more start reads clear program end lists_in begi
         }
 
 -- none begins in front of that
-pub laid-clear : (g : LineSource) (m : PathMap) (places : TextPlace → Option ℕ) (p : ℕ) (r : LineReading) (cells more : List Cell) (start : ℕ) → ReadsTable g p r → TableClear g r
+pub laid-clear : (g : LineSource) (m : PathMap) (places : LineText → Option ℕ) (p : ℕ) (r : LineReading) (cells more : List Cell) (start : ℕ) → ReadsTable g p r → TableClear g r
     → r.header.program ≤ r.header.end → r.header.end ≤ length g.cells → r.header.lists ≤ r.header.program
-    → drop start cells ≡ written_cells g m places (table_read g r) ++ more
+    → drop start cells ≡ table_cells_by_texts g m places (table_read g r) ++ more
     → Clear cells start (first_place r.header.version (start + length_size r.header.width) r.header.width)
-unfolding written_cells header_cells
+unfolding table_cells_by_texts cells_by_texts
 laid-clear g m places p r cells more start reads clear program end lists_in is =
-    go (plain_cells (length_bytes g.order r.header.width (length (rest_cells g (table_read g r) (header_cells g m places (table_read g r))))))
+    go (plain_cells (length_bytes g.order r.header.width (length (rest_cells g (table_read g r) (cells_by_texts g m places (table_read g r))))))
     (cells_part g.cells (r.header.start + length_size r.header.width) (header_length_place r.header.start r.header.width r.header.version))
-    (plain_cells (number_bytes g.order (width_size r.header.width) (length (header_cells g m places (table_read g r)))))
+    (plain_cells (number_bytes g.order (width_size r.header.width) (length (cells_by_texts g m places (table_read g r)))))
     (changed_cells g.cells (first_place r.header.version (r.header.start + length_size r.header.width) r.header.width) r.header.program
-    (all_path_cells g m places r.header.width (paths_of (table_read g r))))
-    (plain-size (length_bytes g.order r.header.width (length (rest_cells g (table_read g r) (header_cells g m places (table_read g r)))))
-    ∙ length-bytes g.order r.header.width (length (rest_cells g (table_read g r) (header_cells g m places (table_read g r)))))
-    (λ i lt. relocation_at-plain (plain_cells (length_bytes g.order r.header.width (length (rest_cells g (table_read g r) (header_cells g m places (table_read g r)))))) i
-    (plain_cells-plain (length_bytes g.order r.header.width (length (rest_cells g (table_read g r) (header_cells g m places (table_read g r)))))))
-    (plain-size (number_bytes g.order (width_size r.header.width) (length (header_cells g m places (table_read g r))))
-    ∙ length-number_bytes g.order (width_size r.header.width) (length (header_cells g m places (table_read g r))))
-    (λ i lt. relocation_at-plain (plain_cells (number_bytes g.order (width_size r.header.width) (length (header_cells g m places (table_read g r))))) i
-    (plain_cells-plain (number_bytes g.order (width_size r.header.width) (length (header_cells g m places (table_read g r))))))
+    (texts_cells g m places r.header.width (table_read g r).texts))
+    (plain-size (length_bytes g.order r.header.width (length (rest_cells g (table_read g r) (cells_by_texts g m places (table_read g r)))))
+    ∙ length-bytes g.order r.header.width (length (rest_cells g (table_read g r) (cells_by_texts g m places (table_read g r)))))
+    (λ i lt. relocation_at-plain (plain_cells (length_bytes g.order r.header.width (length (rest_cells g (table_read g r) (cells_by_texts g m places (table_read g r)))))) i
+    (plain_cells-plain (length_bytes g.order r.header.width (length (rest_cells g (table_read g r) (cells_by_texts g m places (table_read g r)))))))
+    (plain-size (number_bytes g.order (width_size r.header.width) (length (cells_by_texts g m places (table_read g r))))
+    ∙ length-number_bytes g.order (width_size r.header.width) (length (cells_by_texts g m places (table_read g r))))
+    (λ i lt. relocation_at-plain (plain_cells (number_bytes g.order (width_size r.header.width) (length (cells_by_texts g m places (table_read g r))))) i
+    (plain_cells-plain (number_bytes g.order (width_size r.header.width) (length (cells_by_texts g m places (table_read g r))))))
     front_size
     (λ i lt. relocation-taken (drop (r.header.start + length_size r.header.width) g.cells)
     (header_length_place r.header.start r.header.width r.header.version - (r.header.start + length_size r.header.width)) i (omega (arith, lt, front_whole))

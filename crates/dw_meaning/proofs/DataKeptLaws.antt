@@ -5,14 +5,13 @@ use Rattle.std.proofs.lemmas.List.{length-append, append-nil}
 use Rattle.dw_base.specs.Cells.{Cell, Located, bytes_of, located_cells}
 use Rattle.dw_base.specs.DebugData.{DebugData, DataReadings, begins_by, units_in, ReadsAll, EntryPlace, place_by, entry_places, all_places, info_number, info_numbers, Lasting, Around, around_of, indexing_of, line_source, path_slots, table_of}
 use Rattle.dw_base.specs.Forms.{ValueKind, number_of, leb_number, signed_leb, block_of, counted, counted_leb, inline_text, text_offset, present, in_abbreviation, form_in_front, supplementary, unlisted, kind_in}
-use Rattle.dw_base.specs.LineChanges.{line_mentions, line_place, lines_after}
 use Rattle.dw_base.specs.LineHeaders.{header_with}
 use Rattle.dw_base.specs.LineReadings.{LineReading, ReadsTable, TablesTo, table_starts, starts_from, all_lines}
 use Rattle.dw_base.specs.LineSources.{LineSource}
 use Rattle.dw_base.specs.MacroMeanings.{macro_meanings}
 use Rattle.dw_base.specs.MacroReadings.{MacroReading, EachMacro, MacroStart, MacroPlaces, macro_starts, first_macros}
 use Rattle.dw_base.specs.TableStarts.{HasStartForm, macro_value_by, macro_value_in, NamesUnitIf, NamesMacro, NamesImport}
-use Rattle.dw_base.specs.Texts.{ends_in, laid_texts}
+use Rattle.dw_base.specs.Texts.{ends_in}
 use Rattle.dw_base.specs.MappedSlots.{unit_slots, mapped_slots}
 use Rattle.dw_base.specs.MappedUnits.{mapped_unit, mapped_units}
 use Rattle.dw_base.specs.NamePieces.{NameState, at_table, names_at}
@@ -48,13 +47,11 @@ use Rattle.dw_base.specs.declared.values.AttributeUse.{AttributeUse}
 use Rattle.dw_base.specs.declared.values.AttributeUse.TheVariants.{NamesPath, NamesLineTable, NamesMacroUnit, NamesOther}
 use Rattle.dw_meaning.specs.DataOutput.{DataReads, DataFits, EachWritable, table_change, new_lines, changes_of, offsets_after, macros_after, names_after}
 use Rattle.dw_meaning.proofs.IndexTextLaws.{IsApart, texts-apart, slots-move}
-use Rattle.dw_meaning.specs.LineCells.{all_written_cells}
 use Rattle.dw_meaning.specs.NewAddends.{places_by}
 use Rattle.dw_meaning.specs.TextLineCells.{all_cells_by_texts}
-use Rattle.dw_meaning.proofs.FurtherLaws.{AsksPaths, FurtherStay, appending-asks, further-stay, lines-ask}
-use Rattle.dw_meaning.proofs.FurtherTableLaws.{all_cells-same, lines-same}
+use Rattle.dw_meaning.proofs.FurtherLaws.{AsksPaths, FurtherStay, appending-asks, further-stay}
 use Rattle.dw_meaning.proofs.LineClearLaws.{EachClear}
-use Rattle.dw_meaning.proofs.LineColumnLaws.{edited_with, Grows}
+use Rattle.dw_meaning.proofs.LineColumnLaws.{edited_with}
 use Rattle.dw_meaning.proofs.LineHeaderLaws.{header-is}
 use Rattle.dw_meaning.proofs.LinePathLaws.{BothMove, makes-take}
 use Rattle.dw_meaning.proofs.LineSectionLaws.{EachCan, LinesMoved, TablesApart, section-moved, some-bytes}
@@ -62,8 +59,7 @@ use Rattle.dw_meaning.proofs.MacroEditLaws.{AllMacrosChanged, all-macros-can, ed
 use Rattle.dw_meaning.proofs.OffsetMoveLaws.{RolesChanged, names-can, offsets-can, roles-length, names-becomes, roles-named, offsets-reads, names-reads}
 use Rattle.dw_meaning.proofs.SlotMeaningLaws.{units-slots}
 use Rattle.dw_meaning.proofs.TextCellLaws.{text_tables-bytes}
-use Rattle.dw_meaning.proofs.TextRowLaws.{can-paths, tables-make}
-use Rattle.dw_meaning.proofs.TextEditLaws.{EachBelow, appending-keeps, LinesMove, TablesMove, TextsAre, behind_piece, texts_after-append, Moves, PlainPiece, pieces-move, SlotMoves, edited-changed, roles-changed, shift_of, moved_table}
+use Rattle.dw_meaning.proofs.TextEditLaws.{EachBelow, appending-keeps, LinesMove, TablesMove, TextsAre, behind_piece, Moves, PlainPiece, pieces-move, SlotMoves, edited-changed, roles-changed, shift_of, moved_table}
 use Rattle.dw_meaning.proofs.UnitMeaningLaws.{units-changed}
 use Rattle.dw_meaning.proofs.DataParts.{found_with, kept_with, stands_with}
 
@@ -355,11 +351,6 @@ both-move m d r w = record {
   line_str = record { keeps = appending-keeps m (d.found LineStr).bytes; small = w.line_str };
 }
 
-table-grows : (m : PathMap) (table : TextSection) (d : DebugData) (r : DataReadings)
-    → Grows (table_of (around_of d r) table).bytes (new_table (table_change m table (around_of d r) r).plan (table_change m table (around_of d r) r).texts)
-unfolding table_change
-table-grows m table d r = record { more = laid_texts (table_change m table (around_of d r) r).texts; is = refl }
-
 -- only paths ask for places, so of line tables that were read it is said by their paths what holds by all their texts
 pub table-asks : (m : PathMap) (table : TextSection) (around : Around) (r : DataReadings) → AsksPaths (table_change m table around r).plan
 unfolding table_change
@@ -370,33 +361,10 @@ places-stay m d r =
     further-stay m ((changes_of m (around_of d r) r).new Str) ((changes_of m (around_of d r) r).new LineStr) (line_source d)
     (table-asks m InStr (around_of d r) r) (table-asks m InLineStr (around_of d r) r)
 
-each-can : (m : PathMap) (d : DebugData) (r : DataReadings) (p e : ℕ) (rs : List LineReading) → TablesTo (line_source d) p rs e
-    → EachWritable m (changes_of m (around_of d r) r) (around_of d r) rs → EachCan (line_source d) m (changes_of m (around_of d r) r) rs
-each-can m d r p e [] reads h = tt
-each-can m d r p e (x ∷ xs) reads h = (
-  can-paths (line_source d) m (places_by (changes_of m (around_of d r) r) d) p x (places-stay m d r) reads.0 h.0,
-  each-can m d r x.header.end e xs reads.1 h.1,
-)
-
--- the texts that line tables and others behind them ask for
-lines-asked : (m : PathMap) (table : TextSection) (d : DebugData) (r : DataReadings) (ts : List (List ℕ)) (ms : List Mention) → TablesTo (line_source d) 0 r.lines (length (line_source d).bytes)
-    → texts_after (table_change m table (around_of d r) r).plan m ts (lines_in table d r ++ ms)
-    ≡ texts_after (table_change m table (around_of d r) r).plan m ts (line_mentions (line_source d) table r.lines ++ ms)
-lines-asked m table d r ts ms tables =
-    texts_after-append (table_change m table (around_of d r) r).plan m ts (lines_in table d r) ms
-    ∙ ap (λ (us : List (List ℕ)). texts_after (table_change m table (around_of d r) r).plan m us ms)
-    (lines-ask (table_change m table (around_of d r) r).plan m ts (line_source d) table 0 (length (line_source d).bytes) r.lines (table-asks m table (around_of d r) r) tables)
-    ∙ sym (texts_after-append (table_change m table (around_of d r) r).plan m ts (line_mentions (line_source d) table r.lines) ms)
-
-lines-texts-are : (m : PathMap) (d : DebugData) (r : DataReadings) → TablesTo (line_source d) 0 r.lines (length (line_source d).bytes)
-    → TextsAre (changes_of m (around_of d r) r) (slots_texts m InStr d r) (slots_texts m InLineStr d r)
-    (line_mentions (line_source d) InStr r.lines ++ behind_lines_in InStr d r) (line_mentions (line_source d) InLineStr r.lines ++ behind_lines_in InLineStr d r)
-lines-texts-are m d r tables =
-    let all = behind-slots m d r in
-    record {
-      str = all.str ∙ lines-asked m InStr d r (slots_texts m InStr d r) (behind_lines_in InStr d r) tables;
-      line_str = all.line_str ∙ lines-asked m InLineStr d r (slots_texts m InLineStr d r) (behind_lines_in InLineStr d r) tables;
-    }
+each-can : (m : PathMap) (d : DebugData) (r : DataReadings) (rs : List LineReading) → EachWritable m (changes_of m (around_of d r) r) (around_of d r) rs
+    → EachCan (line_source d) m (changes_of m (around_of d r) r) rs
+each-can m d r [] h = tt
+each-can m d r (x ∷ xs) h = (h.0, each-can m d r xs h.1)
 
 abbrev pub LinesAfter : PathMap → DebugData → DataReadings → Type 0
 LinesAfter m d r =
@@ -406,46 +374,15 @@ LinesAfter m d r =
 pub new-line-bytes : (m : PathMap) (d : DebugData) (r : DataReadings) → bytes_of (new_line_cells (changes_of m (around_of d r) r) d r) ≡ all_lines (new_lines m (around_of d r) r)
 new-line-bytes m d r = text_tables-bytes (changes_of m (around_of d r) r) (line_source d) r.lines refl
 
--- the new tables by paths, as the laws of their columns say them
-by-paths : (m : PathMap) (d : DebugData) (r : DataReadings) → DataMoves m d r
-    → LinesMoved (line_source d)
-    (edited_with (line_source d) (all_lines (lines_after m (table_change m InStr (around_of d r) r) (table_change m InLineStr (around_of d r) r) (line_source d) r.lines))
-    (all_written_cells (line_source d) m (line_place m (table_change m InStr (around_of d r) r) (table_change m InLineStr (around_of d r) r) (line_source d)) r.lines)
-    (new_table (table_change m InStr (around_of d r) r).plan (table_change m InStr (around_of d r) r).texts)
-    (new_table (table_change m InLineStr (around_of d r) r).plan (table_change m InLineStr (around_of d r) r).texts)) m 0
-    (length (all_lines (lines_after m (table_change m InStr (around_of d r) r) (table_change m InLineStr (around_of d r) r) (line_source d) r.lines)))
-    (lines_after m (table_change m InStr (around_of d r) r) (table_change m InLineStr (around_of d r) r) (line_source d) r.lines) r.lines
-by-paths m d r w =
-    section-moved (changes_of m (around_of d r) r) (line_source d) (slots_texts m InStr d r) (slots_texts m InLineStr d r) (behind_lines_in InStr d r) (behind_lines_in InLineStr d r) r.lines
-    refl refl w.lines_clear
-    (makes-take (line_source d) (line_place m ((changes_of m (around_of d r) r).new Str) ((changes_of m (around_of d r) r).new LineStr) (line_source d)) r.lines
-    (tables-make (line_source d) (places_by (changes_of m (around_of d r) r) d) 0 (length (line_source d).bytes) r.lines w.reads.lines w.fits.addends.lines))
-    (both-move m d r w) (table-grows m InStr d r) (table-grows m InLineStr d r) w.apart w.tables w.reads.lines
-    (each-can m d r 0 (length (line_source d).bytes) r.lines w.reads.lines w.fits.lines) (lines-texts-are m d r w.reads.lines)
-
-same-lines : (m : PathMap) (d : DebugData) (r : DataReadings) → TablesTo (line_source d) 0 r.lines (length (line_source d).bytes)
-    → new_lines m (around_of d r) r ≡ lines_after m (table_change m InStr (around_of d r) r) (table_change m InLineStr (around_of d r) r) (line_source d) r.lines
-same-lines m d r tables =
-    lines-same m (table_change m InStr (around_of d r) r) (table_change m InLineStr (around_of d r) r) (line_source d) 0 (length (line_source d).bytes) r.lines
-    (table-asks m InStr (around_of d r) r) (table-asks m InLineStr (around_of d r) r) tables
-
-same-cells : (m : PathMap) (d : DebugData) (r : DataReadings) → TablesTo (line_source d) 0 r.lines (length (line_source d).bytes)
-    → new_line_cells (changes_of m (around_of d r) r) d r
-    ≡ all_written_cells (line_source d) m (line_place m (table_change m InStr (around_of d r) r) (table_change m InLineStr (around_of d r) r) (line_source d)) r.lines
-same-cells m d r tables = all_cells-same (line_source d) m (places_by (changes_of m (around_of d r) r) d) 0 (length (line_source d).bytes) r.lines (places-stay m d r) tables
-
 pub lines-data : (m : PathMap) (d : DebugData) (r : DataReadings) → DataMoves m d r → LinesAfter m d r
 lines-data m d r w =
     subst (λ (bs : List ℕ). LinesMoved (line_source d) (edited_with (line_source d) bs (new_line_cells (changes_of m (around_of d r) r) d r) (new_table (table_change m InStr (around_of d r) r).plan (table_change m InStr (around_of d r) r).texts) (new_table (table_change m InLineStr (around_of d r) r).plan (table_change m InLineStr (around_of d r) r).texts)) m 0
     (length (all_lines (new_lines m (around_of d r) r))) (new_lines m (around_of d r) r) r.lines)
     (sym (new-line-bytes m d r))
-    (subst (λ (ts : List (List ℕ)). LinesMoved (line_source d) (edited_with (line_source d) (all_lines ts) (new_line_cells (changes_of m (around_of d r) r) d r) (new_table (table_change m InStr (around_of d r) r).plan (table_change m InStr (around_of d r) r).texts) (new_table (table_change m InLineStr (around_of d r) r).plan (table_change m InLineStr (around_of d r) r).texts)) m 0
-    (length (all_lines ts)) ts r.lines)
-    (sym (same-lines m d r w.reads.lines))
-    (subst (λ (p : List Cell). LinesMoved (line_source d) (edited_with (line_source d) (all_lines (lines_after m (table_change m InStr (around_of d r) r) (table_change m InLineStr (around_of d r) r) (line_source d) r.lines)) p (new_table (table_change m InStr (around_of d r) r).plan (table_change m InStr (around_of d r) r).texts) (new_table (table_change m InLineStr (around_of d r) r).plan (table_change m InLineStr (around_of d r) r).texts)) m 0
-    (length (all_lines (lines_after m (table_change m InStr (around_of d r) r) (table_change m InLineStr (around_of d r) r) (line_source d) r.lines))) (lines_after m (table_change m InStr (around_of d r) r) (table_change m InLineStr (around_of d r) r) (line_source d) r.lines) r.lines)
-    (sym (same-cells m d r w.reads.lines))
-    (by-paths m d r w)))
+    (section-moved (changes_of m (around_of d r) r) (line_source d) (slots_texts m InStr d r) (slots_texts m InLineStr d r) (behind_lines_in InStr d r) (behind_lines_in InLineStr d r) r.lines
+    refl refl w.lines_clear
+    (makes-take (line_source d) (places_by (changes_of m (around_of d r) r) d) r.lines w.fits.addends.lines)
+    (both-move m d r w) w.apart w.tables w.reads.lines (each-can m d r r.lines w.fits.lines) (behind-slots m d r))
 
 -- line tables start in their section
 ends-behind : (g : LineSource) (p e : ℕ) (rs : List LineReading) → TablesTo g p rs e → p ≤ e

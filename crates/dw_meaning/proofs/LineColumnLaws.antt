@@ -8,9 +8,10 @@ use Rattle.dw_base.specs.LineEntries.{column_params, inline_column, text_column,
 use Rattle.dw_base.specs.LineMeanings.{section_in, place_text}
 use Rattle.dw_base.specs.LineSources.{LineSource, line_field}
 use Rattle.dw_base.specs.LineTexts.{text_by, text_of, named_text}
-use Rattle.dw_base.specs.Paths.{PathMap, IsPathMap, mapped_path}
+use Rattle.dw_base.specs.Paths.{PathMap, IsPathMap}
 use Rattle.dw_base.specs.Refusals.{at}
 use Rattle.dw_base.specs.RelocationFields.{relocation_at}
+use Rattle.dw_base.specs.StringTables.{new_text}
 use Rattle.dw_base.specs.Texts.{ends_in, text_in}
 use Rattle.dw_base.specs.Values.{value_at}
 use Rattle.dw_base.specs.Walks.{or_refused}
@@ -21,6 +22,7 @@ use Rattle.dw_base.specs.declared.view_fields.Field.{Field}
 use Rattle.dw_base.specs.declared.view_fields.Field.TheVariants.{Num, Into, Sym}
 use Rattle.dw_base.specs.declared.line_tables.Column.{Column}
 use Rattle.dw_base.specs.declared.line_tables.LineHeader.{LineHeader}
+use Rattle.dw_base.specs.declared.line_tables.LineText.{LineText}
 use Rattle.dw_base.specs.declared.line_tables.TextPlace.{TextPlace}
 use Rattle.dw_base.specs.declared.shared.Width.{Width}
 use Rattle.dw_base.specs.declared.values.Spec.{Spec}
@@ -48,34 +50,36 @@ pub record Grows (old new : List ℕ) : Type 0 where
   pub more : List ℕ
   pub is : new ≡ old ++ more
 
--- what holds of the section of line tables, which is one that is read, and of the tables of texts: they grow, and lie in sections of their own
+-- what holds of the section of line tables, which is one that is read, and of the tables of texts: they lie in sections of their own
 pub record SourceMoves (g : LineSource) (m : PathMap) (s l : List ℕ) : Type 0 where
   pub map : IsPathMap m
   pub read : g.is_read ≡ true
   pub own : bytes_of g.cells ≡ g.bytes
-  pub str : Grows g.str.bytes s
-  pub line_str : Grows g.line_str.bytes l
   pub apart_str : g.number ≢ g.str.number
   pub apart_line : g.number ≢ g.line_str.number
   pub tables : (at : ℕ) → ends_in g.line_str.bytes at ≡ true → g.line_str.number ≢ g.str.number
 
--- what becomes of a text that an offset names: it stays, or its new place has the mapped text
-abbrev pub OffsetMoves : PathMap → Width → List ℕ → List ℕ → ℕ → Option ℕ → Type 0
-OffsetMoves m width old new at None = mapped_path m (text_in old at) ≡ text_in old at
-OffsetMoves m width old new at (Some n) = (n < 256 ^ width_size width) × (ends_in new n ≡ true) × (text_in new n ≡ mapped_path m (text_in old at))
+-- what becomes of a text, which is a path or isn't
+abbrev pub moved_text : PathMap → Bool → List ℕ → List ℕ
+moved_text m path t = new_text m (record { path = path; text = t })
+
+-- and of one that an offset names: it is where it was in the new table, or at its new place
+abbrev pub OffsetMoves : PathMap → Bool → Width → List ℕ → List ℕ → ℕ → Option ℕ → Type 0
+OffsetMoves m path width old new at None = (ends_in new at ≡ true) × (text_in new at ≡ moved_text m path (text_in old at))
+OffsetMoves m path width old new at (Some n) = (n < 256 ^ width_size width) × (ends_in new n ≡ true) × (text_in new n ≡ moved_text m path (text_in old at))
 
 -- and, where a relocation begins at the offset, its record can make the new place
 abbrev pub TakesPlace : LineSource → Width → ℕ → Option ℕ → Type 0
 TakesPlace g width field None = ⊤
 TakesPlace g width field (Some n) = TakesAt (relocation_at g.cells field) (width_size width) n
 
-abbrev pub MovesIn : LineSource → PathMap → List ℕ → List ℕ → Width → TextPlace → Option ℕ → Bool → Bool → Type 0
+abbrev pub MovesIn : LineSource → PathMap → List ℕ → List ℕ → Width → LineText → Option ℕ → Bool → Bool → Type 0
 MovesIn g m s l width x o true b = ⊤
-MovesIn g m s l width x o false true = OffsetMoves m width g.str.bytes s x.at o × TakesPlace g width x.field o
-MovesIn g m s l width x o false false = OffsetMoves m width g.line_str.bytes l x.at o × TakesPlace g width x.field o
+MovesIn g m s l width x o false true = OffsetMoves m x.path width g.str.bytes s x.place.at o × TakesPlace g width x.place.field o
+MovesIn g m s l width x o false false = OffsetMoves m x.path width g.line_str.bytes l x.place.at o × TakesPlace g width x.place.field o
 
-abbrev pub PathMoves : LineSource → PathMap → List ℕ → List ℕ → Width → (TextPlace → Option ℕ) → TextPlace → Type 0
-PathMoves g m s l width places x = MovesIn g m s l width x (places x) (x.section == g.number) (x.section == g.str.number)
+abbrev pub TextMoves : LineSource → PathMap → List ℕ → List ℕ → Width → (LineText → Option ℕ) → LineText → Type 0
+TextMoves g m s l width places x = MovesIn g m s l width x (places x) (x.place.section == g.number) (x.place.section == g.str.number)
 
 -- the tables of texts by their names, before and after
 abbrev pub texts_in : LineSource → TextSection → Located
@@ -85,10 +89,6 @@ texts_in g InLineStr = g.line_str
 abbrev pub new_texts_in : LineSource → List ℕ → List ℕ → TextSection → Located
 new_texts_in g s l InStr = record { number = g.str.number; bytes = s }
 new_texts_in g s l InLineStr = record { number = g.line_str.number; bytes = l }
-
-pub texts-grow : (g : LineSource) (m : PathMap) (s l : List ℕ) (z : TextSection) → SourceMoves g m s l → Grows (texts_in g z).bytes (new_texts_in g s l z).bytes
-texts-grow g m s l InStr w = w.str
-texts-grow g m s l InLineStr w = w.line_str
 
 -- the section of a text that an offset names
 pub section-not : (g : LineSource) (m : PathMap) (s l : List ℕ) (z : TextSection) → SourceMoves g m s l → ((texts_in g z).number == g.number) ≡ false
@@ -106,16 +106,16 @@ new-section g m bytes cells s l InStr at w e = rw (section-not g m s l InStr w, 
 new-section g m bytes cells s l InLineStr at w e = rw (section-not g m s l InLineStr w, ne_eqb g.line_str.number g.str.number (w.tables at e)) refl
 
 -- what is said of its move
-pub offset-says : (g : LineSource) (m : PathMap) (s l : List ℕ) (width : Width) (places : TextPlace → Option ℕ) (z : TextSection) (at field : ℕ) → SourceMoves g m s l
-    → ends_in (texts_in g z).bytes at ≡ true → PathMoves g m s l width places (text_of (texts_in g z) at field)
-    → OffsetMoves m width (texts_in g z).bytes (new_texts_in g s l z).bytes at (places (text_of (texts_in g z) at field))
-    × TakesPlace g width field (places (text_of (texts_in g z) at field))
-offset-says g m s l width places InStr at field w e moves =
-    subst (λ (b : Bool). MovesIn g m s l width (text_of g.str at field) (places (text_of g.str at field)) false b) (eq-eqb g.str.number g.str.number refl)
-    (subst (λ (b : Bool). MovesIn g m s l width (text_of g.str at field) (places (text_of g.str at field)) b (g.str.number == g.str.number)) (section-not g m s l InStr w) moves)
-offset-says g m s l width places InLineStr at field w e moves =
-    subst (λ (b : Bool). MovesIn g m s l width (text_of g.line_str at field) (places (text_of g.line_str at field)) false b) (ne_eqb g.line_str.number g.str.number (w.tables at e))
-    (subst (λ (b : Bool). MovesIn g m s l width (text_of g.line_str at field) (places (text_of g.line_str at field)) b (g.line_str.number == g.str.number)) (section-not g m s l InLineStr w) moves)
+pub offset-says : (g : LineSource) (m : PathMap) (s l : List ℕ) (width : Width) (places : LineText → Option ℕ) (z : TextSection) (at field : ℕ) (path : Bool) → SourceMoves g m s l
+    → ends_in (texts_in g z).bytes at ≡ true → TextMoves g m s l width places (record { place = text_of (texts_in g z) at field; path = path })
+    → OffsetMoves m path width (texts_in g z).bytes (new_texts_in g s l z).bytes at (places (record { place = text_of (texts_in g z) at field; path = path }))
+    × TakesPlace g width field (places (record { place = text_of (texts_in g z) at field; path = path }))
+offset-says g m s l width places InStr at field path w e moves =
+    subst (λ (b : Bool). MovesIn g m s l width (record { place = text_of g.str at field; path = path }) (places (record { place = text_of g.str at field; path = path })) false b) (eq-eqb g.str.number g.str.number refl)
+    (subst (λ (b : Bool). MovesIn g m s l width (record { place = text_of g.str at field; path = path }) (places (record { place = text_of g.str at field; path = path })) b (g.str.number == g.str.number)) (section-not g m s l InStr w) moves)
+offset-says g m s l width places InLineStr at field path w e moves =
+    subst (λ (b : Bool). MovesIn g m s l width (record { place = text_of g.line_str at field; path = path }) (places (record { place = text_of g.line_str at field; path = path })) false b) (ne_eqb g.line_str.number g.str.number (w.tables at e))
+    (subst (λ (b : Bool). MovesIn g m s l width (record { place = text_of g.line_str at field; path = path }) (places (record { place = text_of g.line_str at field; path = path })) b (g.line_str.number == g.str.number)) (section-not g m s l InLineStr w) moves)
 
 -- the text at the place of one in a table of texts
 placed-in : (bytes : List ℕ) (at : ℕ) → ends_in bytes at ≡ true → take (length (text_in bytes at)) (drop at bytes) ≡ text_in bytes at

@@ -9,9 +9,10 @@ use Rattle.dw_base.specs.LineSources.{LineSource}
 use Rattle.dw_base.specs.LineWriteFails.{length_limit}
 use Rattle.dw_base.specs.Numbers.{spelled, number_bytes}
 use Rattle.dw_base.specs.Paths.{PathMap}
-use Rattle.dw_base.specs.WrittenLines.{part, Change, changed, all_changes, paths_of, length_size, length_bytes, written_header, written_rest, written_table}
+use Rattle.dw_base.specs.TextLineChanges.{header_by_texts, rest_by_texts, table_by_texts, texts_changes}
+use Rattle.dw_base.specs.WrittenLines.{part, Change, changed, length_size, length_bytes}
 use Rattle.dw_base.specs.declared.line_tables.LineHeader.{LineHeader}
-use Rattle.dw_base.specs.declared.line_tables.TextPlace.{TextPlace}
+use Rattle.dw_base.specs.declared.line_tables.LineText.{LineText}
 use Rattle.dw_base.specs.declared.shared.Order.{Order}
 use Rattle.dw_base.specs.declared.shared.Width.{Width}
 use Rattle.dw_base.specs.declared.shared.Width.TheVariants.{W32, W64}
@@ -67,9 +68,9 @@ length-bytes order W64 n =
     omega (arith, four, eight, length-append (number_bytes order 4 0xffff_ffff) (number_bytes order 8 n))
 
 -- what is written of a table lies within these limits
-pub record Writable (g : LineSource) (m : PathMap) (places : TextPlace → Option ℕ) (r : LineReading) : Type 0 where
-  pub table : length (written_rest g m places (table_read g r)) < length_limit r.header.width
-  pub header : length (written_header g m places (table_read g r)) < 256 ^ width_size r.header.width
+pub record Writable (g : LineSource) (m : PathMap) (places : LineText → Option ℕ) (r : LineReading) : Type 0 where
+  pub table : length (rest_by_texts g m places (table_read g r)) < length_limit r.header.width
+  pub header : length (header_by_texts g m places (table_read g r)) < 256 ^ width_size r.header.width
 
 -- where it stands: its length, what is copied in front of the length of its header, that length, and the rest
 pub record Laid (g : LineSource) (h : LineHeader) (bytes : List ℕ) (cs : List Change) (start size header : ℕ) : Type 0 where
@@ -84,23 +85,23 @@ pub record Laid (g : LineSource) (h : LineHeader) (bytes : List ℕ) (cs : List 
       (first_place h.version (start + length_size h.width) h.width)
   pub ends : first_place h.version (start + length_size h.width) h.width + header + (h.end - h.program) ≡ start + size
 
-pub laid : (g : LineSource) (m : PathMap) (places : TextPlace → Option ℕ) (r : LineReading) (bytes : List ℕ) (start : ℕ) → HeaderIs g.order g.bytes r.header.start r.header
-    → Writable g m places r → Before r.header.program (all_changes g m places r.header.width (paths_of (table_read g r))) → r.header.program ≤ r.header.end
-    → StandsAt bytes (written_table g m places (table_read g r)) start
-    → Laid g r.header bytes (all_changes g m places r.header.width (paths_of (table_read g r))) start (length (written_table g m places (table_read g r)))
-    (length (written_header g m places (table_read g r)))
-unfolding written_table written_header
+pub laid : (g : LineSource) (m : PathMap) (places : LineText → Option ℕ) (r : LineReading) (bytes : List ℕ) (start : ℕ) → HeaderIs g.order g.bytes r.header.start r.header
+    → Writable g m places r → Before r.header.program (texts_changes g m places r.header.width (table_read g r).texts) → r.header.program ≤ r.header.end
+    → StandsAt bytes (table_by_texts g m places (table_read g r)) start
+    → Laid g r.header bytes (texts_changes g m places r.header.width (table_read g r).texts) start (length (table_by_texts g m places (table_read g r)))
+    (length (header_by_texts g m places (table_read g r)))
+unfolding table_by_texts header_by_texts
 laid g m places r bytes start x fits before order s =
     let h : LineHeader = r.header in
     let w : Width = r.header.width in
-    let cs : List Change = all_changes g m places r.header.width (paths_of (table_read g r)) in
+    let cs : List Change = texts_changes g m places r.header.width (table_read g r).texts in
     let old : List ℕ = take r.header.end g.bytes in
     let at : ℕ = r.header.start + length_size r.header.width in
     let hl : ℕ = length_place r.header.version (r.header.start + length_size r.header.width) in
     let first : ℕ = first_place r.header.version (r.header.start + length_size r.header.width) r.header.width in
     let front : List ℕ = part g.bytes (r.header.start + length_size r.header.width) (length_place r.header.version (r.header.start + length_size r.header.width)) in
     let header : List ℕ = changed g.bytes (first_place r.header.version (r.header.start + length_size r.header.width) r.header.width) r.header.program
-    (all_changes g m places r.header.width (paths_of (table_read g r))) in
+    (texts_changes g m places r.header.width (table_read g r).texts) in
     let number : List ℕ = number_bytes g.order (width_size r.header.width) (length header) in
     let tail : List ℕ = part g.bytes r.header.program r.header.end in
     let rest : List ℕ = (front ++ (number ++ header)) ++ tail in
@@ -118,12 +119,12 @@ laid g m places r bytes start x fits before order s =
 
     go : (rest header front number tail : List ℕ)
         → rest ≡ (front ++ (number ++ header)) ++ tail
-        → header ≡ changed g.bytes (first_place r.header.version (r.header.start + length_size r.header.width) r.header.width) r.header.program (all_changes g m places r.header.width (paths_of (table_read g r)))
+        → header ≡ changed g.bytes (first_place r.header.version (r.header.start + length_size r.header.width) r.header.width) r.header.program (texts_changes g m places r.header.width (table_read g r).texts)
         → front ≡ part g.bytes (r.header.start + length_size r.header.width) (length_place r.header.version (r.header.start + length_size r.header.width))
         → number ≡ number_bytes g.order (width_size r.header.width) (length header)
         → tail ≡ part g.bytes r.header.program r.header.end
         → StandsAt bytes (length_bytes g.order r.header.width (length rest) ++ rest) start
-        → Laid g r.header bytes (all_changes g m places r.header.width (paths_of (table_read g r))) start (length (length_bytes g.order r.header.width (length rest) ++ rest)) (length header)
+        → Laid g r.header bytes (texts_changes g m places r.header.width (table_read g r).texts) start (length (length_bytes g.order r.header.width (length rest) ++ rest)) (length header)
     go rest header front number tail rest_is header_is front_is number_is tail_is s =
         let size : ℕ = length (length_bytes g.order r.header.width (length rest) ++ rest) in
         let new : List ℕ = take (start + length (length_bytes g.order r.header.width (length rest) ++ rest)) bytes in
@@ -185,9 +186,9 @@ laid g m places r bytes start x fits before order s =
         let tail_drop : tail ≡ drop r.header.program (take r.header.end g.bytes) =
         tail_is ∙ sym (drop-take r.header.program (r.header.end - r.header.program) g.bytes) ∙ ap (λ (i : ℕ). drop r.header.program (take i g.bytes)) split in
         let header_old : header ≡ changed (take r.header.end g.bytes) (first_place r.header.version (r.header.start + length_size r.header.width) r.header.width) r.header.program
-        (all_changes g m places r.header.width (paths_of (table_read g r))) =
+        (texts_changes g m places r.header.width (table_read g r).texts) =
         header_is ∙ sym (changed-cut g.bytes r.header.end r.header.program (first_place r.header.version (r.header.start + length_size r.header.width) r.header.width)
-        (all_changes g m places r.header.width (paths_of (table_read g r))) order before) in
+        (texts_changes g m places r.header.width (table_read g r).texts) order before) in
         let new_size : length new ≡ start + length (length_bytes g.order r.header.width (length rest) ++ rest) =
         length-take-le (start + length (length_bytes g.order r.header.width (length rest) ++ rest)) bytes inside in
         let total : length (length_bytes g.order r.header.width (length rest) ++ rest) ≡ length ((length_bytes g.order r.header.width (length rest) ++ (front ++ number)) ++ (header ++ tail)) = ap length regroup in
@@ -224,16 +225,16 @@ laid g m places r bytes start x fits before order s =
             );
             is = first_drop ∙ ap (λ (ys : List ℕ). ys ++ tail) header_old
                 ∙ ap (λ (ys : List ℕ). changed (take r.header.end g.bytes) (first_place r.header.version (r.header.start + length_size r.header.width) r.header.width) r.header.program
-                (all_changes g m places r.header.width (paths_of (table_read g r))) ++ ys) tail_drop;
+                (texts_changes g m places r.header.width (table_read g r).texts) ++ ys) tail_drop;
           };
           ends = omega (arith, behind_front, total, tail_size, length-append (length_bytes g.order r.header.width (length rest) ++ (front ++ number)) (header ++ tail), length-append header tail);
         }
       where
         rest-same : (rest header front number tail : List ℕ)
             → rest ≡ (front ++ (number ++ header)) ++ tail
-            → header ≡ changed g.bytes (first_place r.header.version (r.header.start + length_size r.header.width) r.header.width) r.header.program (all_changes g m places r.header.width (paths_of (table_read g r)))
+            → header ≡ changed g.bytes (first_place r.header.version (r.header.start + length_size r.header.width) r.header.width) r.header.program (texts_changes g m places r.header.width (table_read g r).texts)
             → front ≡ part g.bytes (r.header.start + length_size r.header.width) (length_place r.header.version (r.header.start + length_size r.header.width))
             → number ≡ number_bytes g.order (width_size r.header.width) (length header)
             → tail ≡ part g.bytes r.header.program r.header.end
-            → rest ≡ written_rest g m places (table_read g r)
+            → rest ≡ rest_by_texts g m places (table_read g r)
         rest-same rest header front number tail a b c d e = rw (a, d, b, c, e) refl

@@ -5,30 +5,33 @@ use Rattle.std.proofs.lemmas.Bool.{ltb-true, lt-ltb}
 use Rattle.std.proofs.lemmas.List.{length-drop, get_or_append_left, get_or-drop}
 use Rattle.dw_base.specs.Cells.{Cell}
 use Rattle.dw_base.specs.Lebs.{uleb_at}
-use Rattle.dw_base.specs.LineEntries.{columns, file_of, entry_at, counted_entries, entries_behind, entries_at}
+use Rattle.dw_base.specs.LineEntries.{columns, file_of, entry_at, counted_entries, entries_behind, entries_at, next_entry}
 use Rattle.dw_base.specs.LineFormats.{is_column, spec_at, with_spec, next_spec, format_at}
-use Rattle.dw_base.specs.LineMeanings.{place_text, LineColumn, further_columns, entries_columns, listed_columns}
+use Rattle.dw_base.specs.LineMeanings.{place_text, LineColumn, columns_counted, columns_formed, columns_there, further_columns, entries_columns, listed_columns}
 use Rattle.dw_base.specs.LineSources.{LineSource}
-use Rattle.dw_base.specs.LineTables.{texts_of}
 use Rattle.dw_base.specs.Paths.{PathMap, mapped_path}
-use Rattle.dw_base.specs.Walks.{steps}
-use Rattle.dw_base.specs.WrittenLines.{part, Change, path_changes, all_changes}
+use Rattle.dw_base.specs.Walks.{fallible_steps, steps}
+use Rattle.dw_base.specs.TableTexts.{entries_texts, entry_texts, list_texts, texts_counted, texts_formed, texts_then}
+use Rattle.dw_base.specs.TextLineChanges.{texts_changes}
+use Rattle.dw_base.specs.WrittenLines.{part, Change}
 use Rattle.dw_base.specs.declared.fault.Refusal.{Refusal}
 use Rattle.dw_base.specs.declared.line_tables.Entry.{Entry}
 use Rattle.dw_base.specs.declared.line_tables.FilePlace.{FilePlace}
 use Rattle.dw_base.specs.declared.line_tables.LineHeader.{LineHeader}
+use Rattle.dw_base.specs.declared.line_tables.LineText.{LineText}
 use Rattle.dw_base.specs.declared.line_tables.TextPlace.{TextPlace}
-use Rattle.dw_base.specs.declared.shared.Width.{Width}
 use Rattle.dw_base.specs.declared.values.Spec.{Spec}
 use Rattle.dw_base.proofs.ContributionBackLaws.{StandsAt}
 use Rattle.dw_base.proofs.LebLaws.{uleb-inside}
-use Rattle.dw_meaning.specs.LineCells.{CellChange, all_path_cells, path_cells}
+use Rattle.dw_meaning.specs.LineCells.{CellChange}
+use Rattle.dw_meaning.specs.TextLineCells.{texts_cells}
 use Rattle.dw_meaning.proofs.CellRestLaws.{CellRest, cells-copied, clear-none, same-from}
 use Rattle.dw_meaning.proofs.ClearLaws.{Clear, ColumnsClear, EntriesClear, ListClear, whole-clear}
-use Rattle.dw_meaning.proofs.LineCellLaws.{SameChanges, paths-bytes, same-append}
+use Rattle.dw_meaning.proofs.LineCellLaws.{SameChanges, same-append}
+use Rattle.dw_meaning.proofs.TextCellLaws.{texts-bytes}
 use Rattle.dw_meaning.proofs.LineChangeLaws.{From, Rest, copied, from-before, from-end, part-length}
-use Rattle.dw_meaning.proofs.LineColumnLaws.{edited_with, SourceMoves, PathMoves}
-use Rattle.dw_meaning.proofs.LineEntryLaws.{pending, pending_cells, MovedText, MovesText, AreColumns, columns-from, columns-moved}
+use Rattle.dw_meaning.proofs.LineColumnLaws.{edited_with, SourceMoves}
+use Rattle.dw_meaning.proofs.LineEntryLaws.{AreColumns, EachMoves, MovedText, cells-append, changes-append, columns-from, columns-moved, moves-parts}
 use Rattle.dw_meaning.proofs.LineMoveLaws.{LinePlaces, moved_header, Sides}
 use Rattle.dw_meaning.proofs.LineReadLaws.{Both, both-behind, uleb-both, bound, made, if-some, some-same}
 use Rattle.dw_meaning.proofs.LineWalkLaws.{NewFiles, bound-ok, entries-read, entries-run}
@@ -77,11 +80,6 @@ entry-there : (g : LineSource) (h : LineHeader) (table : List ℕ) (specs : List
 unfolding entry_at
 entry-there g h table specs p x t is some = rw is (ap (file_of g.number h x) some)
 
--- each path moves
-abbrev pub EachMoves : LineSource → PathMap → List ℕ → List ℕ → Width → (TextPlace → Option ℕ) → List TextPlace → Type 0
-EachMoves g m s l width places [] = ⊤
-EachMoves g m s l width places (x ∷ xs) = PathMoves g m s l width places x × EachMoves g m s l width places xs
-
 -- files with mapped paths
 abbrev pub MovedFiles : LineSource → LineSource → PathMap → List FilePlace → List FilePlace → Type 0
 MovedFiles g k m [] [] = ⊤
@@ -102,26 +100,26 @@ record FileMoved (g k : LineSource) (m : PathMap) (h : LineHeader) (n : LinePlac
   clear : ColumnsClear k (moved_header h n) new specs q
   further : further_columns k (moved_header h n) new specs false q ≡ further_columns g h old specs false p
 
-file-from : (g : LineSource) (m : PathMap) (s l old : List ℕ) (h : LineHeader) (places : TextPlace → Option ℕ) (end : ℕ) (cs : List Change) (specs : List Spec) (p : ℕ) (f : FilePlace) (next : ℕ)
-    → SourceMoves g m s l → AreColumns specs → entry_at g h old specs p ≡ Ok (f, next) → From end next cs → From end p (path_changes g m places h.width f.text ++ cs) × (p ≤ next)
+file-from : (g : LineSource) (m : PathMap) (s l old : List ℕ) (h : LineHeader) (places : LineText → Option ℕ) (end : ℕ) (cs : List Change) (specs : List Spec) (p : ℕ) (f : FilePlace) (next : ℕ)
+    → SourceMoves g m s l → AreColumns specs → entry_at g h old specs p ≡ Ok (f, next) → From end next cs
+    → From end p (texts_changes g m places h.width (entry_texts g h old specs (record { text = None; dir = None; next = p })) ++ cs) × (p ≤ next)
 file-from g m s l old h places end cs specs p f next w plain e from =
     let x = entry-is g h old specs p f next e in
     let r = columns-from g m s l old h places end cs specs (record { text = None; dir = None; next = p }) x.last w plain x.columns_are
     (subst (λ (i : ℕ). From end i cs) (sym x.behind) from) in
-    (subst (λ (o : Option TextPlace). From end p (pending g m places h.width None o ++ cs)) x.text r.0, subst (λ (i : ℕ). p ≤ i) x.behind r.1)
+    (r.0, subst (λ (i : ℕ). p ≤ i) x.behind r.1)
 
-file-moved : (g : LineSource) (m : PathMap) (bytes : List ℕ) (cells : List Cell) (s l old new : List ℕ) (h : LineHeader) (n : LinePlaces) (places : TextPlace → Option ℕ) (end : ℕ) (cs : List Change)
+file-moved : (g : LineSource) (m : PathMap) (bytes : List ℕ) (cells : List Cell) (s l old new : List ℕ) (h : LineHeader) (n : LinePlaces) (places : LineText → Option ℕ) (end : ℕ) (cs : List Change)
     (us : List CellChange) (tail : List Cell) (specs : List Spec) (p q : ℕ) (f : FilePlace) (next : ℕ) → SourceMoves g m s l → Sides g bytes cells old new → AreColumns specs → entry_at g h old specs p ≡ Ok (f, next)
-    → PathMoves g m s l h.width places f.text → Rest old new end (path_changes g m places h.width f.text ++ cs) p q
-    → CellRest g.cells cells end (path_cells g m places h.width f.text ++ us) tail p q → SameChanges us cs → From end next cs → ColumnsClear g h old specs p
+    → EachMoves g m s l h.width places (entry_texts g h old specs (record { text = None; dir = None; next = p }))
+    → Rest old new end (texts_changes g m places h.width (entry_texts g h old specs (record { text = None; dir = None; next = p })) ++ cs) p q
+    → CellRest g.cells cells end (texts_cells g m places h.width (entry_texts g h old specs (record { text = None; dir = None; next = p })) ++ us) tail p q
+    → SameChanges us cs → From end next cs → ColumnsClear g h old specs p
     → FileMoved g (edited_with g bytes cells s l) m h n old new end cs us tail specs p q f next
 file-moved g m bytes cells s l old new h n places end cs us tail specs p q f next w sides plain e moves rest cell both from clear =
     let x = entry-is g h old specs p f next e in
     let r = columns-moved g m bytes cells s l old new h n places end cs us tail specs (record { text = None; dir = None; next = p }) (record { text = None; dir = None; next = q }) x.last w sides plain
-    x.columns_are (subst (MovesText g m s l h.width places) (sym x.text) moves) refl tt
-    (subst (λ (o : Option TextPlace). Rest old new end (pending g m places h.width None o ++ cs) p q) (sym x.text) rest)
-    (subst (λ (o : Option TextPlace). CellRest g.cells cells end (pending_cells g m places h.width None o ++ us) tail p q) (sym x.text) cell) both
-    (subst (λ (i : ℕ). From end i cs) (sym x.behind) from) clear in
+    x.columns_are moves refl tt rest cell both (subst (λ (i : ℕ). From end i cs) (sym x.behind) from) clear in
     by_text r.entry r.entry.text refl r.is r.dir (subst (λ (o : Option TextPlace). MovedText g (edited_with g bytes cells s l) m o r.entry.text) x.text r.text)
     (subst (λ (i : ℕ). Rest old new end cs i r.entry.next) x.behind r.rest)
     (subst (λ (i : ℕ). CellRest g.cells cells end us tail i r.entry.next) x.behind r.cells) r.clear r.further x.dir
@@ -144,16 +142,29 @@ file-moved g m bytes cells s l old new h n places end cs us tail specs p q f nex
       further = further;
     }
 
+-- the texts of entries whose first was read
+pub files-step : (g : LineSource) (h : LineHeader) (table : List ℕ) (specs : List Spec) (n p : ℕ) (f : FilePlace) (next : ℕ) → entry_at g h table specs p ≡ Ok (f, next)
+    → entries_texts g h table specs (suc n) p ≡ entry_texts g h table specs (record { text = None; dir = None; next = p }) ++ entries_texts g h table specs n next
+files-step g h table specs n p f next is =
+    ap (λ (o : Result (FilePlace × ℕ) Refusal). entry_texts g h table specs (record { text = None; dir = None; next = p }) ++ texts_then (λ k. entries_texts g h table specs n k.1) o) is
+
 -- entries under an edit
-files-from : (g : LineSource) (m : PathMap) (s l old : List ℕ) (h : LineHeader) (places : TextPlace → Option ℕ) (end : ℕ) (cs : List Change) (specs : List Spec) (p e : ℕ) (files : List FilePlace)
-    → SourceMoves g m s l → AreColumns specs → NewFiles g h old specs p files e → From end e cs → From end p (all_changes g m places h.width (texts_of files) ++ cs) × (p ≤ e)
+files-from : (g : LineSource) (m : PathMap) (s l old : List ℕ) (h : LineHeader) (places : LineText → Option ℕ) (end : ℕ) (cs : List Change) (specs : List Spec) (p e : ℕ) (files : List FilePlace)
+    → SourceMoves g m s l → AreColumns specs → NewFiles g h old specs p files e → From end e cs
+    → From end p (texts_changes g m places h.width (entries_texts g h old specs (length files) p) ++ cs) × (p ≤ e)
 files-from g m s l old h places end cs specs p e [] w plain are from = (subst (λ (i : ℕ). From end i cs) (sym are) from, omega (arith, are))
 files-from g m s l old h places end cs specs p e (f ∷ fs) w plain are from =
     let rest = files-from g m s l old h places end cs specs are.0.next e fs w plain are.1 from in
     let more = rest.1 in
-    let one = file-from g m s l old h places end (all_changes g m places h.width (texts_of fs) ++ cs) specs p f are.0.next w plain are.0.entry rest.0 in
-    let here = one.1 in
-    (subst (From end p) (sym (append_assoc (path_changes g m places h.width f.text) (all_changes g m places h.width (texts_of fs)) cs)) one.0, omega (arith, here, more))
+    let one = file-from g m s l old h places end (texts_changes g m places h.width (entries_texts g h old specs (length fs) are.0.next) ++ cs) specs p f are.0.next w plain are.0.entry rest.0 in
+    let here = one.1 in (
+      subst (λ (ds : List Change). From end p (ds ++ cs))
+          (sym (ap (texts_changes g m places h.width) (files-step g h old specs (length fs) p f are.0.next are.0.entry)
+          ∙ changes-append g m places h.width (entry_texts g h old specs (record { text = None; dir = None; next = p })) (entries_texts g h old specs (length fs) are.0.next)))
+          (subst (From end p) (sym (append_assoc (texts_changes g m places h.width (entry_texts g h old specs (record { text = None; dir = None; next = p })))
+          (texts_changes g m places h.width (entries_texts g h old specs (length fs) are.0.next)) cs)) one.0),
+      omega (arith, here, more),
+    )
 
 same-next : (f d : FilePlace) (i j : ℕ) → ◌≡◌ {A = Result (FilePlace × ℕ) Refusal} (Ok (f, i)) (Ok (d, j)) → i ≡ j
 same-next f d i j e = ap (λ (y : FilePlace × ℕ). y.1) (ok-pair (f, i) (d, j) e)
@@ -170,22 +181,48 @@ record NewMoved (g k : LineSource) (m : PathMap) (h : LineHeader) (n : LinePlace
   clear : EntriesClear k (moved_header h n) new specs (length files) q
   further : entries_columns k (moved_header h n) new specs (length fs) q ≡ entries_columns g h old specs (length fs) p
 
-files-moved : (g : LineSource) (m : PathMap) (bytes : List ℕ) (cells : List Cell) (s l old new : List ℕ) (h : LineHeader) (n : LinePlaces) (places : TextPlace → Option ℕ) (end : ℕ) (cs : List Change)
-    (us : List CellChange) (tail : List Cell) (specs : List Spec) (p q e : ℕ) (fs : List FilePlace) → SourceMoves g m s l → Sides g bytes cells old new → AreColumns specs → NewFiles g h old specs p fs e → EachMoves g m s l h.width places (texts_of fs)
-    → Rest old new end (all_changes g m places h.width (texts_of fs) ++ cs) p q → CellRest g.cells cells end (all_path_cells g m places h.width (texts_of fs) ++ us) tail p q
+-- the further columns of one entry more
+further-more : (g k : LineSource) (h i : LineHeader) (old new : List ℕ) (specs : List Spec) (n p q : ℕ) (f d : FilePlace × ℕ) → entry_at g h old specs p ≡ Ok f → entry_at k i new specs q ≡ Ok d
+    → further_columns k i new specs false q ≡ further_columns g h old specs false p → entries_columns k i new specs n d.1 ≡ entries_columns g h old specs n f.1
+    → entries_columns k i new specs (suc n) q ≡ entries_columns g h old specs (suc n) p
+further-more g k h i old new specs n p q f d e u first rest =
+    ap (columns_there (further_columns k i new specs false q) (λ a. entries_columns k i new specs n a)) u
+    ∙ ap (λ (c : List LineColumn). c ∷ entries_columns k i new specs n d.1) first
+    ∙ ap (λ (cs_ : List (List LineColumn)). further_columns g h old specs false p ∷ cs_) rest
+    ∙ sym (ap (columns_there (further_columns g h old specs false p) (λ a. entries_columns g h old specs n a)) e)
+
+files-moved : (g : LineSource) (m : PathMap) (bytes : List ℕ) (cells : List Cell) (s l old new : List ℕ) (h : LineHeader) (n : LinePlaces) (places : LineText → Option ℕ) (end : ℕ) (cs : List Change)
+    (us : List CellChange) (tail : List Cell) (specs : List Spec) (p q e : ℕ) (fs : List FilePlace) → SourceMoves g m s l → Sides g bytes cells old new → AreColumns specs → NewFiles g h old specs p fs e
+    → EachMoves g m s l h.width places (entries_texts g h old specs (length fs) p)
+    → Rest old new end (texts_changes g m places h.width (entries_texts g h old specs (length fs) p) ++ cs) p q
+    → CellRest g.cells cells end (texts_cells g m places h.width (entries_texts g h old specs (length fs) p) ++ us) tail p q
     → SameChanges us cs → From end e cs → EntriesClear g h old specs (length fs) p
     → NewMoved g (edited_with g bytes cells s l) m h n old new end cs us tail specs p q e fs
 files-moved g m bytes cells s l old new h n places end cs us tail specs p q e [] w sides plain are moves rest cell both from clear =
     record { files = []; behind = q; are = refl; moved = tt; count = refl; rest = subst (λ (i : ℕ). Rest old new end cs i q) are rest; cells = subst (λ (i : ℕ). CellRest g.cells cells end us tail i q) are cell; clear = tt; further = refl }
 files-moved g m bytes cells s l old new h n places end cs us tail specs p q e (f ∷ fs) w sides plain are moves rest cell both from clear =
+    let front : List LineText = entry_texts g h old specs (record { text = None; dir = None; next = p }) in
+    let next : List LineText = entries_texts g h old specs (length fs) are.0.next in
+    let texts = files-step g h old specs (length fs) p f are.0.next are.0.entry in
+    let each = moves-parts g m s l h.width places (entry_texts g h old specs (record { text = None; dir = None; next = p })) (entries_texts g h old specs (length fs) are.0.next)
+    (subst (EachMoves g m s l h.width places) texts moves) in
     let behind = files-from g m s l old h places end cs specs are.0.next e fs w plain are.1 from in
-    let one = file-moved g m bytes cells s l old new h n places end (all_changes g m places h.width (texts_of fs) ++ cs)
-    (all_path_cells g m places h.width (texts_of fs) ++ us) tail specs p q f are.0.next w sides plain are.0.entry moves.0
-    (subst (λ (ds : List Change). Rest old new end ds p q) (append_assoc (path_changes g m places h.width f.text) (all_changes g m places h.width (texts_of fs)) cs) rest)
-    (subst (λ (vs : List CellChange). CellRest g.cells cells end vs tail p q) (append_assoc (path_cells g m places h.width f.text) (all_path_cells g m places h.width (texts_of fs)) us) cell)
-    (same-append (all_path_cells g m places h.width (texts_of fs)) us (all_changes g m places h.width (texts_of fs)) cs (paths-bytes g m places h.width (texts_of fs) w.own) both)
+    let one = file-moved g m bytes cells s l old new h n places end (texts_changes g m places h.width (entries_texts g h old specs (length fs) are.0.next) ++ cs)
+    (texts_cells g m places h.width (entries_texts g h old specs (length fs) are.0.next) ++ us) tail specs p q f are.0.next w sides plain are.0.entry each.0
+    (subst (λ (ds : List Change). Rest old new end ds p q)
+    (ap (λ (ds : List Change). ds ++ cs) (ap (texts_changes g m places h.width) texts
+    ∙ changes-append g m places h.width (entry_texts g h old specs (record { text = None; dir = None; next = p })) (entries_texts g h old specs (length fs) are.0.next))
+    ∙ append_assoc (texts_changes g m places h.width (entry_texts g h old specs (record { text = None; dir = None; next = p })))
+    (texts_changes g m places h.width (entries_texts g h old specs (length fs) are.0.next)) cs) rest)
+    (subst (λ (vs : List CellChange). CellRest g.cells cells end vs tail p q)
+    (ap (λ (vs : List CellChange). vs ++ us) (ap (texts_cells g m places h.width) texts
+    ∙ cells-append g m places h.width (entry_texts g h old specs (record { text = None; dir = None; next = p })) (entries_texts g h old specs (length fs) are.0.next))
+    ∙ append_assoc (texts_cells g m places h.width (entry_texts g h old specs (record { text = None; dir = None; next = p })))
+    (texts_cells g m places h.width (entries_texts g h old specs (length fs) are.0.next)) us) cell)
+    (same-append (texts_cells g m places h.width (entries_texts g h old specs (length fs) are.0.next)) us (texts_changes g m places h.width (entries_texts g h old specs (length fs) are.0.next)) cs
+    (texts-bytes g m places h.width (entries_texts g h old specs (length fs) are.0.next) w.own) both)
     behind.0 clear.0 in
-    let more = files-moved g m bytes cells s l old new h n places end cs us tail specs are.0.next one.behind e fs w sides plain are.1 moves.1 one.rest one.cells both from (clear.1 f are.0.next are.0.entry) in
+    let more = files-moved g m bytes cells s l old new h n places end cs us tail specs are.0.next one.behind e fs w sides plain are.1 each.1 one.rest one.cells both from (clear.1 f are.0.next are.0.entry) in
     record {
       files = one.file ∷ more.files;
       behind = more.behind;
@@ -199,8 +236,7 @@ files-moved g m bytes cells s l old new h n places end cs us tail specs p q e (f
         λ d next read.
             subst (EntriesClear (edited_with g bytes cells s l) (moved_header h n) new specs (length more.files)) (same-next one.file d one.behind next (sym one.entry ∙ read)) more.clear,
       );
-      further = rw (one.entry, are.0.entry) (ap (λ (c : List LineColumn). c ∷ entries_columns (edited_with g bytes cells s l) (moved_header h n) new specs (length fs) one.behind) one.further
-          ∙ ap (λ (cs_ : List (List LineColumn)). further_columns g h old specs false p ∷ cs_) more.further);
+      further = further-more g (edited_with g bytes cells s l) h (moved_header h n) old new specs (length fs) p q (f, are.0.next) (one.file, one.behind) are.0.entry one.entry one.further more.further;
     }
 
 -- the formats of columns
@@ -380,33 +416,53 @@ pub record ListMoved (g k : LineSource) (m : PathMap) (h : LineHeader) (n : Line
   pub clear : ListClear k (moved_header h n) new q
   pub further : listed_columns k (moved_header h n) new q ≡ listed_columns g h old p
 
-pub list-from : (g : LineSource) (m : PathMap) (s l old : List ℕ) (h : LineHeader) (places : TextPlace → Option ℕ) (end : ℕ) (cs : List Change) (p e : ℕ) (files : List FilePlace)
-    → SourceMoves g m s l → entries_at g h old p ≡ Ok (files, e) → From end e cs → From end p (all_changes g m places h.width (texts_of files) ++ cs) × (p ≤ e)
+-- the texts of a list that was read
+pub list-texts-are : (g : LineSource) (h : LineHeader) (table : List ℕ) (p : ℕ) (files : List FilePlace) (e : ℕ) (x : ListIs g h table p files e)
+    → list_texts g h table p ≡ entries_texts g h table x.format.0 (length files) (x.format.1 + x.count.1)
+list-texts-are g h table p files e x =
+    ap (λ (o : Option (List Spec × ℕ)). texts_formed g h table o) x.format_is
+    ∙ ap (λ (o : Option (ℕ × ℕ)). texts_counted g h table x.format.0 x.format.1 o) x.count_is
+    ∙ ap (λ (n : ℕ). entries_texts g h table x.format.0 n (x.format.1 + x.count.1)) (sym x.number)
+
+list-columns : (g : LineSource) (h : LineHeader) (table : List ℕ) (p : ℕ) (f : List Spec × ℕ) (n : ℕ × ℕ) → format_at table p ≡ Some f → uleb_at table f.1 ≡ Some n
+    → listed_columns g h table p ≡ entries_columns g h table f.0 n.0 (f.1 + n.1)
+list-columns g h table p f n e u =
+    ap (λ (o : Option (List Spec × ℕ)). columns_formed g h table o) e ∙ ap (λ (o : Option (ℕ × ℕ)). columns_counted g h table f.0 f.1 o) u
+
+pub list-from : (g : LineSource) (m : PathMap) (s l old : List ℕ) (h : LineHeader) (places : LineText → Option ℕ) (end : ℕ) (cs : List Change) (p e : ℕ) (files : List FilePlace)
+    → SourceMoves g m s l → entries_at g h old p ≡ Ok (files, e) → From end e cs → From end p (texts_changes g m places h.width (list_texts g h old p) ++ cs) × (p ≤ e)
 list-from g m s l old h places end cs p e files w is from =
     let x = list-is g h old p files e is in
     let f = format-place old p x.format x.format_is in
     let r = files-from g m s l old h places end cs x.format.0 (x.format.1 + x.count.1) e files w f.2 x.are from in
     let behind = f.0 in
-    let more = r.1 in
-    (from-before end p (x.format.1 + x.count.1) (all_changes g m places h.width (texts_of files) ++ cs) (omega (arith, behind)) r.0, omega (arith, behind, more))
+    let more = r.1 in (
+      subst (λ (xs : List LineText). From end p (texts_changes g m places h.width xs ++ cs)) (sym (list-texts-are g h old p files e x))
+          (from-before end p (x.format.1 + x.count.1) (texts_changes g m places h.width (entries_texts g h old x.format.0 (length files) (x.format.1 + x.count.1)) ++ cs) (omega (arith, behind)) r.0),
+      omega (arith, behind, more),
+    )
 
-pub list-moved : (g : LineSource) (m : PathMap) (bytes : List ℕ) (cells : List Cell) (s l old new : List ℕ) (h : LineHeader) (n : LinePlaces) (places : TextPlace → Option ℕ) (end : ℕ) (cs : List Change)
-    (us : List CellChange) (tail : List Cell) (p q e : ℕ) (fs : List FilePlace) → SourceMoves g m s l → Sides g bytes cells old new → entries_at g h old p ≡ Ok (fs, e) → EachMoves g m s l h.width places (texts_of fs)
-    → Rest old new end (all_changes g m places h.width (texts_of fs) ++ cs) p q
-    → CellRest g.cells cells end (all_path_cells g m places h.width (texts_of fs) ++ us) tail p q → SameChanges us cs → From end e cs → ListClear g h old p
+pub list-moved : (g : LineSource) (m : PathMap) (bytes : List ℕ) (cells : List Cell) (s l old new : List ℕ) (h : LineHeader) (n : LinePlaces) (places : LineText → Option ℕ) (end : ℕ) (cs : List Change)
+    (us : List CellChange) (tail : List Cell) (p q e : ℕ) (fs : List FilePlace) → SourceMoves g m s l → Sides g bytes cells old new → entries_at g h old p ≡ Ok (fs, e) → EachMoves g m s l h.width places (list_texts g h old p)
+    → Rest old new end (texts_changes g m places h.width (list_texts g h old p) ++ cs) p q
+    → CellRest g.cells cells end (texts_cells g m places h.width (list_texts g h old p) ++ us) tail p q → SameChanges us cs → From end e cs → ListClear g h old p
     → ListMoved g (edited_with g bytes cells s l) m h n old new end cs us tail p q e fs
 unfolding entries_at
-list-moved g m bytes cells s l old new h n places end cs us tail p q e fs w sides is moves rest cell both from clear =
+list-moved g m bytes cells s l old new h n places end cs us tail p q e fs w sides is list_moves list_rest list_cell both from clear =
     let x = list-is g h old p fs e is in
+    let texts = list-texts-are g h old p fs e x in
+    let moves = subst (EachMoves g m s l h.width places) texts list_moves in
+    let rest = subst (λ (xs : List LineText). Rest old new end (texts_changes g m places h.width xs ++ cs) p q) texts list_rest in
+    let cell = subst (λ (xs : List LineText). CellRest g.cells cells end (texts_cells g m places h.width xs ++ us) tail p q) texts list_cell in
     let f = format-place old p x.format x.format_is in
     let front = f.0 in
     let inside : x.format.1 + x.count.1 ≤ length old = uleb-inside old x.format.1 x.count.0 x.count.1 x.count_is in
     let behind = files-from g m s l old h places end cs x.format.0 (x.format.1 + x.count.1) e fs w f.2 x.are from in
-    let k = copied old new end (all_changes g m places h.width (texts_of fs) ++ cs) p q (x.format.1 + x.count.1) rest (omega (arith, front)) behind.0 in
-    let last : x.format.1 + x.count.1 ≤ end = from-end end (x.format.1 + x.count.1) (all_changes g m places h.width (texts_of fs) ++ cs) behind.0 in
-    let d = cells-copied g.cells cells end (all_path_cells g m places h.width (texts_of fs) ++ us) tail p q (x.format.1 + x.count.1) cell (omega (arith, front)) last
-    (same-from end (x.format.1 + x.count.1) (all_path_cells g m places h.width (texts_of fs) ++ us) (all_changes g m places h.width (texts_of fs) ++ cs)
-    (same-append (all_path_cells g m places h.width (texts_of fs)) us (all_changes g m places h.width (texts_of fs)) cs (paths-bytes g m places h.width (texts_of fs) w.own) both) behind.0)
+    let k = copied old new end (texts_changes g m places h.width (entries_texts g h old x.format.0 (length fs) (x.format.1 + x.count.1)) ++ cs) p q (x.format.1 + x.count.1) rest (omega (arith, front)) behind.0 in
+    let last : x.format.1 + x.count.1 ≤ end = from-end end (x.format.1 + x.count.1) (texts_changes g m places h.width (entries_texts g h old x.format.0 (length fs) (x.format.1 + x.count.1)) ++ cs) behind.0 in
+    let d = cells-copied g.cells cells end (texts_cells g m places h.width (entries_texts g h old x.format.0 (length fs) (x.format.1 + x.count.1)) ++ us) tail p q (x.format.1 + x.count.1) cell (omega (arith, front)) last
+    (same-from end (x.format.1 + x.count.1) (texts_cells g m places h.width (entries_texts g h old x.format.0 (length fs) (x.format.1 + x.count.1)) ++ us) (texts_changes g m places h.width (entries_texts g h old x.format.0 (length fs) (x.format.1 + x.count.1)) ++ cs)
+    (same-append (texts_cells g m places h.width (entries_texts g h old x.format.0 (length fs) (x.format.1 + x.count.1))) us (texts_changes g m places h.width (entries_texts g h old x.format.0 (length fs) (x.format.1 + x.count.1))) cs (texts-bytes g m places h.width (entries_texts g h old x.format.0 (length fs) (x.format.1 + x.count.1)) w.own) both) behind.0)
     (clear-none g.cells p (x.format.1 + x.count.1) (clear.front x.format x.count x.format_is x.count_is)) in
     let size : length (part old p (x.format.1 + x.count.1)) ≡ x.format.1 + x.count.1 - p = part-length old p (x.format.1 + x.count.1) (omega (arith, front)) inside in
     let format_new : format_at new q ≡ Some (x.format.0, q + (x.format.1 - p)) =
@@ -419,8 +475,8 @@ list-moved g m bytes cells s l old new h n places end cs us tail p q e fs w side
     (omega (arith, size, front, length-drop (x.format.1 - p) (part old p (x.format.1 + x.count.1)))) in
     let mid : q + (x.format.1 + x.count.1 - p) ≡ q + (x.format.1 - p) + x.count.1 = omega (arith, front) in
     let r = files-moved g m bytes cells s l old new h n places end cs us tail x.format.0 (x.format.1 + x.count.1) (q + (x.format.1 - p) + x.count.1) e fs w sides f.2 x.are moves
-    (subst (λ (i : ℕ). Rest old new end (all_changes g m places h.width (texts_of fs) ++ cs) (x.format.1 + x.count.1) i) mid k.rest)
-    (subst (λ (i : ℕ). CellRest g.cells cells end (all_path_cells g m places h.width (texts_of fs) ++ us) tail (x.format.1 + x.count.1) i) mid d.rest) both from
+    (subst (λ (i : ℕ). Rest old new end (texts_changes g m places h.width (entries_texts g h old x.format.0 (length fs) (x.format.1 + x.count.1)) ++ cs) (x.format.1 + x.count.1) i) mid k.rest)
+    (subst (λ (i : ℕ). CellRest g.cells cells end (texts_cells g m places h.width (entries_texts g h old x.format.0 (length fs) (x.format.1 + x.count.1)) ++ us) tail (x.format.1 + x.count.1) i) mid d.rest) both from
     (subst (λ (k : ℕ). EntriesClear g h old x.format.0 k (x.format.1 + x.count.1)) (sym x.number) (clear.entries x.format x.count x.format_is x.count_is)) in
     let number : length r.files ≡ x.count.0 = r.count ∙ x.number in
     let front_clear : Clear cells q (q + (x.format.1 - p) + x.count.1) =
@@ -430,7 +486,9 @@ list-moved g m bytes cells s l old new h n places end cs us tail p q e fs w side
     record {
       files = r.files;
       behind = r.behind;
-      is = rw (format_new, count_new, ← number) run;
+      is = ap (entries_behind (edited_with g bytes cells s l) (moved_header h n) new) format_new
+          ∙ ap (counted_entries (edited_with g bytes cells s l) (moved_header h n) new x.format.0 (q + (x.format.1 - p))) count_new
+          ∙ ap (λ (i : ℕ). fallible_steps (next_entry (edited_with g bytes cells s l) (moved_header h n) new x.format.0) i ([], q + (x.format.1 - p) + x.count.1)) (sym number) ∙ run;
       moved = r.moved;
       rest = r.rest;
       cells = r.cells;
@@ -446,5 +504,8 @@ list-moved g m bytes cells s l old new h n places end cs us tail p q e fs w side
             (subst (λ (y : List Spec × ℕ). EntriesClear (edited_with g bytes cells s l) (moved_header h n) new y.0 x.count.0 (y.1 + x.count.1)) format_same
             (subst (λ (i : ℕ). EntriesClear (edited_with g bytes cells s l) (moved_header h n) new x.format.0 i (q + (x.format.1 - p) + x.count.1)) number r.clear));
       };
-      further = rw (format_new, count_new, x.format_is, x.count_is, ← x.number) r.further;
+      further = list-columns (edited_with g bytes cells s l) (moved_header h n) new q (x.format.0, q + (x.format.1 - p)) x.count format_new count_new
+          ∙ ap (λ (i : ℕ). entries_columns (edited_with g bytes cells s l) (moved_header h n) new x.format.0 i (q + (x.format.1 - p) + x.count.1)) (sym x.number) ∙ r.further
+          ∙ ap (λ (i : ℕ). entries_columns g h old x.format.0 i (x.format.1 + x.count.1)) x.number
+          ∙ sym (list-columns g h old p x.format x.count x.format_is x.count_is);
     }

@@ -15,26 +15,32 @@ use Rattle.dw_base.specs.Texts.{same_text}
 use Rattle.dw_base.proofs.TextLaws.{same_text-true}
 use Rattle.dw_base.specs.LineTables.{texts_of, HasLists, old_lists, new_lists}
 use Rattle.dw_base.specs.Paths.{PathMap, mapped_path}
-use Rattle.dw_base.specs.WrittenLines.{cells_part, part, bytes_at, Change, path_changes, all_changes, paths_of, length_size, written_header, written_table}
+use Rattle.dw_base.specs.TableTexts.{as_paths, list_texts, texts_by}
+use Rattle.dw_base.specs.TextLineChanges.{header_by_texts, on_paths, table_by_texts, texts_changes}
+use Rattle.dw_base.specs.WrittenLines.{cells_part, part, bytes_at, Change, path_changes, all_changes, length_size}
 use Rattle.dw_base.specs.declared.line_rows.Row.{Row}
 use Rattle.dw_base.specs.declared.line_tables.FilePlace.{FilePlace}
 use Rattle.dw_base.specs.declared.line_tables.LineHeader.{LineHeader}
+use Rattle.dw_base.specs.declared.line_tables.LineText.{LineText}
 use Rattle.dw_base.specs.declared.line_tables.TextPlace.{TextPlace}
 use Rattle.dw_base.specs.declared.shared.Width.{Width}
 use Rattle.dw_base.proofs.ContributionBackLaws.{StandsAt}
 use Rattle.dw_base.proofs.UnitEditLaws.{length-bytes_of}
 use Rattle.dw_base.proofs.PathLaws.{mapped_path-none}
-use Rattle.dw_meaning.specs.LineCells.{CellChange, all_path_cells, written_cells}
+use Rattle.dw_meaning.specs.LineCells.{CellChange, all_path_cells, path_cells}
+use Rattle.dw_meaning.specs.TextLineCells.{table_cells_by_texts, texts_cells}
 use Rattle.dw_meaning.proofs.CellLaidLaws.{cells-end, laid-cells, laid-clear}
 use Rattle.dw_meaning.proofs.CellRestLaws.{CellRest, cells-copied, clear-none, same-from}
 use Rattle.dw_meaning.proofs.ClearLaws.{Clear, ListClear, ListsClear, NoneOver, clear-part, clear-join, whole-clear}
-use Rattle.dw_meaning.proofs.LineCellLaws.{SameChanges, cells-append, paths-bytes, same-append}
+use Rattle.dw_meaning.proofs.LineCellLaws.{SameChanges, cells-append as path_cells-append, paths-bytes, same-append}
+use Rattle.dw_meaning.proofs.TextCellLaws.{texts-bytes}
 use Rattle.dw_meaning.proofs.LineClearLaws.{TableClear}
 use Rattle.dw_meaning.proofs.LineChangeLaws.{From, Rest, copied, from-end, part-length, part-none, all-before}
 use Rattle.dw_meaning.proofs.LineColumnLaws.{edited_with, SourceMoves}
 use Rattle.dw_meaning.proofs.LineHeaderLaws.{ops_size, length-place, flags-place, first_place, flags_at, HeaderIs, header-is, header-there}
 use Rattle.dw_meaning.proofs.LineLaidLaws.{Writable, Laid, laid}
-use Rattle.dw_meaning.proofs.LineListLaws.{EachMoves, MovedFiles, list-from, list-moved}
+use Rattle.dw_meaning.proofs.LineEntryLaws.{EachMoves, cells-append, changes-append, moves-parts}
+use Rattle.dw_meaning.proofs.LineListLaws.{MovedFiles, list-from, list-moved}
 use Rattle.dw_meaning.proofs.LineMoveLaws.{LinePlaces, moved_header, Sides}
 use Rattle.dw_meaning.proofs.LineOldLaws.{MovedTexts, dirs-from, dirs-moved, files-from, files-moved}
 use Rattle.dw_meaning.proofs.LineProgramLaws.{Same, Counts, KeptFiles, program-moved}
@@ -42,39 +48,60 @@ use Rattle.dw_meaning.proofs.LineReadLaws.{Both, both-behind, first-stand}
 use Rattle.dw_meaning.proofs.LineTableLaws.{places_of, HeaderPlaces, header-places, header-moved}
 use Rattle.dw_meaning.proofs.LineWalkLaws.{dirs-of, dirs-walk, files-of, files-walk, opcodes-of, opcodes-walk}
 
--- changes and moves of paths one after another
-changes-append : (g : LineSource) (m : PathMap) (places : TextPlace → Option ℕ) (w : Width) (xs ys : List TextPlace)
+-- before version 5 the texts are the paths, and their changes those of paths
+paths-changes : (g : LineSource) (m : PathMap) (places : LineText → Option ℕ) (w : Width) (xs : List TextPlace) → texts_changes g m places w (as_paths xs) ≡ all_changes g m (on_paths places) w xs
+paths-changes g m places w [] = refl
+paths-changes g m places w (x ∷ xs) = ap (λ (cs : List Change). path_changes g m (on_paths places) w x ++ cs) (paths-changes g m places w xs)
+
+paths-cells : (g : LineSource) (m : PathMap) (places : LineText → Option ℕ) (w : Width) (xs : List TextPlace) → texts_cells g m places w (as_paths xs) ≡ all_path_cells g m (on_paths places) w xs
+paths-cells g m places w [] = refl
+paths-cells g m places w (x ∷ xs) = ap (λ (cs : List CellChange). path_cells g m (on_paths places) w x ++ cs) (paths-cells g m places w xs)
+
+old-texts : (g : LineSource) (h : LineHeader) (table : List ℕ) (xs : List TextPlace) → (h.version ≡ 5 → ⊥) → texts_by g h table xs ≡ as_paths xs
+old-texts g h table xs other =
+    ap (λ (b : Bool). if b then list_texts g h table h.lists ++ list_texts g h table (list_end g h table h.lists) else as_paths xs) (ne_eqb h.version 5 other)
+
+new-texts : (g : LineSource) (h : LineHeader) (table : List ℕ) (xs : List TextPlace) (place : ℕ) → h.version ≡ 5 → list_end g h table h.lists ≡ place
+    → texts_by g h table xs ≡ list_texts g h table h.lists ++ list_texts g h table place
+new-texts g h table xs place five end =
+    ap (λ (b : Bool). if b then list_texts g h table h.lists ++ list_texts g h table (list_end g h table h.lists) else as_paths xs) (eq-eqb h.version 5 five)
+    ∙ ap (λ (n : ℕ). list_texts g h table h.lists ++ list_texts g h table n) end
+
+paths-append : (g : LineSource) (m : PathMap) (places : TextPlace → Option ℕ) (w : Width) (xs ys : List TextPlace)
     → all_changes g m places w (xs ++ ys) ≡ all_changes g m places w xs ++ all_changes g m places w ys
-changes-append g m places w [] ys = refl
-changes-append g m places w (x ∷ xs) ys =
-    ap (λ (cs : List Change). path_changes g m places w x ++ cs) (changes-append g m places w xs ys)
+paths-append g m places w [] ys = refl
+paths-append g m places w (x ∷ xs) ys =
+    ap (λ (cs : List Change). path_changes g m places w x ++ cs) (paths-append g m places w xs ys)
     ∙ sym (append_assoc (path_changes g m places w x) (all_changes g m places w xs) (all_changes g m places w ys))
 
-moves-first : (g : LineSource) (m : PathMap) (s l : List ℕ) (w : Width) (places : TextPlace → Option ℕ) (xs ys : List TextPlace) → EachMoves g m s l w places (xs ++ ys)
-    → EachMoves g m s l w places xs × EachMoves g m s l w places ys
-moves-first g m s l w places [] ys h = (tt, h)
-moves-first g m s l w places (x ∷ xs) ys h =
-    let rest = moves-first g m s l w places xs ys h.1 in
-    ((h.0, rest.0), rest.1)
-
 -- where no change begins before the lists
-pub lists-from : (g : LineSource) (m : PathMap) (s l old : List ℕ) (h : LineHeader) (places : TextPlace → Option ℕ) (dirs : List TextPlace) (files : List FilePlace) (behind : ℕ)
-    → SourceMoves g m s l → HasLists g h old dirs files behind → behind ≤ h.program → From h.program h.lists (all_changes g m places h.width (dirs ++ texts_of files)) × (h.lists ≤ behind)
+pub lists-from : (g : LineSource) (m : PathMap) (s l old : List ℕ) (h : LineHeader) (places : LineText → Option ℕ) (dirs : List TextPlace) (files : List FilePlace) (behind : ℕ)
+    → SourceMoves g m s l → HasLists g h old dirs files behind → behind ≤ h.program
+    → From h.program h.lists (texts_changes g m places h.width (texts_by g h old (dirs ++ texts_of files))) × (h.lists ≤ behind)
 lists-from g m s l old h places dirs files behind w (old_lists ds fs place e other d f) le =
-    let f2 = files-from g m places h old h.program [] place behind files (files-of g.number old place behind files f) le in
-    let none : all_changes g m places h.width (texts_of files) ++ [] ≡ all_changes g m places h.width (texts_of files) = append-nil (all_changes g m places h.width (texts_of files)) in
-    let d2 = dirs-from g m places h old h.program (all_changes g m places h.width (texts_of files)) h.lists place dirs (dirs-of g.number old h.lists place dirs d)
+    let f2 = files-from g m (on_paths places) h old h.program [] place behind files (files-of g.number old place behind files f) le in
+    let none : all_changes g m (on_paths places) h.width (texts_of files) ++ [] ≡ all_changes g m (on_paths places) h.width (texts_of files) = append-nil (all_changes g m (on_paths places) h.width (texts_of files)) in
+    let d2 = dirs-from g m (on_paths places) h old h.program (all_changes g m (on_paths places) h.width (texts_of files)) h.lists place dirs (dirs-of g.number old h.lists place dirs d)
     (subst (From h.program place) none f2.0) in
     let a = d2.1 in
-    let b = f2.1 in
-    (subst (From h.program h.lists) (sym (changes-append g m places h.width dirs (texts_of files))) d2.0, omega (arith, a, b))
+    let b = f2.1 in (
+      subst (From h.program h.lists)
+          (sym (ap (texts_changes g m places h.width) (old-texts g h old (dirs ++ texts_of files) other) ∙ paths-changes g m places h.width (dirs ++ texts_of files)
+          ∙ paths-append g m (on_paths places) h.width dirs (texts_of files))) d2.0,
+      omega (arith, a, b),
+    )
 lists-from g m s l old h places dirs files behind w (new_lists ds fs place e five d f) le =
     let f2 = list-from g m s l old h places h.program [] place behind files w f le in
-    let none : all_changes g m places h.width (texts_of files) ++ [] ≡ all_changes g m places h.width (texts_of files) = append-nil (all_changes g m places h.width (texts_of files)) in
-    let d2 = list-from g m s l old h places h.program (all_changes g m places h.width (texts_of files)) h.lists place ds w d (subst (From h.program place) none f2.0) in
+    let none : texts_changes g m places h.width (list_texts g h old place) ++ [] ≡ texts_changes g m places h.width (list_texts g h old place) =
+    append-nil (texts_changes g m places h.width (list_texts g h old place)) in
+    let d2 = list-from g m s l old h places h.program (texts_changes g m places h.width (list_texts g h old place)) h.lists place ds w d (subst (From h.program place) none f2.0) in
     let a = d2.1 in
-    let b = f2.1 in
-    (subst (From h.program h.lists) (sym (changes-append g m places h.width (texts_of ds) (texts_of files))) d2.0, omega (arith, a, b))
+    let b = f2.1 in (
+      subst (From h.program h.lists)
+          (sym (ap (texts_changes g m places h.width) (new-texts g h old (texts_of ds ++ texts_of files) place five (ap (place_behind h.lists) d))
+          ∙ changes-append g m places h.width (list_texts g h old h.lists) (list_texts g h old place))) d2.0,
+      omega (arith, a, b),
+    )
 
 -- files as texts
 texts-moved : (g k : LineSource) (m : PathMap) (fs us : List FilePlace) → MovedFiles g k m fs us → MovedTexts g k m (texts_of fs) (texts_of us)
@@ -99,31 +126,42 @@ pub record ListsMoved (g k : LineSource) (m : PathMap) (h : LineHeader) (n : Lin
   pub file_columns_same : (if h.version == 5 then listed_columns k (moved_header h n) new (list_end k (moved_header h n) new n.lists) else map (old_columns new) new_files)
       ≡ (if h.version == 5 then listed_columns g h old (list_end g h old h.lists) else map (old_columns old) files)
 
-pub lists-moved : (g : LineSource) (m : PathMap) (bytes : List ℕ) (cells : List Cell) (s l old new : List ℕ) (h : LineHeader) (n : LinePlaces) (places : TextPlace → Option ℕ) (tail : List Cell) (dirs : List TextPlace)
-    (files : List FilePlace) (behind : ℕ) → SourceMoves g m s l → Sides g bytes cells old new → HasLists g h old dirs files behind → behind ≤ h.program → EachMoves g m s l h.width places (dirs ++ texts_of files)
-    → Rest old new h.program (all_changes g m places h.width (dirs ++ texts_of files)) h.lists n.lists
-    → CellRest g.cells cells h.program (all_path_cells g m places h.width (dirs ++ texts_of files)) tail h.lists n.lists → ListsClear g h old behind
+by_no : (b : Bool) (x y z w : List (List LineColumn)) → b ≡ false → z ≡ w → (if b then x else z) ≡ (if b then y else w)
+by_no true x y z w e f = absurd cc
+by_no false x y z w e f = f
+
+by_yes : (b : Bool) (x y z w : List (List LineColumn)) → b ≡ true → x ≡ y → (if b then x else z) ≡ (if b then y else w)
+by_yes true x y z w e f = f
+by_yes false x y z w e f = absurd cc
+
+pub lists-moved : (g : LineSource) (m : PathMap) (bytes : List ℕ) (cells : List Cell) (s l old new : List ℕ) (h : LineHeader) (n : LinePlaces) (places : LineText → Option ℕ) (tail : List Cell) (dirs : List TextPlace)
+    (files : List FilePlace) (behind : ℕ) → SourceMoves g m s l → Sides g bytes cells old new → HasLists g h old dirs files behind → behind ≤ h.program
+    → EachMoves g m s l h.width places (texts_by g h old (dirs ++ texts_of files))
+    → Rest old new h.program (texts_changes g m places h.width (texts_by g h old (dirs ++ texts_of files))) h.lists n.lists
+    → CellRest g.cells cells h.program (texts_cells g m places h.width (texts_by g h old (dirs ++ texts_of files))) tail h.lists n.lists → ListsClear g h old behind
     → ListsMoved g (edited_with g bytes cells s l) m h n old new tail dirs files behind
 lists-moved g m bytes cells s l old new h n places tail dirs files behind w sides (old_lists ds fs place e other d f) le moves rest cell clear =
+    let texts = old-texts g h old (dirs ++ texts_of files) other in
     let d0 = dirs-of g.number old h.lists place dirs d in
     let f0 = files-of g.number old place behind files f in
-    let f2 = files-from g m places h old h.program [] place behind files f0 le in
-    let none : all_changes g m places h.width (texts_of files) ++ [] ≡ all_changes g m places h.width (texts_of files) = append-nil (all_changes g m places h.width (texts_of files)) in
-    let last : CellRest g.cells cells h.program (all_path_cells g m places h.width dirs ++ (all_path_cells g m places h.width (texts_of files) ++ [])) tail h.lists n.lists =
+    let f2 = files-from g m (on_paths places) h old h.program [] place behind files f0 le in
+    let none : all_changes g m (on_paths places) h.width (texts_of files) ++ [] ≡ all_changes g m (on_paths places) h.width (texts_of files) = append-nil (all_changes g m (on_paths places) h.width (texts_of files)) in
+    let last : CellRest g.cells cells h.program (all_path_cells g m (on_paths places) h.width dirs ++ (all_path_cells g m (on_paths places) h.width (texts_of files) ++ [])) tail h.lists n.lists =
     subst (λ (us : List CellChange). CellRest g.cells cells h.program us tail h.lists n.lists)
-    (cells-append g m places h.width dirs (texts_of files)
-    ∙ ap (λ (us : List CellChange). all_path_cells g m places h.width dirs ++ us) (sym (append-nil (all_path_cells g m places h.width (texts_of files))))) cell in
-    let same : SameChanges (all_path_cells g m places h.width (texts_of files) ++ []) (all_changes g m places h.width (texts_of files) ++ []) =
-    same-append (all_path_cells g m places h.width (texts_of files)) [] (all_changes g m places h.width (texts_of files)) [] (paths-bytes g m places h.width (texts_of files) w.own) tt in
+    (ap (texts_cells g m places h.width) texts ∙ paths-cells g m places h.width (dirs ++ texts_of files) ∙ path_cells-append g m (on_paths places) h.width dirs (texts_of files)
+    ∙ ap (λ (us : List CellChange). all_path_cells g m (on_paths places) h.width dirs ++ us) (sym (append-nil (all_path_cells g m (on_paths places) h.width (texts_of files))))) cell in
+    let same : SameChanges (all_path_cells g m (on_paths places) h.width (texts_of files) ++ []) (all_changes g m (on_paths places) h.width (texts_of files) ++ []) =
+    same-append (all_path_cells g m (on_paths places) h.width (texts_of files)) [] (all_changes g m (on_paths places) h.width (texts_of files)) [] (paths-bytes g m (on_paths places) h.width (texts_of files) w.own) tt in
     let whole : Clear g.cells h.lists behind = clear.old other in
     let second = f2.1 in
-    let first = (dirs-from g m places h old h.program (all_changes g m places h.width (texts_of files) ++ []) h.lists place dirs d0 f2.0).1 in
-    let d1 = dirs-moved g m bytes cells s l old new h places h.program (all_changes g m places h.width (texts_of files) ++ [])
-    (all_path_cells g m places h.width (texts_of files) ++ []) tail h.lists n.lists place dirs w sides d0
+    let first = (dirs-from g m (on_paths places) h old h.program (all_changes g m (on_paths places) h.width (texts_of files) ++ []) h.lists place dirs d0 f2.0).1 in
+    let d1 = dirs-moved g m bytes cells s l old new h (on_paths places) h.program (all_changes g m (on_paths places) h.width (texts_of files) ++ [])
+    (all_path_cells g m (on_paths places) h.width (texts_of files) ++ []) tail h.lists n.lists place dirs w sides d0
     (subst (λ (cs : List Change). Rest old new h.program cs h.lists n.lists)
-    (changes-append g m places h.width dirs (texts_of files) ∙ ap (λ (cs : List Change). all_changes g m places h.width dirs ++ cs) (sym none)) rest) last same f2.0
+    (ap (texts_changes g m places h.width) texts ∙ paths-changes g m places h.width (dirs ++ texts_of files) ∙ paths-append g m (on_paths places) h.width dirs (texts_of files)
+    ∙ ap (λ (cs : List Change). all_changes g m (on_paths places) h.width dirs ++ cs) (sym none)) rest) last same f2.0
     (clear-part g.cells h.lists behind h.lists place whole (omega arith) second) in
-    let f1 = files-moved g m bytes cells s l old new h places h.program [] [] tail place d1.behind behind files w sides f0 d1.rest d1.cells tt le
+    let f1 = files-moved g m bytes cells s l old new h (on_paths places) h.program [] [] tail place d1.behind behind files w sides f0 d1.rest d1.cells tt le
     (clear-part g.cells h.lists behind place behind whole first (omega arith)) in
     record {
       new_dirs = d1.texts;
@@ -139,23 +177,26 @@ lists-moved g m bytes cells s l old new h n places tail dirs files behind w side
         dirs = λ five. absurd (other five);
         files = λ five. absurd (other five);
       };
-      dir_columns_same = rw (ne_eqb h.version 5 other) refl;
-      file_columns_same = rw (ne_eqb h.version 5 other) f1.further;
+      dir_columns_same = by_no (h.version == 5) _ _ _ _ (ne_eqb h.version 5 other) refl;
+      file_columns_same = by_no (h.version == 5) _ _ _ _ (ne_eqb h.version 5 other) f1.further;
     }
 lists-moved g m bytes cells s l old new h n places tail dirs files behind w sides (new_lists ds fs place e five d f) le moves rest cell clear =
-    let both = moves-first g m s l h.width places (texts_of ds) (texts_of files) moves in
+    let texts = new-texts g h old (texts_of ds ++ texts_of files) place five (ap (place_behind h.lists) d) in
+    let both = moves-parts g m s l h.width places (list_texts g h old h.lists) (list_texts g h old place) (subst (EachMoves g m s l h.width places) texts moves) in
     let f2 = list-from g m s l old h places h.program [] place behind files w f le in
-    let none : all_changes g m places h.width (texts_of files) ++ [] ≡ all_changes g m places h.width (texts_of files) = append-nil (all_changes g m places h.width (texts_of files)) in
-    let last : CellRest g.cells cells h.program (all_path_cells g m places h.width (texts_of ds) ++ (all_path_cells g m places h.width (texts_of files) ++ [])) tail h.lists n.lists =
+    let none : texts_changes g m places h.width (list_texts g h old place) ++ [] ≡ texts_changes g m places h.width (list_texts g h old place) =
+    append-nil (texts_changes g m places h.width (list_texts g h old place)) in
+    let last : CellRest g.cells cells h.program (texts_cells g m places h.width (list_texts g h old h.lists) ++ (texts_cells g m places h.width (list_texts g h old place) ++ [])) tail h.lists n.lists =
     subst (λ (us : List CellChange). CellRest g.cells cells h.program us tail h.lists n.lists)
-    (cells-append g m places h.width (texts_of ds) (texts_of files)
-    ∙ ap (λ (us : List CellChange). all_path_cells g m places h.width (texts_of ds) ++ us) (sym (append-nil (all_path_cells g m places h.width (texts_of files))))) cell in
-    let same : SameChanges (all_path_cells g m places h.width (texts_of files) ++ []) (all_changes g m places h.width (texts_of files) ++ []) =
-    same-append (all_path_cells g m places h.width (texts_of files)) [] (all_changes g m places h.width (texts_of files)) [] (paths-bytes g m places h.width (texts_of files) w.own) tt in
-    let d1 = list-moved g m bytes cells s l old new h n places h.program (all_changes g m places h.width (texts_of files) ++ [])
-    (all_path_cells g m places h.width (texts_of files) ++ []) tail h.lists n.lists place ds w sides d both.0
+    (ap (texts_cells g m places h.width) texts ∙ cells-append g m places h.width (list_texts g h old h.lists) (list_texts g h old place)
+    ∙ ap (λ (us : List CellChange). texts_cells g m places h.width (list_texts g h old h.lists) ++ us) (sym (append-nil (texts_cells g m places h.width (list_texts g h old place))))) cell in
+    let same : SameChanges (texts_cells g m places h.width (list_texts g h old place) ++ []) (texts_changes g m places h.width (list_texts g h old place) ++ []) =
+    same-append (texts_cells g m places h.width (list_texts g h old place)) [] (texts_changes g m places h.width (list_texts g h old place)) [] (texts-bytes g m places h.width (list_texts g h old place) w.own) tt in
+    let d1 = list-moved g m bytes cells s l old new h n places h.program (texts_changes g m places h.width (list_texts g h old place) ++ [])
+    (texts_cells g m places h.width (list_texts g h old place) ++ []) tail h.lists n.lists place ds w sides d both.0
     (subst (λ (cs : List Change). Rest old new h.program cs h.lists n.lists)
-    (changes-append g m places h.width (texts_of ds) (texts_of files) ∙ ap (λ (cs : List Change). all_changes g m places h.width (texts_of ds) ++ cs) (sym none)) rest) last same f2.0 (clear.dirs five) in
+    (ap (texts_changes g m places h.width) texts ∙ changes-append g m places h.width (list_texts g h old h.lists) (list_texts g h old place)
+    ∙ ap (λ (cs : List Change). texts_changes g m places h.width (list_texts g h old h.lists) ++ cs) (sym none)) rest) last same f2.0 (clear.dirs five) in
     let end_old : list_end g h old h.lists ≡ place = ap (place_behind h.lists) d in
     let f1 = list-moved g m bytes cells s l old new h n places h.program [] [] tail place d1.behind behind files w sides f both.1 d1.rest d1.cells tt le
     (subst (ListClear g h old) end_old (clear.files five)) in
@@ -175,7 +216,7 @@ lists-moved g m bytes cells s l old new h n places tail dirs files behind w side
         files = λ is. subst (ListClear (edited_with g bytes cells s l) (moved_header h n) new) (sym end_new) f1.clear;
       };
       dir_columns_same = by_five (h.version == 5) d1.further;
-      file_columns_same = rw (eq-eqb h.version 5 five) (ap (listed_columns (edited_with g bytes cells s l) (moved_header h n) new) end_new ∙ f1.further ∙ ap (listed_columns g h old) (sym end_old));
+      file_columns_same = by_yes (h.version == 5) _ _ _ _ (eq-eqb h.version 5 five) (ap (listed_columns (edited_with g bytes cells s l) (moved_header h n) new) end_new ∙ f1.further ∙ ap (listed_columns g h old) (sym end_old));
     }
   where
     by_five : (b : Bool) {x y : List (List LineColumn)} → x ≡ y → (if b then x else []) ≡ (if b then y else [])
@@ -321,11 +362,11 @@ pub record TableMoved (g k : LineSource) (m : PathMap) (start size : ℕ) (r : L
   pub clear : TableClear k reading
   pub tail : TailStays g k r reading
 
-pub table-moved : (g : LineSource) (m : PathMap) (places : TextPlace → Option ℕ) (bytes : List ℕ) (cells more : List Cell) (s l : List ℕ) (begin start : ℕ) (r : LineReading) → SourceMoves g m s l → ReadsTable g begin r
-    → Writable g m places r → EachMoves g m s l r.header.width places (paths_of (table_read g r)) → DefinedStay m (take r.header.end g.bytes) r.defined
-    → StandsAt bytes (written_table g m places (table_read g r)) start → bytes_of cells ≡ bytes → drop start cells ≡ written_cells g m places (table_read g r) ++ more
+pub table-moved : (g : LineSource) (m : PathMap) (places : LineText → Option ℕ) (bytes : List ℕ) (cells more : List Cell) (s l : List ℕ) (begin start : ℕ) (r : LineReading) → SourceMoves g m s l → ReadsTable g begin r
+    → Writable g m places r → EachMoves g m s l r.header.width places (table_read g r).texts → DefinedStay m (take r.header.end g.bytes) r.defined
+    → StandsAt bytes (table_by_texts g m places (table_read g r)) start → bytes_of cells ≡ bytes → drop start cells ≡ table_cells_by_texts g m places (table_read g r) ++ more
     → NoneOver cells start → TableClear g r
-    → TableMoved g (edited_with g bytes cells s l) m start (length (written_table g m places (table_read g r))) r
+    → TableMoved g (edited_with g bytes cells s l) m start (length (table_by_texts g m places (table_read g r))) r
 table-moved g m places bytes cells more s l begin start r w reads fits moves stay st own there_cells over clear =
     let h : LineHeader = r.header in
     let x0 = header-is g.order g.bytes begin r.header reads.header in
@@ -333,10 +374,10 @@ table-moved g m places bytes cells more s l begin start r w reads fits moves sta
     let x : HeaderIs g.order g.bytes r.header.start r.header = subst (λ (i : ℕ). HeaderIs g.order g.bytes i r.header) (sym hp0.0) x0 in
     let hp : HeaderPlaces r.header = hp0.1 in
     let from = lists-from g m s l (take r.header.end g.bytes) r.header places r.dirs r.files r.behind w reads.lists reads.before in
-    let size : ℕ = length (written_table g m places (table_read g r)) in
-    let head : ℕ = length (written_header g m places (table_read g r)) in
-    let cs : List Change = all_changes g m places r.header.width (paths_of (table_read g r)) in
-    let l1 = laid g m places r bytes start x fits (all-before r.header.program r.header.lists (all_changes g m places r.header.width (paths_of (table_read g r))) from.0) hp.program st in
+    let size : ℕ = length (table_by_texts g m places (table_read g r)) in
+    let head : ℕ = length (header_by_texts g m places (table_read g r)) in
+    let cs : List Change = texts_changes g m places r.header.width (table_read g r).texts in
+    let l1 = laid g m places r bytes start x fits (all-before r.header.program r.header.lists (texts_changes g m places r.header.width (table_read g r).texts) from.0) hp.program st in
     let program = hp.program in
     let before = reads.before in
     let lists = from.1 in
@@ -347,15 +388,15 @@ table-moved g m places bytes cells more s l begin start r w reads fits moves sta
     let begins = st.inside in
     let c1 = laid-cells g m places begin r cells more start reads clear hp.program (omega (arith, xw, xe, size_cells)) (omega (arith, lists, before)) (omega (arith, begins, new_cells)) over there_cells in
     let c0 = laid-clear g m places begin r cells more start reads clear hp.program (omega (arith, xw, xe, size_cells)) (omega (arith, lists, before)) there_cells in
-    finish (length (written_table g m places (table_read g r))) (length (written_header g m places (table_read g r))) x hp from.0 from.1 l1 c1 c0
+    finish (length (table_by_texts g m places (table_read g r))) (length (header_by_texts g m places (table_read g r))) x hp from.0 from.1 l1 c1 c0
   where
     h_ : LineHeader
     h_ = r.header
 
     finish : (size head : ℕ) → HeaderIs g.order g.bytes r.header.start r.header → HeaderPlaces r.header
-        → From r.header.program r.header.lists (all_changes g m places r.header.width (r.dirs ++ texts_of r.files)) → r.header.lists ≤ r.behind
-        → Laid g r.header bytes (all_changes g m places r.header.width (r.dirs ++ texts_of r.files)) start size head
-        → CellRest g.cells cells r.header.program (all_path_cells g m places r.header.width (r.dirs ++ texts_of r.files)) (cells_part g.cells r.header.program r.header.end ++ more)
+        → From r.header.program r.header.lists (texts_changes g m places r.header.width (table_read g r).texts) → r.header.lists ≤ r.behind
+        → Laid g r.header bytes (texts_changes g m places r.header.width (table_read g r).texts) start size head
+        → CellRest g.cells cells r.header.program (texts_cells g m places r.header.width (table_read g r).texts) (cells_part g.cells r.header.program r.header.end ++ more)
         (first_place r.header.version (r.header.start + length_size r.header.width) r.header.width) (first_place r.header.version (start + length_size r.header.width) r.header.width)
         → Clear cells start (first_place r.header.version (start + length_size r.header.width) r.header.width)
         → TableMoved g (edited_with g bytes cells s l) m start size r
@@ -386,13 +427,13 @@ table-moved g m places bytes cells more s l begin start r w reads fits moves sta
           own = own;
         } in
         let first_lists : first_place r.header.version (r.header.start + length_size r.header.width) r.header.width ≤ r.header.lists = omega (arith, operands, lists, fp) in
-        let k = copied (take r.header.end g.bytes) (take (start + size) bytes) r.header.program (all_changes g m places r.header.width (r.dirs ++ texts_of r.files))
+        let k = copied (take r.header.end g.bytes) (take (start + size) bytes) r.header.program (texts_changes g m places r.header.width (table_read g r).texts)
         (first_place r.header.version (r.header.start + length_size r.header.width) r.header.width) (first_place r.header.version (start + length_size r.header.width) r.header.width) r.header.lists l1.rest first_lists from in
-        let lists_end = from-end r.header.program r.header.lists (all_changes g m places r.header.width (r.dirs ++ texts_of r.files)) from in
-        let kc = cells-copied g.cells cells r.header.program (all_path_cells g m places r.header.width (r.dirs ++ texts_of r.files)) (cells_part g.cells r.header.program r.header.end ++ more)
+        let lists_end = from-end r.header.program r.header.lists (texts_changes g m places r.header.width (table_read g r).texts) from in
+        let kc = cells-copied g.cells cells r.header.program (texts_cells g m places r.header.width (table_read g r).texts) (cells_part g.cells r.header.program r.header.end ++ more)
         (first_place r.header.version (r.header.start + length_size r.header.width) r.header.width) (first_place r.header.version (start + length_size r.header.width) r.header.width) r.header.lists c1 first_lists lists_end
-        (same-from r.header.program r.header.lists (all_path_cells g m places r.header.width (r.dirs ++ texts_of r.files)) (all_changes g m places r.header.width (r.dirs ++ texts_of r.files))
-        (paths-bytes g m places r.header.width (r.dirs ++ texts_of r.files) w.own) from)
+        (same-from r.header.program r.header.lists (texts_cells g m places r.header.width (table_read g r).texts) (texts_changes g m places r.header.width (table_read g r).texts)
+        (texts-bytes g m places r.header.width (table_read g r).texts w.own) from)
         (clear-none g.cells (first_place r.header.version (r.header.start + length_size r.header.width) r.header.width) r.header.lists
         (clear-part g.cells r.header.start r.header.lists (first_place r.header.version (r.header.start + length_size r.header.width) r.header.width) r.header.lists clear.front (omega (arith, lp)) (omega arith))) in
         let lm = lists-moved g m bytes cells s l (take r.header.end g.bytes) (take (start + size) bytes) r.header (places_of r.header start size head) places
@@ -410,7 +451,7 @@ table-moved g m places bytes cells more s l begin start r w reads fits moves sta
         let numbers_size : length (part (take r.header.end g.bytes) (first_place r.header.version (r.header.start + length_size r.header.width) r.header.width) r.header.lists)
         ≡ r.header.lists - first_place r.header.version (r.header.start + length_size r.header.width) r.header.width =
         part-length (take r.header.end g.bytes) (first_place r.header.version (r.header.start + length_size r.header.width) r.header.width) r.header.lists first_lists (omega (arith, inside, old_size)) in
-        let header_new = header-moved g bytes (all_changes g m places r.header.width (r.dirs ++ texts_of r.files)) start size head r.header x hp l1 k.both in
+        let header_new = header-moved g bytes (texts_changes g m places r.header.width (table_read g r).texts) start size head r.header x hp l1 k.both in
         let off : first_place r.header.version (r.header.start + length_size r.header.width) r.header.width + (ops_size r.header.version + 4) ≡ r.header.operands = omega (arith, operands, fp) in
         let off2 : first_place r.header.version (start + length_size r.header.width) r.header.width + (ops_size r.header.version + 4)
         ≡ flags_at r.header.version (start + length_size r.header.width) r.header.width + 4 = omega (arith, fp2) in

@@ -1,6 +1,6 @@
 -- One column under an edit: where nothing changes in it, it is read as it was; the path of an entry is read mapped.
 use Rattle.std.proofs.Common.{Bool, true, false, ◌≡◌, ℕ, zero, suc, ◌+◌, ◌-◌, ◌<◌, ◌≤◌, ◌==◌, List, [], ◌∷◌, ◌++◌, length, take, drop, Option, Some, None, refl, sym, ap, ◌∙◌, subst, arith}
-use Rattle.std.specs.Prelude.{if◌then◌else◌, Ok, ⊤}
+use Rattle.std.specs.Prelude.{if◌then◌else◌, Ok}
 use Rattle.std.proofs.lemmas.Bool.{eq-eqb, le-leb}
 use Rattle.std.proofs.lemmas.List.{length-append, length-drop, length-take-le}
 use Rattle.dw_base.proofs.PlainCellLaws.{plain_cells-plain}
@@ -14,12 +14,14 @@ use Rattle.dw_base.specs.LineTexts.{text_of, named_text}
 use Rattle.dw_base.specs.NewOffsets.{with_offset}
 use Rattle.dw_base.specs.RelocationFields.{reach_of, relocation_at}
 use Rattle.dw_base.specs.Paths.{PathMap, mapped_path}
+use Rattle.dw_base.specs.TextLineChanges.{on_paths, text_changes}
 use Rattle.dw_base.specs.Texts.{ends_in, text_in}
 use Rattle.dw_base.specs.Values.{value_at}
-use Rattle.dw_base.specs.WrittenLines.{part, bytes_at, cells_part, Change, inline_change, offset_changes, path_changes}
+use Rattle.dw_base.specs.WrittenLines.{part, bytes_at, Change, inline_change, offset_changes, path_changes}
 use Rattle.dw_base.specs.declared.dwarf_numbers.TheConstants.{DW_FORM_string, DW_FORM_strp, DW_FORM_line_strp}
 use Rattle.dw_base.specs.declared.line_tables.Column.{Column}
 use Rattle.dw_base.specs.declared.line_tables.LineHeader.{LineHeader}
+use Rattle.dw_base.specs.declared.line_tables.LineText.{LineText}
 use Rattle.dw_base.specs.declared.line_tables.TextPlace.{TextPlace}
 use Rattle.dw_base.specs.declared.shared.Order.{Order}
 use Rattle.dw_base.specs.declared.values.Spec.{Spec}
@@ -31,13 +33,14 @@ use Rattle.dw_base.proofs.TextLaws.{ends_in-append, text_in-append, ends_in-insi
 use Rattle.dw_base.specs.declared.texts.TextSection.{TextSection}
 use Rattle.dw_base.specs.declared.texts.TextSection.TheVariants.{InStr, InLineStr}
 use Rattle.dw_meaning.specs.LineCells.{CellChange, changed_cells, inline_cells, offset_cells, path_cells}
+use Rattle.dw_meaning.specs.TextLineCells.{text_cells}
 use Rattle.dw_meaning.proofs.CellRestLaws.{CellRest, cells-changed, cells-copied, clear-none, plain-none, plain-size, same-from}
 use Rattle.dw_meaning.proofs.ClearLaws.{Clear, NoneOver, clear-join, clear-part, clear_from, front-clear, tail-clear, whole-clear}
 use Rattle.dw_meaning.proofs.FieldCellLaws.{FieldNames, cells-own, field-kept, field-names, field-own, field-put, field-there, put-tail, read-tail}
 use Rattle.dw_meaning.proofs.FieldPutLaws.{length-put, width-some}
 use Rattle.dw_meaning.proofs.LineCellLaws.{SameChanges}
 use Rattle.dw_meaning.proofs.LineChangeLaws.{From, Rest, copied, exchanged, TextChanged, text-changed, text-part, text-room, part-length, from-before, from-end, all-before}
-use Rattle.dw_meaning.proofs.LineColumnLaws.{edited_with, Grows, SourceMoves, OffsetMoves, PathMoves, TakesPlace, texts_in, new_texts_in, texts-grow, section-not, offset-says, offset-text, new-offset-text, inline-placed, offset_form, ColumnIs, inline_is, offset_is, value_is}
+use Rattle.dw_meaning.proofs.LineColumnLaws.{edited_with, Grows, SourceMoves, OffsetMoves, TakesPlace, TextMoves, moved_text, texts_in, new_texts_in, section-not, offset-says, offset-text, new-offset-text, inline-placed, offset_form, ColumnIs, inline_is, offset_is, value_is}
 use Rattle.dw_meaning.proofs.LineReadLaws.{Both, text-both, inline-here}
 use Rattle.dw_meaning.proofs.LineValueLaws.{column-plain, value-both, value-in}
 
@@ -58,20 +61,13 @@ pub record Sides (g : LineSource) (bytes : List ℕ) (cells : List Cell) (old ne
   pub is : Grows new bytes
   pub own : bytes_of cells ≡ bytes
 
--- texts that are kept
-abbrev pub KeptText : LineSource → LineSource → Option TextPlace → Option TextPlace → Type 0
-KeptText g k None None = ⊤
-KeptText g k (Some t) (Some u) = place_text k u ≡ place_text g t
-KeptText g k None (Some u) = ⊥
-KeptText g k (Some t) None = ⊥
-
--- a column that is copied
-pub record ColumnKept (g k : LineSource) (h : LineHeader) (new : List ℕ) (spec : Spec) (p q : ℕ) (c : Column) : Type 0 where
+-- a column that is copied, which has no text
+pub record ColumnKept (k : LineSource) (h : LineHeader) (new : List ℕ) (spec : Spec) (p q : ℕ) (c : Column) : Type 0 where
   pub column : Column
   pub is : column_at k h new spec q ≡ Ok column
   pub number : column.number ≡ c.number
   pub next : column.next ≡ q + (c.next - p)
-  pub text : KeptText g k c.text column.text
+  pub text : column.text ≡ None
 
 -- places in a table are places in the cells of its section
 pub room-cells : (cells : List Cell) (bytes table : List ℕ) (n : ℕ) → bytes_of cells ≡ bytes → Grows table bytes → n ≤ length table → n ≤ length cells
@@ -134,37 +130,16 @@ column-place g h table spec p c plain (value_is a b d v is) =
     (omega arith, value-in (column_params g.order h) spec table p v (column-plain (column_params g.order h) spec a b d plain) is)
 
 -- where the cells of an offset stand at another place too, it is read there
-offset-kept : (g : LineSource) (m : PathMap) (bytes : List ℕ) (cells : List Cell) (s l old new : List ℕ) (h : LineHeader) (n : LinePlaces) (spec : Spec) (z : TextSection) (i p q : ℕ)
-    → SourceMoves g m s l → Sides g bytes cells old new → spec.form ≡ offset_form z → p + width_size h.width ≤ length old
+offset-there : (g : LineSource) (m : PathMap) (bytes : List ℕ) (cells : List Cell) (s l old new : List ℕ) (h : LineHeader) (z : TextSection) (i p q : ℕ)
+    → SourceMoves g m s l → Sides g bytes cells old new → p + width_size h.width ≤ length old
     → named_text g (texts_in g z) p (width_size h.width) ≡ Ok (text_of (texts_in g z) i p) → ends_in (texts_in g z).bytes i ≡ true → q + width_size h.width ≤ length new
-    → cells_at cells q (width_size h.width) ≡ cells_at g.cells p (width_size h.width) → NoneOver cells q
-    → ColumnKept g (edited_with g bytes cells s l) (moved_header h n) new spec p q
-    (record { text = Some (text_of (texts_in g z) i p); number = 0; next = p + width_size h.width })
-offset-kept g m bytes cells s l old new h n spec z i p q w sides form room reads ends there same over =
-    let grown : Grows (texts_in g z).bytes (new_texts_in g s l z).bytes = texts-grow g m s l z w in
-    let lies : i < length (texts_in g z).bytes = ends_in-inside (texts_in g z).bytes i ends in
-    let new_ends : ends_in (new_texts_in g s l z).bytes i ≡ true =
-    ap (λ (bs : List ℕ). ends_in bs i) grown.is ∙ ends_in-append (texts_in g z).bytes grown.more i (omega (arith, lies)) ends in
-    let new_text : text_in (new_texts_in g s l z).bytes i ≡ text_in (texts_in g z).bytes i =
-    ap (λ (bs : List ℕ). text_in bs i) grown.is ∙ text_in-append (texts_in g z).bytes grown.more i (omega (arith, lies)) ends in
+    → cells_at cells q (width_size h.width) ≡ cells_at g.cells p (width_size h.width) → NoneOver cells q → ends_in (new_texts_in g s l z).bytes i ≡ true
+    → named_text (edited_with g bytes cells s l) (new_texts_in g s l z) q (width_size h.width) ≡ Ok (text_of (new_texts_in g s l z) i q)
+offset-there g m bytes cells s l old new h z i p q w sides room reads ends there same over new_ends =
     let field = read-field g m bytes cells s l old new h z p i w sides room reads in
-    let named : named_text (edited_with g bytes cells s l) (new_texts_in g s l z) q (width_size h.width) ≡ Ok (text_of (new_texts_in g s l z) i q) =
     field-there (edited_with g bytes cells s l) (new_texts_in g s l z) (cells_at g.cells p (width_size h.width)) q (width_size h.width) i sides.own (width-some h.width)
     (room-cells cells bytes new (q + width_size h.width) sides.own sides.is there) same (λ k a b. read-tail g.cells p (width_size h.width) k field.whole a b) over
-    (field-kept g (texts_in g z) (new_texts_in g s l z) p (width_size h.width) i field ends (same-number g s l z)) new_ends in
-    record {
-      column = record {
-        text = Some (record { section = (texts_in g z).number; at = i; len = length (text_in (new_texts_in g s l z).bytes i); field = q });
-        number = 0;
-        next = q + width_size h.width;
-      };
-      is = offset-column g bytes cells s l new (moved_header h n) spec z q i form there named;
-      number = refl;
-      next = omega arith;
-      text =
-          new-offset-text g m bytes cells s l z i i q w ends new_ends ∙ new_text
-          ∙ sym (offset-text g m s l z i p w ends);
-    }
+    (field-kept g (texts_in g z) (new_texts_in g s l z) p (width_size h.width) i field ends (same-number g s l z)) new_ends
 
 -- no relocation in a column reaches over its end
 pub column-own : (g : LineSource) (m : PathMap) (bytes : List ℕ) (cells : List Cell) (s l old new : List ℕ) (h : LineHeader) (spec : Spec) (p : ℕ) (c : Column) → SourceMoves g m s l
@@ -179,29 +154,15 @@ column-own g m bytes cells s l old new h spec p c w sides (offset_is z i form ro
 column-own g m bytes cells s l old new h spec p c w sides (value_is x y d v is) clear =
     clear-none g.cells p (p + v.size) (subst (λ (i : ℕ). Clear g.cells i (p + v.size)) (clear-value spec p y d) clear)
 
--- where the bytes and the cells of a column stand at another place too, it is read there
-pub column-kept : (g : LineSource) (m : PathMap) (bytes : List ℕ) (cells : List Cell) (s l old new : List ℕ) (h : LineHeader) (n : LinePlaces) (spec : Spec) (p q : ℕ) (c : Column) → SourceMoves g m s l
-    → Sides g bytes cells old new → is_column spec ≡ true → ColumnIs g h old spec p c → Both old new (part old p c.next) p q
-    → cells_at cells q (c.next - p) ≡ cells_part g.cells p c.next → NoneOver cells q → ColumnKept g (edited_with g bytes cells s l) (moved_header h n) new spec p q c
-column-kept g m bytes cells s l old new h n spec p q c w sides plain (inline_is form ends) b same over =
-    let room : p + length (text_in old p) + 1 ≤ length old = text-room old p ends in
-    let size : length (part old p (p + length (text_in old p) + 1)) ≡ p + length (text_in old p) + 1 - p =
-    part-length old p (p + length (text_in old p) + 1) (omega arith) room in
-    let there = text-both old new (part old p (p + length (text_in old p) + 1)) p q b ends (omega (arith, size)) in
-    record {
-      column = record { text = Some (record { section = g.number; at = q; len = length (text_in new q); field = q }); number = 0; next = q + length (text_in new q) + 1 };
-      is = inline-column g bytes cells s l new (moved_header h n) spec q form there.0;
-      number = refl;
-      next = ap (λ (t : List ℕ). q + length t + 1) there.1 ∙ omega arith;
-      text = inline-placed (edited_with g bytes cells s l) new q sides.is there.0 ∙ there.1 ∙ sym (inline-placed g old p sides.was ends);
-    }
-column-kept g m bytes cells s l old new h n spec p q c w sides plain (offset_is z i form room reads ends) b same over =
-    let size : length (part old p (p + width_size h.width)) ≡ p + width_size h.width - p = part-length old p (p + width_size h.width) (omega arith) room in
-    let inside = b.is.inside in
-    let width : p + width_size h.width - p ≡ width_size h.width = omega arith in
-    offset-kept g m bytes cells s l old new h n spec z i p q w sides form room reads ends (omega (arith, inside, size))
-    (ap (λ (k : ℕ). take k (drop q cells)) (sym width) ∙ same ∙ ap (λ (k : ℕ). take k (drop p g.cells)) width) over
-column-kept g m bytes cells s l old new h n spec p q c w sides plain (value_is x y d v is) b same over =
+-- where the bytes of a column that has no text stand at another place too, it is read there
+pub some-none : {Y : Type 0} (y : Y) → Some y ≡ None → ⊥
+some-none y e = cc
+
+pub column-kept : (g : LineSource) (bytes : List ℕ) (cells : List Cell) (s l old new : List ℕ) (h : LineHeader) (n : LinePlaces) (spec : Spec) (p q : ℕ) (c : Column)
+    → is_column spec ≡ true → ColumnIs g h old spec p c → c.text ≡ None → Both old new (part old p c.next) p q → ColumnKept (edited_with g bytes cells s l) (moved_header h n) new spec p q c
+column-kept g bytes cells s l old new h n spec p q c plain (inline_is form ends) none b = absurd (some-none _ none)
+column-kept g bytes cells s l old new h n spec p q c plain (offset_is z i form room reads ends) none b = absurd (some-none _ none)
+column-kept g bytes cells s l old new h n spec p q c plain (value_is x y d v is) none b =
     let kind = column-plain (column_params g.order h) spec x y d plain in
     let room : p + v.size ≤ length old = value-in (column_params g.order h) spec old p v kind is in
     let size : length (part old p (p + v.size)) ≡ p + v.size - p = part-length old p (p + v.size) (omega arith) room in
@@ -212,17 +173,17 @@ column-kept g m bytes cells s l old new h n spec p q c w sides plain (value_is x
       is = value-column g bytes cells s l new (moved_header h n) spec q there.value x y d there.is;
       number = there.number;
       next = omega (arith, size_same);
-      text = tt;
+      text = refl;
     }
 
--- the path of an entry, after the edit
-pub record ColumnMoved (g k : LineSource) (m : PathMap) (h : LineHeader) (old new : List ℕ) (end : ℕ) (cs : List Change) (us : List CellChange) (tail : List Cell) (spec : Spec) (q : ℕ) (c : Column) (t : TextPlace) : Type 0 where
+-- a column that has a text, after the edit
+pub record ColumnMoved (g k : LineSource) (m : PathMap) (h : LineHeader) (old new : List ℕ) (end : ℕ) (cs : List Change) (us : List CellChange) (tail : List Cell) (spec : Spec) (q : ℕ) (c : Column) (x : LineText) : Type 0 where
   pub column : Column
   pub is : column_at k h new spec q ≡ Ok column
   pub number : column.number ≡ c.number
   pub place : TextPlace
   pub text : column.text ≡ Some place
-  pub says : place_text k place ≡ mapped_path m (place_text g t)
+  pub says : place_text k place ≡ moved_text m x.path (place_text g x.place)
   pub rest : Rest old new end cs c.next column.next
   pub cells : CellRest g.cells k.cells end us tail c.next column.next
   pub clear : Clear k.cells (clear_from spec q) column.next
@@ -232,9 +193,27 @@ pub inline-changes : (g : LineSource) (m : PathMap) (places : TextPlace → Opti
     → path_changes g m places h.width x ≡ inline_change m g.bytes x ∷ []
 inline-changes g m places h x e = rw (eq-eqb x.section g.number e) refl
 
-offset-changed : (g : LineSource) (m : PathMap) (s l : List ℕ) (places : TextPlace → Option ℕ) (h : LineHeader) (z : TextSection) (at field : ℕ) → SourceMoves g m s l
-    → path_changes g m places h.width (text_of (texts_in g z) at field) ≡ offset_changes g.order h.width g.bytes g.cells field (places (text_of (texts_in g z) at field))
-offset-changed g m s l places h z at field w = rw (section-not g m s l z w) refl
+offset-changed : (g : LineSource) (m : PathMap) (s l : List ℕ) (places : LineText → Option ℕ) (h : LineHeader) (z : TextSection) (at field : ℕ) (path : Bool) → SourceMoves g m s l
+    → text_changes g m places h.width (record { place = text_of (texts_in g z) at field; path = path })
+    ≡ offset_changes g.order h.width g.bytes g.cells field (places (record { place = text_of (texts_in g z) at field; path = path }))
+offset-changed g m s l places h z at field true w = rw (section-not g m s l z w) refl
+offset-changed g m s l places h z at field false w = rw (section-not g m s l z w) refl
+
+offset-cells : (g : LineSource) (m : PathMap) (s l : List ℕ) (places : LineText → Option ℕ) (h : LineHeader) (z : TextSection) (at field : ℕ) (path : Bool) → SourceMoves g m s l
+    → text_cells g m places h.width (record { place = text_of (texts_in g z) at field; path = path })
+    ≡ offset_cells g.order h.width g.cells field (places (record { place = text_of (texts_in g z) at field; path = path }))
+offset-cells g m s l places h z at field true w = rw (section-not g m s l z w) refl
+offset-cells g m s l places h z at field false w = rw (section-not g m s l z w) refl
+
+-- the text that stands in a column, which is a path or isn't
+abbrev own_text : LineSource → List ℕ → ℕ → Bool → LineText
+own_text g old p path = record { place = record { section = g.number; at = p; len = length (text_in old p); field = p }; path = path }
+
+further-changed : (g : LineSource) (m : PathMap) (places : LineText → Option ℕ) (h : LineHeader) (old : List ℕ) (p : ℕ) → text_changes g m places h.width (own_text g old p false) ≡ []
+further-changed g m places h old p = rw (eq-eqb g.number g.number refl) refl
+
+further-cells : (g : LineSource) (m : PathMap) (places : LineText → Option ℕ) (h : LineHeader) (old : List ℕ) (p : ℕ) → text_cells g m places h.width (own_text g old p false) ≡ []
+further-cells g m places h old p = rw (eq-eqb g.number g.number refl) refl
 
 pub some-place : (t u : TextPlace) → Some t ≡ Some u → t ≡ u
 some-place t u e = cc
@@ -323,7 +302,7 @@ inline-moved : (g : LineSource) (m : PathMap) (bytes : List ℕ) (cells : List C
     → From end (p + length (text_in old p) + 1) cs → Clear g.cells p (p + length (text_in old p) + 1)
     → ColumnMoved g (edited_with g bytes cells s l) m (moved_header h n) old new end cs us tail spec q
     (record { text = Some (record { section = g.number; at = p; len = length (text_in old p); field = p }); number = 0; next = p + length (text_in old p) + 1 })
-    (record { section = g.number; at = p; len = length (text_in old p); field = p })
+    (own_text g old p true)
 inline-moved g m bytes cells s l old new h n places end cs us tail spec p q w sides form ends rest cell same from clear =
     let r = text-moved g m bytes cells s l old new h places end cs p q w sides ends rest from in
     let d = text-cells g m cells s l old h places end cs us tail p q w sides.was ends cell same from clear in
@@ -340,21 +319,51 @@ inline-moved g m bytes cells s l old new h n places end cs us tail spec p q w si
           (subst (λ (u : List ℕ). Clear cells q (q + length u + 1)) (sym r.says) d.clear);
     }
 
+-- a text that isn't a path and stands in its column is copied
+inline-copied : (g : LineSource) (m : PathMap) (bytes : List ℕ) (cells : List Cell) (s l old new : List ℕ) (h : LineHeader) (n : LinePlaces) (end : ℕ) (cs : List Change)
+    (us : List CellChange) (tail : List Cell) (spec : Spec) (p q : ℕ) → SourceMoves g m s l → Sides g bytes cells old new → spec.form ≡ DW_FORM_string → ends_in old p ≡ true
+    → Rest old new end cs p q → CellRest g.cells cells end us tail p q → SameChanges us cs → From end (p + length (text_in old p) + 1) cs → Clear g.cells p (p + length (text_in old p) + 1)
+    → ColumnMoved g (edited_with g bytes cells s l) m (moved_header h n) old new end cs us tail spec q
+    (record { text = Some (record { section = g.number; at = p; len = length (text_in old p); field = p }); number = 0; next = p + length (text_in old p) + 1 })
+    (own_text g old p false)
+inline-copied g m bytes cells s l old new h n end cs us tail spec p q w sides form ends rest cell same from clear =
+    let room : p + length (text_in old p) + 1 ≤ length old = text-room old p ends in
+    let k = copied old new end cs p q (p + length (text_in old p) + 1) rest (omega arith) from in
+    let last : p + length (text_in old p) + 1 ≤ end = from-end end (p + length (text_in old p) + 1) cs from in
+    let d = cells-copied g.cells cells end us tail p q (p + length (text_in old p) + 1) cell (omega arith) last (same-from end (p + length (text_in old p) + 1) us cs same from)
+    (clear-none g.cells p (p + length (text_in old p) + 1) clear) in
+    let size : length (part old p (p + length (text_in old p) + 1)) ≡ p + length (text_in old p) + 1 - p =
+    part-length old p (p + length (text_in old p) + 1) (omega arith) room in
+    let there = text-both old new (part old p (p + length (text_in old p) + 1)) p q k.both ends (omega (arith, size)) in
+    let next : q + (p + length (text_in old p) + 1 - p) ≡ q + length (text_in new q) + 1 = omega arith ∙ ap (λ (t : List ℕ). q + length t + 1) (sym there.1) in
+    record {
+      column = record { text = Some (record { section = g.number; at = q; len = length (text_in new q); field = q }); number = 0; next = q + length (text_in new q) + 1 };
+      is = inline-column g bytes cells s l new (moved_header h n) spec q form there.0;
+      number = refl;
+      place = record { section = g.number; at = q; len = length (text_in new q); field = q };
+      text = refl;
+      says = inline-placed (edited_with g bytes cells s l) new q sides.is there.0 ∙ there.1 ∙ sym (inline-placed g old p sides.was ends);
+      rest = subst (λ (i : ℕ). Rest old new end cs (p + length (text_in old p) + 1) i) next k.rest;
+      cells = subst (λ (i : ℕ). CellRest g.cells cells end us tail (p + length (text_in old p) + 1) i) next d.rest;
+      clear = subst (λ (i : ℕ). Clear cells i (q + length (text_in new q) + 1)) (sym (clear-inline spec q form))
+          (subst (Clear cells q) next (whole-clear g.cells cells p q (p + length (text_in old p) + 1) d.same clear));
+    }
+
 -- no relocation begins in a field with another offset but at its start
 put-none : (order : Order) (p : List Cell) (n size : ℕ) → ((i : ℕ) → 0 < i → i < size → relocation_at p i ≡ None) → (i : ℕ) → 0 < i → i < size
     → relocation_at (with_offset order p n) i ≡ None
 put-none order p n size h zero some lt = absurd (omega (arith, some))
 put-none order p n size h (suc i) some lt = put-tail order p n i ∙ h (suc i) some lt
 
--- an offset names the path
+-- an offset names a text
 offset-moved : (g : LineSource) (m : PathMap) (bytes : List ℕ) (cells : List Cell) (s l old new : List ℕ) (h : LineHeader) (n : LinePlaces) (end : ℕ) (cs : List Change) (us : List CellChange)
-    (tail : List Cell) (spec : Spec) (z : TextSection) (i p q : ℕ) (o : Option ℕ) → SourceMoves g m s l → Sides g bytes cells old new → spec.form ≡ offset_form z
+    (tail : List Cell) (spec : Spec) (z : TextSection) (i p q : ℕ) (path : Bool) (o : Option ℕ) → SourceMoves g m s l → Sides g bytes cells old new → spec.form ≡ offset_form z
     → p + width_size h.width ≤ length old → named_text g (texts_in g z) p (width_size h.width) ≡ Ok (text_of (texts_in g z) i p) → ends_in (texts_in g z).bytes i ≡ true
-    → OffsetMoves m h.width (texts_in g z).bytes (new_texts_in g s l z).bytes i o → TakesPlace g h.width p o → Rest old new end (offset_changes g.order h.width g.bytes g.cells p o ++ cs) p q
+    → OffsetMoves m path h.width (texts_in g z).bytes (new_texts_in g s l z).bytes i o → TakesPlace g h.width p o → Rest old new end (offset_changes g.order h.width g.bytes g.cells p o ++ cs) p q
     → CellRest g.cells cells end (offset_cells g.order h.width g.cells p o ++ us) tail p q → SameChanges us cs → From end (p + width_size h.width) cs
     → ColumnMoved g (edited_with g bytes cells s l) m (moved_header h n) old new end cs us tail spec q
-    (record { text = Some (text_of (texts_in g z) i p); number = 0; next = p + width_size h.width }) (text_of (texts_in g z) i p)
-offset-moved g m bytes cells s l old new h n end cs us tail spec z i p q None w sides form room reads ends moves takes rest cell same from =
+    (record { text = Some (text_of (texts_in g z) i p); number = 0; next = p + width_size h.width }) (record { place = text_of (texts_in g z) i p; path = path })
+offset-moved g m bytes cells s l old new h n end cs us tail spec z i p q path None w sides form room reads ends moves takes rest cell same from =
     let k = copied old new end cs p q (p + width_size h.width) rest (omega arith) from in
     let field = read-field g m bytes cells s l old new h z p i w sides room reads in
     let last : p + width_size h.width ≤ end = from-end end (p + width_size h.width) cs from in
@@ -363,35 +372,29 @@ offset-moved g m bytes cells s l old new h n end cs us tail spec z i p q None w 
     let size : length (part old p (p + width_size h.width)) ≡ p + width_size h.width - p = part-length old p (p + width_size h.width) (omega arith) room in
     let inside = k.both.is.inside in
     let width : p + width_size h.width - p ≡ width_size h.width = omega arith in
-    let kept = offset-kept g m bytes cells s l old new h n spec z i p q w sides form room reads ends (omega (arith, inside, size))
-    (ap (λ (j : ℕ). take j (drop q cells)) (sym width) ∙ d.same ∙ ap (λ (j : ℕ). take j (drop p g.cells)) width) cell.over in
+    let next : q + (p + width_size h.width - p) ≡ q + width_size h.width = omega arith in
+    let there : q + width_size h.width ≤ length new = omega (arith, inside, size) in
+    let named = offset-there g m bytes cells s l old new h z i p q w sides room reads ends there
+    (ap (λ (j : ℕ). take j (drop q cells)) (sym width) ∙ d.same ∙ ap (λ (j : ℕ). take j (drop p g.cells)) width) cell.over moves.0 in
     let tail_clear : Clear cells (suc q) (q + (p + width_size h.width - p)) =
     tail-clear cells (cells_at g.cells p (width_size h.width)) q (p + width_size h.width - p) (d.same ∙ ap (λ (j : ℕ). take j (drop p g.cells)) width)
     (λ j a b. read-tail g.cells p (width_size h.width) j field.whole a (omega (arith, b, width))) in
-    by_text kept.column.text kept refl k.rest d.rest (subst (λ (i : ℕ). Clear cells i (q + (p + width_size h.width - p))) (sym (clear-offset spec z q form)) tail_clear)
-  where
-    by_text : (t : Option TextPlace)
-        → (kept : ColumnKept g (edited_with g bytes cells s l) (moved_header h n) new spec p q (record { text = Some (text_of (texts_in g z) i p); number = 0; next = p + width_size h.width }))
-        → kept.column.text ≡ t → Rest old new end cs (p + width_size h.width) (q + (p + width_size h.width - p))
-        → CellRest g.cells cells end us tail (p + width_size h.width) (q + (p + width_size h.width - p))
-        → Clear cells (clear_from spec q) (q + (p + width_size h.width - p))
-        → ColumnMoved g (edited_with g bytes cells s l) m (moved_header h n) old new end cs us tail spec q
-        (record { text = Some (text_of (texts_in g z) i p); number = 0; next = p + width_size h.width }) (text_of (texts_in g z) i p)
-    by_text None kept e r d none = absurd (subst (λ (x : Option TextPlace). KeptText g (edited_with g bytes cells s l) (Some (text_of (texts_in g z) i p)) x) e kept.text)
-    by_text (Some u) kept e r d none = record {
-      column = kept.column;
-      is = kept.is;
-      number = kept.number;
-      place = u;
-      text = e;
-      says =
-          subst (λ (x : Option TextPlace). KeptText g (edited_with g bytes cells s l) (Some (text_of (texts_in g z) i p)) x) e kept.text
-          ∙ offset-text g m s l z i p w ends ∙ sym moves ∙ ap (mapped_path m) (sym (offset-text g m s l z i p w ends));
-      rest = subst (λ (k : ℕ). Rest old new end cs (p + width_size h.width) k) (sym kept.next) r;
-      cells = subst (λ (k : ℕ). CellRest g.cells cells end us tail (p + width_size h.width) k) (sym kept.next) d;
-      clear = subst (λ (i : ℕ). Clear cells (clear_from spec q) i) (sym kept.next) none;
+    record {
+      column = record {
+        text = Some (record { section = (texts_in g z).number; at = i; len = length (text_in (new_texts_in g s l z).bytes i); field = q });
+        number = 0;
+        next = q + width_size h.width;
+      };
+      is = offset-column g bytes cells s l new (moved_header h n) spec z q i form there named;
+      number = refl;
+      place = record { section = (texts_in g z).number; at = i; len = length (text_in (new_texts_in g s l z).bytes i); field = q };
+      text = refl;
+      says = new-offset-text g m bytes cells s l z i i q w ends moves.0 ∙ moves.1 ∙ ap (moved_text m path) (sym (offset-text g m s l z i p w ends));
+      rest = subst (λ (j : ℕ). Rest old new end cs (p + width_size h.width) j) next k.rest;
+      cells = subst (λ (j : ℕ). CellRest g.cells cells end us tail (p + width_size h.width) j) next d.rest;
+      clear = subst (λ (j : ℕ). Clear cells j (q + width_size h.width)) (sym (clear-offset spec z q form)) (subst (Clear cells (suc q)) next tail_clear);
     }
-offset-moved g m bytes cells s l old new h n end cs us tail spec z i p q (Some to) w sides form room reads ends moves takes rest cell same from =
+offset-moved g m bytes cells s l old new h n end cs us tail spec z i p q path (Some to) w sides form room reads ends moves takes rest cell same from =
     let cell_room : p + width_size h.width ≤ length g.cells = room-cells g.cells g.bytes old (p + width_size h.width) w.own sides.was room in
     let field = read-field g m bytes cells s l old new h z p i w sides room reads in
     let own_size : length (cells_at g.cells p (width_size h.width)) ≡ width_size h.width = length-cells_at g.cells p (width_size h.width) cell_room in
@@ -428,7 +431,7 @@ offset-moved g m bytes cells s l old new h n end cs us tail spec z i p q (Some t
       text = refl;
       says =
           new-offset-text g m bytes cells s l z i to q w ends moves.1 ∙ moves.2
-          ∙ ap (mapped_path m) (sym (offset-text g m s l z i p w ends));
+          ∙ ap (moved_text m path) (sym (offset-text g m s l z i p w ends));
       rest = subst (λ (j : ℕ). Rest old new end cs (p + j) (q + width_size h.width)) old_size (subst (λ (j : ℕ). Rest old new end cs (p + length (bytes_at g.bytes p (width_size h.width))) (q + j)) long x.rest);
       cells = subst (λ (j : ℕ). CellRest g.cells cells end us tail (p + j) (q + width_size h.width)) own_size
           (subst (λ (j : ℕ). CellRest g.cells cells end us tail (p + length (cells_at g.cells p (width_size h.width))) (q + j)) put_size d.rest);
@@ -437,50 +440,67 @@ offset-moved g m bytes cells s l old new h n end cs us tail spec z i p q (Some t
           (ap (λ (j : ℕ). take j (drop q cells)) (sym put_size) ∙ d.same) none);
     }
 
-pub column-moved : (g : LineSource) (m : PathMap) (bytes : List ℕ) (cells : List Cell) (s l old new : List ℕ) (h : LineHeader) (n : LinePlaces) (places : TextPlace → Option ℕ) (end : ℕ) (cs : List Change)
-    (us : List CellChange) (tail : List Cell) (spec : Spec) (p q : ℕ) (c : Column) (t : TextPlace) → SourceMoves g m s l → Sides g bytes cells old new → ColumnIs g h old spec p c → c.text ≡ Some t
-    → PathMoves g m s l h.width places t → Rest old new end (path_changes g m places h.width t ++ cs) p q → CellRest g.cells cells end (path_cells g m places h.width t ++ us) tail p q
+pub column-moved : (g : LineSource) (m : PathMap) (bytes : List ℕ) (cells : List Cell) (s l old new : List ℕ) (h : LineHeader) (n : LinePlaces) (places : LineText → Option ℕ) (end : ℕ) (cs : List Change)
+    (us : List CellChange) (tail : List Cell) (spec : Spec) (p q : ℕ) (c : Column) (t : TextPlace) (path : Bool) → SourceMoves g m s l → Sides g bytes cells old new → ColumnIs g h old spec p c → c.text ≡ Some t
+    → TextMoves g m s l h.width places (record { place = t; path = path }) → Rest old new end (text_changes g m places h.width (record { place = t; path = path }) ++ cs) p q
+    → CellRest g.cells cells end (text_cells g m places h.width (record { place = t; path = path }) ++ us) tail p q
     → SameChanges us cs → From end c.next cs → Clear g.cells (clear_from spec p) c.next
-    → ColumnMoved g (edited_with g bytes cells s l) m (moved_header h n) old new end cs us tail spec q c t
-column-moved g m bytes cells s l old new h n places end cs us tail spec p q c t w sides (inline_is form ends) is moves rest cell both from clear =
+    → ColumnMoved g (edited_with g bytes cells s l) m (moved_header h n) old new end cs us tail spec q c (record { place = t; path = path })
+column-moved g m bytes cells s l old new h n places end cs us tail spec p q c t path w sides (inline_is form ends) is moves rest cell both from clear =
     let same : record { section = g.number; at = p; len = length (text_in old p); field = p } ≡ t = some-place _ t is in
+    let own : Clear g.cells p (p + length (text_in old p) + 1) =
+    subst (λ (i : ℕ). Clear g.cells i (p + length (text_in old p) + 1)) (clear-inline spec p form) clear in
     subst (λ (u : TextPlace). ColumnMoved g (edited_with g bytes cells s l) m (moved_header h n) old new end cs us tail spec q
-    (record { text = Some (record { section = g.number; at = p; len = length (text_in old p); field = p }); number = 0; next = p + length (text_in old p) + 1 }) u) same
-    (inline-moved g m bytes cells s l old new h n places end cs us tail spec p q w sides form ends
-    (subst (λ (u : TextPlace). Rest old new end (path_changes g m places h.width u ++ cs) p q) (sym same) rest)
-    (subst (λ (u : TextPlace). CellRest g.cells cells end (path_cells g m places h.width u ++ us) tail p q) (sym same) cell) both from
-    (subst (λ (i : ℕ). Clear g.cells i (p + length (text_in old p) + 1)) (clear-inline spec p form) clear))
-column-moved g m bytes cells s l old new h n places end cs us tail spec p q c t w sides (offset_is z i form room reads ends) is moves rest cell both from clear =
+    (record { text = Some (record { section = g.number; at = p; len = length (text_in old p); field = p }); number = 0; next = p + length (text_in old p) + 1 }) (record { place = u; path = path })) same
+    (by_path path (subst (λ (u : TextPlace). Rest old new end (text_changes g m places h.width (record { place = u; path = path }) ++ cs) p q) (sym same) rest)
+    (subst (λ (u : TextPlace). CellRest g.cells cells end (text_cells g m places h.width (record { place = u; path = path }) ++ us) tail p q) (sym same) cell) own)
+  where
+    by_path : (b : Bool) → Rest old new end (text_changes g m places h.width (own_text g old p b) ++ cs) p q
+        → CellRest g.cells cells end (text_cells g m places h.width (own_text g old p b) ++ us) tail p q → Clear g.cells p (p + length (text_in old p) + 1)
+        → ColumnMoved g (edited_with g bytes cells s l) m (moved_header h n) old new end cs us tail spec q
+        (record { text = Some (record { section = g.number; at = p; len = length (text_in old p); field = p }); number = 0; next = p + length (text_in old p) + 1 }) (own_text g old p b)
+    by_path true r d own = inline-moved g m bytes cells s l old new h n (on_paths places) end cs us tail spec p q w sides form ends r d both from own
+    by_path false r d own =
+        inline-copied g m bytes cells s l old new h n end cs us tail spec p q w sides form ends
+        (subst (λ (ds : List Change). Rest old new end (ds ++ cs) p q) (further-changed g m places h old p) r)
+        (subst (λ (vs : List CellChange). CellRest g.cells cells end (vs ++ us) tail p q) (further-cells g m places h old p) d) both from own
+column-moved g m bytes cells s l old new h n places end cs us tail spec p q c t path w sides (offset_is z i form room reads ends) is moves rest cell both from clear =
     let same : text_of (texts_in g z) i p ≡ t = some-place _ t is in
-    let says = offset-says g m s l h.width places z i p w ends (subst (PathMoves g m s l h.width places) (sym same) moves) in
+    let says = offset-says g m s l h.width places z i p path w ends (subst (λ (u : TextPlace). TextMoves g m s l h.width places (record { place = u; path = path })) (sym same) moves) in
     subst (λ (u : TextPlace). ColumnMoved g (edited_with g bytes cells s l) m (moved_header h n) old new end cs us tail spec q
-    (record { text = Some (text_of (texts_in g z) i p); number = 0; next = p + width_size h.width }) u) same
-    (offset-moved g m bytes cells s l old new h n end cs us tail spec z i p q (places (text_of (texts_in g z) i p)) w sides form room reads ends
+    (record { text = Some (text_of (texts_in g z) i p); number = 0; next = p + width_size h.width }) (record { place = u; path = path })) same
+    (offset-moved g m bytes cells s l old new h n end cs us tail spec z i p q path (places (record { place = text_of (texts_in g z) i p; path = path })) w sides form room reads ends
     says.0 says.1
-    (subst (λ (ds : List Change). Rest old new end (ds ++ cs) p q) (offset-changed g m s l places h z i p w)
-    (subst (λ (u : TextPlace). Rest old new end (path_changes g m places h.width u ++ cs) p q) (sym same) rest))
-    (subst (λ (b : Bool). CellRest g.cells cells end ((if b then inline_cells m g.cells (text_of (texts_in g z) i p) ∷ []
-    else offset_cells g.order h.width g.cells p (places (text_of (texts_in g z) i p))) ++ us) tail p q) (section-not g m s l z w)
-    (subst (λ (u : TextPlace). CellRest g.cells cells end (path_cells g m places h.width u ++ us) tail p q) (sym same) cell)) both from)
-column-moved g m bytes cells s l old new h n places end cs us tail spec p q c t w sides (value_is x y d v is_) is moves rest cell both from clear = absurd (none-place t is)
+    (subst (λ (ds : List Change). Rest old new end (ds ++ cs) p q) (offset-changed g m s l places h z i p path w)
+    (subst (λ (u : TextPlace). Rest old new end (text_changes g m places h.width (record { place = u; path = path }) ++ cs) p q) (sym same) rest))
+    (subst (λ (vs : List CellChange). CellRest g.cells cells end (vs ++ us) tail p q) (offset-cells g m s l places h z i p path w)
+    (subst (λ (u : TextPlace). CellRest g.cells cells end (text_cells g m places h.width (record { place = u; path = path }) ++ us) tail p q) (sym same) cell)) both from)
+column-moved g m bytes cells s l old new h n places end cs us tail spec p q c t path w sides (value_is x y d v is_) is moves rest cell both from clear = absurd (none-place t is)
 
--- no change begins before the column of its path
-pub column-from : (g : LineSource) (m : PathMap) (s l old : List ℕ) (h : LineHeader) (places : TextPlace → Option ℕ) (end : ℕ) (cs : List Change) (spec : Spec) (p : ℕ) (c : Column)
-    (t : TextPlace) → SourceMoves g m s l → ColumnIs g h old spec p c → c.text ≡ Some t → From end c.next cs → From end p (path_changes g m places h.width t ++ cs)
-column-from g m s l old h places end cs spec p c t w (inline_is form ends) is from =
+-- no change begins before the column of its text
+pub column-from : (g : LineSource) (m : PathMap) (s l old : List ℕ) (h : LineHeader) (places : LineText → Option ℕ) (end : ℕ) (cs : List Change) (spec : Spec) (p : ℕ) (c : Column)
+    (t : TextPlace) (path : Bool) → SourceMoves g m s l → ColumnIs g h old spec p c → c.text ≡ Some t → From end c.next cs
+    → From end p (text_changes g m places h.width (record { place = t; path = path }) ++ cs)
+column-from g m s l old h places end cs spec p c t path w (inline_is form ends) is from =
     let same : record { section = g.number; at = p; len = length (text_in old p); field = p } ≡ t = some-place _ t is in
     let last : p + length (text_in old p) + 1 ≤ end = from-end end (p + length (text_in old p) + 1) cs from in
-    subst (λ (u : TextPlace). From end p (path_changes g m places h.width u ++ cs)) same
-    (subst (λ (ds : List Change). From end p (ds ++ cs)) (sym (inline-changes g m places h (record { section = g.number; at = p; len = length (text_in old p); field = p }) refl))
-    (omega arith, omega (arith, last), all-before end (p + length (text_in old p) + 1) cs from))
-column-from g m s l old h places end cs spec p c t w (offset_is z i form room reads ends) is from =
+    subst (λ (u : TextPlace). From end p (text_changes g m places h.width (record { place = u; path = path }) ++ cs)) same (by_path path last)
+  where
+    by_path : (b : Bool) → p + length (text_in old p) + 1 ≤ end → From end p (text_changes g m places h.width (own_text g old p b) ++ cs)
+    by_path true last =
+        subst (λ (ds : List Change). From end p (ds ++ cs)) (sym (inline-changes g m (on_paths places) h (record { section = g.number; at = p; len = length (text_in old p); field = p }) refl))
+        (omega arith, omega (arith, last), all-before end (p + length (text_in old p) + 1) cs from)
+    by_path false last =
+        subst (λ (ds : List Change). From end p (ds ++ cs)) (sym (further-changed g m places h old p))
+        (from-before end p (p + length (text_in old p) + 1) cs (omega arith) from)
+column-from g m s l old h places end cs spec p c t path w (offset_is z i form room reads ends) is from =
     let same : text_of (texts_in g z) i p ≡ t = some-place _ t is in
     let last : p + width_size h.width ≤ end = from-end end (p + width_size h.width) cs from in
-    subst (λ (u : TextPlace). From end p (path_changes g m places h.width u ++ cs)) same
-    (subst (λ (ds : List Change). From end p (ds ++ cs)) (sym (offset-changed g m s l places h z i p w))
-    (by_place (places (text_of (texts_in g z) i p)) last))
+    subst (λ (u : TextPlace). From end p (text_changes g m places h.width (record { place = u; path = path }) ++ cs)) same
+    (subst (λ (ds : List Change). From end p (ds ++ cs)) (sym (offset-changed g m s l places h z i p path w))
+    (by_place (places (record { place = text_of (texts_in g z) i p; path = path })) last))
   where
     by_place : (o : Option ℕ) → p + width_size h.width ≤ end → From end p (offset_changes g.order h.width g.bytes g.cells p o ++ cs)
     by_place None last = from-before end p (p + width_size h.width) cs (omega arith) from
     by_place (Some to) last = (omega arith, omega (arith, last), all-before end (p + width_size h.width) cs from)
-column-from g m s l old h places end cs spec p c t w (value_is x y d v is_) is from = absurd (none-place t is)
+column-from g m s l old h places end cs spec p c t path w (value_is x y d v is_) is from = absurd (none-place t is)

@@ -3,58 +3,60 @@ use Rattle.std.proofs.Common.{true, ◌≡◌, ◌≢◌, ℕ, suc, ◌+◌, ◌
 use Rattle.std.specs.Prelude.{⊤}
 use Rattle.std.proofs.lemmas.List.{length-append, append-nil}
 use Rattle.dw_base.specs.Cells.{Cell, bytes_of}
-use Rattle.dw_base.specs.LineChanges.{paths_mentions, line_mentions, line_place, lines_after}
 use Rattle.dw_base.specs.LineMeanings.{LineMeaning, line_meaning, line_meanings, mapped_line, mapped_lines}
 use Rattle.dw_base.specs.LineReadings.{LineReading, ReadsTable, TablesTo, table_read, table_starts, starts_from, all_lines}
 use Rattle.dw_base.specs.LineSources.{LineSource}
-use Rattle.dw_base.specs.LineWriteFails.{CanWrite}
+use Rattle.dw_base.specs.LineTables.{table_bytes}
 use Rattle.dw_base.specs.Paths.{PathMap}
 use Rattle.dw_base.specs.StringTables.{Mention, new_table, texts_after}
 use Rattle.dw_base.specs.Texts.{ends_in}
 use Rattle.dw_base.specs.TextChanges.{TableChanges}
-use Rattle.dw_base.specs.WrittenLines.{length_size, length_bytes, written_rest, written_table}
-use Rattle.dw_base.specs.declared.line_tables.TextPlace.{TextPlace}
+use Rattle.dw_base.specs.TextLineChanges.{all_texts_mentions, rest_by_texts, table_by_texts, tables_by_texts, text_place, texts_mentions}
+use Rattle.dw_base.specs.TextWriteFails.{CanWriteTexts}
+use Rattle.dw_base.specs.WrittenLines.{length_size, length_bytes}
+use Rattle.dw_base.specs.declared.line_tables.LineText.{LineText}
 use Rattle.dw_base.specs.declared.shared.Width.{Width}
 use Rattle.dw_base.specs.declared.shared.Width.TheVariants.{W32, W64}
 use Rattle.dw_base.proofs.ContributionBackLaws.{StandsAt}
 use Rattle.dw_base.proofs.UnitEditLaws.{length-bytes_of}
 use Rattle.dw_base.specs.declared.debug_sections.DebugSection.TheVariants.{Str, LineStr}
 use Rattle.dw_base.specs.declared.texts.TextSection.TheVariants.{InStr, InLineStr}
-use Rattle.dw_meaning.specs.LineCells.{all_written_cells, written_cells}
+use Rattle.dw_meaning.specs.TextLineCells.{all_cells_by_texts, table_cells_by_texts}
 use Rattle.dw_meaning.proofs.CellLaidLaws.{stand-behind}
 use Rattle.dw_meaning.proofs.ClearLaws.{NoneOver, over-start}
-use Rattle.dw_meaning.proofs.LineCellLaws.{all-bytes, written-bytes}
+use Rattle.dw_meaning.proofs.TextCellLaws.{text_table-bytes, text_tables-bytes}
+use Rattle.dw_meaning.proofs.TextNoneLaws.{lists-texts}
 use Rattle.dw_meaning.proofs.LineClearLaws.{EachClear}
 use Rattle.dw_meaning.proofs.LineTableLaws.{header-places}
-use Rattle.dw_meaning.proofs.LineColumnLaws.{edited_with, Grows, SourceMoves}
+use Rattle.dw_meaning.proofs.LineColumnLaws.{edited_with, SourceMoves}
 use Rattle.dw_meaning.proofs.LineHeaderLaws.{header-is, length-size}
 use Rattle.dw_meaning.proofs.LineLaidLaws.{stands-first, stands-next, length-bytes}
 use Rattle.dw_meaning.proofs.LineMeaningLaws.{TailStays, table-moved}
-use Rattle.dw_meaning.proofs.LinePathLaws.{AllTake, BothMove, paths-move}
+use Rattle.dw_meaning.proofs.LinePathLaws.{AllTake, BothMove, texts-move}
 use Rattle.dw_meaning.proofs.LineStartLaws.{EachSome}
 use Rattle.dw_meaning.proofs.TextEditLaws.{TextsAre, behind_piece}
 
 -- each table can be written
 abbrev pub EachCan : LineSource → PathMap → TableChanges → List LineReading → Type 0
 EachCan g m c [] = ⊤
-EachCan g m c (r ∷ rs) = CanWrite g m (line_place m (c.new Str) (c.new LineStr) g) (table_read g r) × EachCan g m c rs
+EachCan g m c (r ∷ rs) = CanWriteTexts g m (text_place m (c.new Str) (c.new LineStr) g) (table_read g r) × EachCan g m c rs
 
 some-size : (w : Width) → 0 < length_size w
 some-size W32 = omega arith
 some-size W64 = omega arith
 
 -- a table that is written has a byte at least
-written-some : (g : LineSource) (m : PathMap) (c : TableChanges) (r : LineReading) → 0 < length (written_table g m (line_place m (c.new Str) (c.new LineStr) g) (table_read g r))
-unfolding written_table
+written-some : (g : LineSource) (m : PathMap) (c : TableChanges) (r : LineReading) → 0 < length (table_by_texts g m (text_place m (c.new Str) (c.new LineStr) g) (table_read g r))
+unfolding table_by_texts
 written-some g m c r =
-    let first = length-bytes g.order r.header.width (length (written_rest g m (line_place m (c.new Str) (c.new LineStr) g) (table_read g r))) in
+    let first = length-bytes g.order r.header.width (length (rest_by_texts g m (text_place m (c.new Str) (c.new LineStr) g) (table_read g r))) in
     let some = some-size r.header.width in
     omega (
       arith,
       first,
       some,
-      length-append (length_bytes g.order r.header.width (length (written_rest g m (line_place m (c.new Str) (c.new LineStr) g) (table_read g r))))
-          (written_rest g m (line_place m (c.new Str) (c.new LineStr) g) (table_read g r)),
+      length-append (length_bytes g.order r.header.width (length (rest_by_texts g m (text_place m (c.new Str) (c.new LineStr) g) (table_read g r))))
+          (rest_by_texts g m (text_place m (c.new Str) (c.new LineStr) g) (table_read g r)),
     )
 
 -- where there is a table more, none reaches over its start
@@ -87,40 +89,41 @@ pub record LinesMoved (g k : LineSource) (m : PathMap) (q e : ℕ) (ts : List (L
 
 pub lines-moved : (c : TableChanges) (g : LineSource) (bytes : List ℕ) (cells more_cells : List Cell) (ts us : List (List ℕ)) (ms ns : List Mention) (p e q : ℕ) (rs : List LineReading)
     → SourceMoves g c.map (new_table (c.new Str).plan (c.new Str).texts) (new_table (c.new LineStr).plan (c.new LineStr).texts) → BothMove c g → TablesTo g p rs e → EachCan g c.map c rs
-    → TextsAre c ts us (line_mentions g InStr rs ++ ms) (line_mentions g InLineStr rs ++ ns)
-    → StandsAt bytes (all_lines (lines_after c.map (c.new Str) (c.new LineStr) g rs)) q → bytes_of cells ≡ bytes
-    → drop q cells ≡ all_written_cells g c.map (line_place c.map (c.new Str) (c.new LineStr) g) rs ++ more_cells → OverIf cells q rs → EachClear g rs
-    → AllTake g (line_place c.map (c.new Str) (c.new LineStr) g) rs
+    → TextsAre c ts us (all_texts_mentions g InStr rs ++ ms) (all_texts_mentions g InLineStr rs ++ ns)
+    → StandsAt bytes (all_lines (tables_by_texts c.map (c.new Str) (c.new LineStr) g rs)) q → bytes_of cells ≡ bytes
+    → drop q cells ≡ all_cells_by_texts g c.map (text_place c.map (c.new Str) (c.new LineStr) g) rs ++ more_cells → OverIf cells q rs → EachClear g rs
+    → AllTake g (text_place c.map (c.new Str) (c.new LineStr) g) rs
     → LinesMoved g (edited_with g bytes cells (new_table (c.new Str).plan (c.new Str).texts) (new_table (c.new LineStr).plan (c.new LineStr).texts)) c.map q
-    (q + length (all_lines (lines_after c.map (c.new Str) (c.new LineStr) g rs))) (lines_after c.map (c.new Str) (c.new LineStr) g rs) rs
+    (q + length (all_lines (tables_by_texts c.map (c.new Str) (c.new LineStr) g rs))) (tables_by_texts c.map (c.new Str) (c.new LineStr) g rs) rs
 lines-moved c g bytes cells more_cells ts us ms ns p e q [] w both reads can all st own there over clear takes =
     record { readings = []; are = omega arith; starts = refl; says = refl; some = tt; count = refl; clear = tt; tails = tt }
 lines-moved c g bytes cells more_cells ts us ms ns p e q (r ∷ rs) w both reads can all st own there over clear takes =
     let s : List ℕ = new_table (c.new Str).plan (c.new Str).texts in
     let l : List ℕ = new_table (c.new LineStr).plan (c.new LineStr).texts in
-    let xs : List TextPlace = r.dirs ++ Rattle.dw_base.specs.LineTables.texts_of r.files in
-    let t : List ℕ = written_table g c.map (line_place c.map (c.new Str) (c.new LineStr) g) (table_read g r) in
-    let rest : List (List ℕ) = lines_after c.map (c.new Str) (c.new LineStr) g rs in
-    let here : TextsAre c ts us (paths_mentions g InStr xs ++ (line_mentions g InStr rs ++ ms)) (paths_mentions g InLineStr xs ++ (line_mentions g InLineStr rs ++ ns)) = record {
-      str = all.str ∙ ap (texts_after (c.new Str).plan c.map ts) (append_assoc (paths_mentions g InStr xs) (line_mentions g InStr rs) ms);
-      line_str = all.line_str ∙ ap (texts_after (c.new LineStr).plan c.map us) (append_assoc (paths_mentions g InLineStr xs) (line_mentions g InLineStr rs) ns);
+    let xs : List LineText = (table_read g r).texts in
+    let t : List ℕ = table_by_texts g c.map (text_place c.map (c.new Str) (c.new LineStr) g) (table_read g r) in
+    let rest : List (List ℕ) = tables_by_texts c.map (c.new Str) (c.new LineStr) g rs in
+    let here : TextsAre c ts us (texts_mentions g InStr xs ++ (all_texts_mentions g InStr rs ++ ms)) (texts_mentions g InLineStr xs ++ (all_texts_mentions g InLineStr rs ++ ns)) = record {
+      str = all.str ∙ ap (texts_after (c.new Str).plan c.map ts) (append_assoc (texts_mentions g InStr xs) (all_texts_mentions g InStr rs) ms);
+      line_str = all.line_str ∙ ap (texts_after (c.new LineStr).plan c.map us) (append_assoc (texts_mentions g InLineStr xs) (all_texts_mentions g InLineStr rs) ns);
     } in
-    let moves = paths-move c g r.header.width ts us (line_mentions g InStr rs ++ ms) (line_mentions g InLineStr rs ++ ns) xs both here takes.0 in
-    let here_cells : drop q cells ≡ written_cells g c.map (line_place c.map (c.new Str) (c.new LineStr) g) (table_read g r)
-    ++ (all_written_cells g c.map (line_place c.map (c.new Str) (c.new LineStr) g) rs ++ more_cells) =
-    there ∙ append_assoc (written_cells g c.map (line_place c.map (c.new Str) (c.new LineStr) g) (table_read g r)) (all_written_cells g c.map (line_place c.map (c.new Str) (c.new LineStr) g) rs) more_cells in
-    let size : length (written_cells g c.map (line_place c.map (c.new Str) (c.new LineStr) g) (table_read g r)) ≡ length (written_table g c.map (line_place c.map (c.new Str) (c.new LineStr) g) (table_read g r)) =
-    sym (length-bytes_of (written_cells g c.map (line_place c.map (c.new Str) (c.new LineStr) g) (table_read g r)))
-    ∙ ap length (written-bytes g c.map (line_place c.map (c.new Str) (c.new LineStr) g) (table_read g r) w.own) in
-    let behind_cells : drop (q + length (written_table g c.map (line_place c.map (c.new Str) (c.new LineStr) g) (table_read g r))) cells
-    ≡ all_written_cells g c.map (line_place c.map (c.new Str) (c.new LineStr) g) rs ++ more_cells =
+    let moves = texts-move c g r.header.width ts us (all_texts_mentions g InStr rs ++ ms) (all_texts_mentions g InLineStr rs ++ ns) xs w.tables
+    (lists-texts g r.header (table_bytes g r.header) r.dirs r.files r.behind reads.0.lists) both here takes.0 in
+    let here_cells : drop q cells ≡ table_cells_by_texts g c.map (text_place c.map (c.new Str) (c.new LineStr) g) (table_read g r)
+    ++ (all_cells_by_texts g c.map (text_place c.map (c.new Str) (c.new LineStr) g) rs ++ more_cells) =
+    there ∙ append_assoc (table_cells_by_texts g c.map (text_place c.map (c.new Str) (c.new LineStr) g) (table_read g r)) (all_cells_by_texts g c.map (text_place c.map (c.new Str) (c.new LineStr) g) rs) more_cells in
+    let size : length (table_cells_by_texts g c.map (text_place c.map (c.new Str) (c.new LineStr) g) (table_read g r)) ≡ length (table_by_texts g c.map (text_place c.map (c.new Str) (c.new LineStr) g) (table_read g r)) =
+    sym (length-bytes_of (table_cells_by_texts g c.map (text_place c.map (c.new Str) (c.new LineStr) g) (table_read g r)))
+    ∙ ap length (text_table-bytes g c.map (text_place c.map (c.new Str) (c.new LineStr) g) (table_read g r) w.own) in
+    let behind_cells : drop (q + length (table_by_texts g c.map (text_place c.map (c.new Str) (c.new LineStr) g) (table_read g r))) cells
+    ≡ all_cells_by_texts g c.map (text_place c.map (c.new Str) (c.new LineStr) g) rs ++ more_cells =
     ap (λ (i : ℕ). drop (q + i) cells) (sym size)
-    ∙ stand-behind cells (written_cells g c.map (line_place c.map (c.new Str) (c.new LineStr) g) (table_read g r)) (all_written_cells g c.map (line_place c.map (c.new Str) (c.new LineStr) g) rs ++ more_cells) q here_cells in
-    let one = table-moved g c.map (line_place c.map (c.new Str) (c.new LineStr) g) bytes cells (all_written_cells g c.map (line_place c.map (c.new Str) (c.new LineStr) g) rs ++ more_cells) s l p q r w reads.0
+    ∙ stand-behind cells (table_cells_by_texts g c.map (text_place c.map (c.new Str) (c.new LineStr) g) (table_read g r)) (all_cells_by_texts g c.map (text_place c.map (c.new Str) (c.new LineStr) g) rs ++ more_cells) q here_cells in
+    let one = table-moved g c.map (text_place c.map (c.new Str) (c.new LineStr) g) bytes cells (all_cells_by_texts g c.map (text_place c.map (c.new Str) (c.new LineStr) g) rs ++ more_cells) s l p q r w reads.0
     (record { table = can.0.table; header = can.0.header }) moves can.0.defined (stands-first bytes t (all_lines rest) q st) own here_cells over clear.0 in
-    let more = lines-moved c g bytes cells more_cells (texts_after (c.new Str).plan c.map ts (paths_mentions g InStr xs)) (texts_after (c.new LineStr).plan c.map us (paths_mentions g InLineStr xs)) ms ns
+    let more = lines-moved c g bytes cells more_cells (texts_after (c.new Str).plan c.map ts (texts_mentions g InStr xs)) (texts_after (c.new LineStr).plan c.map us (texts_mentions g InLineStr xs)) ms ns
     r.header.end e (q + length t) rs w both reads.1 can.1
-    (behind_piece c ts us (paths_mentions g InStr xs) (paths_mentions g InLineStr xs) (line_mentions g InStr rs ++ ms) (line_mentions g InLineStr rs ++ ns) here)
+    (behind_piece c ts us (texts_mentions g InStr xs) (texts_mentions g InLineStr xs) (all_texts_mentions g InStr rs ++ ms) (all_texts_mentions g InLineStr rs ++ ns) here)
     (stands-next bytes t (all_lines rest) q st) own behind_cells (over-if g cells (q + length t) e r.header.end rs clear.1 reads.1 one.over) clear.1 takes.1 in
     let k : LineSource = edited_with g bytes cells s l in
     let end : q + length t + length (all_lines rest) ≡ q + length (t ++ all_lines rest) = omega (arith, length-append t (all_lines rest)) in
@@ -172,19 +175,18 @@ no-tables g (r ∷ rs) none reads =
 
 -- the new section
 pub section-moved : (c : TableChanges) (g : LineSource) (ts us : List (List ℕ)) (ms ns : List Mention) (rs : List LineReading) → g.is_read ≡ true → bytes_of g.cells ≡ g.bytes
-    → EachClear g rs → AllTake g (line_place c.map (c.new Str) (c.new LineStr) g) rs → BothMove c g → Grows g.str.bytes (new_table (c.new Str).plan (c.new Str).texts) → Grows g.line_str.bytes (new_table (c.new LineStr).plan (c.new LineStr).texts)
-    → TablesApart g rs → ((at : ℕ) → ends_in g.line_str.bytes at ≡ true → g.line_str.number ≢ g.str.number) → TablesTo g 0 rs (length g.bytes) → EachCan g c.map c rs
-    → TextsAre c ts us (line_mentions g InStr rs ++ ms) (line_mentions g InLineStr rs ++ ns)
-    → LinesMoved g (edited_with g (all_lines (lines_after c.map (c.new Str) (c.new LineStr) g rs)) (all_written_cells g c.map (line_place c.map (c.new Str) (c.new LineStr) g) rs)
-    (new_table (c.new Str).plan (c.new Str).texts) (new_table (c.new LineStr).plan (c.new LineStr).texts)) c.map 0 (length (all_lines (lines_after c.map (c.new Str) (c.new LineStr) g rs)))
-    (lines_after c.map (c.new Str) (c.new LineStr) g rs) rs
-section-moved c g ts us ms ns [] read own clear takes both a b apart tables reads can all =
+    → EachClear g rs → AllTake g (text_place c.map (c.new Str) (c.new LineStr) g) rs → BothMove c g → TablesApart g rs → ((at : ℕ) → ends_in g.line_str.bytes at ≡ true → g.line_str.number ≢ g.str.number) → TablesTo g 0 rs (length g.bytes) → EachCan g c.map c rs
+    → TextsAre c ts us (all_texts_mentions g InStr rs ++ ms) (all_texts_mentions g InLineStr rs ++ ns)
+    → LinesMoved g (edited_with g (all_lines (tables_by_texts c.map (c.new Str) (c.new LineStr) g rs)) (all_cells_by_texts g c.map (text_place c.map (c.new Str) (c.new LineStr) g) rs)
+    (new_table (c.new Str).plan (c.new Str).texts) (new_table (c.new LineStr).plan (c.new LineStr).texts)) c.map 0 (length (all_lines (tables_by_texts c.map (c.new Str) (c.new LineStr) g rs)))
+    (tables_by_texts c.map (c.new Str) (c.new LineStr) g rs) rs
+section-moved c g ts us ms ns [] read own clear takes both apart tables reads can all =
     record { readings = []; are = refl; starts = refl; says = refl; some = tt; count = refl; clear = tt; tails = tt }
-section-moved c g ts us ms ns (r ∷ rs) read own clear takes both a b apart tables reads can all =
-    subst (λ (e : ℕ). LinesMoved g (edited_with g (all_lines (lines_after c.map (c.new Str) (c.new LineStr) g (r ∷ rs))) (all_written_cells g c.map (line_place c.map (c.new Str) (c.new LineStr) g) (r ∷ rs))
-    (new_table (c.new Str).plan (c.new Str).texts) (new_table (c.new LineStr).plan (c.new LineStr).texts)) c.map 0 e (lines_after c.map (c.new Str) (c.new LineStr) g (r ∷ rs)) (r ∷ rs))
-    (zero-plus (length (all_lines (lines_after c.map (c.new Str) (c.new LineStr) g (r ∷ rs)))))
-    (lines-moved c g (all_lines (lines_after c.map (c.new Str) (c.new LineStr) g (r ∷ rs))) (all_written_cells g c.map (line_place c.map (c.new Str) (c.new LineStr) g) (r ∷ rs)) [] ts us ms ns 0 (length g.bytes) 0 (r ∷ rs)
-    (record { map = both.map; read = read; own = own; str = a; line_str = b; apart_str = apart.0; apart_line = apart.1; tables = tables }) both reads can all
-    (whole-stands (all_lines (lines_after c.map (c.new Str) (c.new LineStr) g (r ∷ rs)))) (all-bytes c g (r ∷ rs) own)
-    (sym (append-nil (all_written_cells g c.map (line_place c.map (c.new Str) (c.new LineStr) g) (r ∷ rs)))) (over-start (all_written_cells g c.map (line_place c.map (c.new Str) (c.new LineStr) g) (r ∷ rs))) clear takes)
+section-moved c g ts us ms ns (r ∷ rs) read own clear takes both apart tables reads can all =
+    subst (λ (e : ℕ). LinesMoved g (edited_with g (all_lines (tables_by_texts c.map (c.new Str) (c.new LineStr) g (r ∷ rs))) (all_cells_by_texts g c.map (text_place c.map (c.new Str) (c.new LineStr) g) (r ∷ rs))
+    (new_table (c.new Str).plan (c.new Str).texts) (new_table (c.new LineStr).plan (c.new LineStr).texts)) c.map 0 e (tables_by_texts c.map (c.new Str) (c.new LineStr) g (r ∷ rs)) (r ∷ rs))
+    (zero-plus (length (all_lines (tables_by_texts c.map (c.new Str) (c.new LineStr) g (r ∷ rs)))))
+    (lines-moved c g (all_lines (tables_by_texts c.map (c.new Str) (c.new LineStr) g (r ∷ rs))) (all_cells_by_texts g c.map (text_place c.map (c.new Str) (c.new LineStr) g) (r ∷ rs)) [] ts us ms ns 0 (length g.bytes) 0 (r ∷ rs)
+    (record { map = both.map; read = read; own = own; apart_str = apart.0; apart_line = apart.1; tables = tables }) both reads can all
+    (whole-stands (all_lines (tables_by_texts c.map (c.new Str) (c.new LineStr) g (r ∷ rs)))) (text_tables-bytes c g (r ∷ rs) own)
+    (sym (append-nil (all_cells_by_texts g c.map (text_place c.map (c.new Str) (c.new LineStr) g) (r ∷ rs)))) (over-start (all_cells_by_texts g c.map (text_place c.map (c.new Str) (c.new LineStr) g) (r ∷ rs))) clear takes)

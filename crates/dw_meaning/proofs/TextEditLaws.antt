@@ -66,7 +66,7 @@ pub appending-keeps : (m : PathMap) (table : List ℕ) → KeepsTexts (appending
 appending-keeps m table = record { text = λ x e. appending-text m x.path x.text e; kept = λ x e. refl }
 
 -- the new text of a mention has no NUL
-has_nul-new_text : (m : PathMap) (path : Bool) (t : List ℕ) → IsPathMap m → has_nul t ≡ false → has_nul (new_text m (record { path = path; text = t })) ≡ false
+pub has_nul-new_text : (m : PathMap) (path : Bool) (t : List ℕ) → IsPathMap m → has_nul t ≡ false → has_nul (new_text m (record { path = path; text = t })) ≡ false
 has_nul-new_text m true t is none = has_nul-mapped_path m t is none
 has_nul-new_text m false t is none = none
 

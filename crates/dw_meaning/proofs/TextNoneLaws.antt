@@ -1,6 +1,5 @@
 -- Where a table of texts has no bytes, no text of a line table is in it.
 use Rattle.std.proofs.Common.{Bool, true, false, ◌≡◌, ◌≢◌, ℕ, ◌+◌, ◌==◌, List, [], ◌∷◌, ◌++◌, length, Option, Some, None, sym, refl, ap, ◌∙◌, subst, if◌then◌else◌}
-use Rattle.std.specs.Bool.{⊤}
 use Rattle.std.specs.Prelude.{Result, Ok}
 use Rattle.std.proofs.lemmas.Bool.{eq-eqb, ne_eqb}
 use Rattle.dw_base.specs.LineChanges.{mention_in, path_in}
@@ -9,7 +8,7 @@ use Rattle.dw_base.specs.LineReadings.{LineReading, TablesTo, table_read}
 use Rattle.dw_base.specs.LineSources.{LineSource}
 use Rattle.dw_base.specs.LineTables.{HasLists, new_lists, old_lists, table_bytes, texts_of}
 use Rattle.dw_base.specs.StringTables.{Mention}
-use Rattle.dw_base.specs.TableTexts.{as_paths, column_text, column_texts, entries_texts, entry_texts, list_texts, takes_path, texts_by, texts_counted, texts_formed, texts_then}
+use Rattle.dw_base.specs.TableTexts.{as_paths, column_text, column_texts, entries_texts, entry_texts, list_texts, texts_by, texts_counted, texts_formed, texts_then}
 use Rattle.dw_base.specs.TextLineChanges.{all_texts_mentions, mention_of, text_mention, texts_mentions}
 use Rattle.dw_base.specs.Texts.{ends_in}
 use Rattle.dw_base.specs.declared.fault.Refusal.{Refusal}
@@ -25,18 +24,10 @@ use Rattle.dw_base.specs.declared.values.Spec.{Spec}
 use Rattle.dw_meaning.proofs.LineColumnLaws.{column-is, texts_in}
 use Rattle.dw_meaning.proofs.LineEntryLaws.{column-step}
 use Rattle.dw_meaning.proofs.LineListLaws.{entry-is, list-is}
-use Rattle.dw_meaning.proofs.LinePathLaws.{AnyPath, EachPath, PathIs, column-path, lists-paths, path-none}
+use Rattle.dw_meaning.proofs.LinePathLaws.{AnyPath, EachPath, EachText, column-path, lists-paths, path-none, texts-append}
 use Rattle.dw_meaning.proofs.LineWalkLaws.{NewFiles}
 
--- each text stands in the section of line tables, or an offset names it
-abbrev EachText : LineSource → List LineText → Type 0
-EachText g [] = ⊤
-EachText g (x ∷ xs) = PathIs g x.place × EachText g xs
-
-texts-append : (g : LineSource) (xs ys : List LineText) → EachText g xs → EachText g ys → EachText g (xs ++ ys)
-texts-append g [] ys h k = k
-texts-append g (x ∷ xs) ys h k = (h.0, texts-append g xs ys h.1 k)
-
+-- before version 5 all texts are paths
 paths-texts : (g : LineSource) (xs : List TextPlace) → EachPath g xs → EachText g (as_paths xs)
 paths-texts g [] h = tt
 paths-texts g (x ∷ xs) h = (h.0, paths-texts g xs h.1)
@@ -73,8 +64,8 @@ list-texts g h table p files e is =
     ∙ ap (λ (n : ℕ). entries_texts g h table r.format.0 n (r.format.1 + r.count.1)) (sym r.number) in
     subst (EachText g) (sym texts) (entries-texts g h table r.format.0 (r.format.1 + r.count.1) files e r.are)
 
--- of the lists of a table
-lists-texts : (g : LineSource) (h : LineHeader) (table : List ℕ) (dirs : List TextPlace) (files : List FilePlace) (behind : ℕ) → HasLists g h table dirs files behind
+-- of the lists of a table: each text stands in the section of line tables, or an offset names it
+pub lists-texts : (g : LineSource) (h : LineHeader) (table : List ℕ) (dirs : List TextPlace) (files : List FilePlace) (behind : ℕ) → HasLists g h table dirs files behind
     → EachText g (texts_by g h table (dirs ++ texts_of files))
 lists-texts g h table dirs files behind (old_lists ds fs place e other d f) =
     subst (λ (b : Bool). EachText g (if b then list_texts g h table h.lists ++ list_texts g h table (list_end g h table h.lists) else as_paths (dirs ++ texts_of files)))
