@@ -1,10 +1,10 @@
 -- What is loaded of a file is what is loaded of its stripped file.
-use Rattle.std.proofs.Common.{◌≡◌, ◌≢◌, ℕ, zero, suc, ◌+◌, ◌*◌, ◌<◌, ◌≤◌, ◌⊎◌, ◌==◌, ◌&&◌, ◌||◌, nat_le, Bool, true, false, List, slice_index, refl, sym, ap, ◌∙◌, arith, inl, inr}
-use Rattle.std.proofs.lemmas.Bool.{cases_lt, cases_Bool}
+use Rattle.std.proofs.Common.{◌≡◌, ◌≢◌, ℕ, zero, suc, ◌+◌, ◌*◌, ◌<◌, ◌≤◌, ◌⊎◌, ◌==◌, ◌&&◌, ◌||◌, Bool, true, false, List, slice_index, refl, sym, ap, ◌∙◌, arith, inl, inr}
+use Rattle.std.proofs.lemmas.Bool.{cases_Bool}
 use Rattle.std.proofs.lemmas.Bool.Decides.{nat_tests}
 use Rattle.std.specs.Prelude.{map, filter, Option, Some, None}
 use Rattle.dw_base.specs.Elf.{class_of, order_of, ehdr_size, phdr_size, word_size, phoff_place, phnum_place, shoff_place, shnum_place, shstrndx_place, e_type, e_phoff, e_phnum, is_empty_kind, nth_section, nth_segment, section_count, section_name, segments_of, name_index, contents_of}
-use Rattle.dw_base.specs.Layout.{fixed_end, is_alloc, is_fixed, is_loaded_kind}
+use Rattle.dw_base.specs.Layout.{fixed_end, is_fixed, is_loaded_kind}
 use Rattle.dw_base.specs.Lists.{tabulate}
 use Rattle.dw_base.specs.Notes.{BuildId, Descriptor, build_id_at, build_id_in, build_id_of, first_below, id_in, is_id_section, or_this}
 use Rattle.dw_base.specs.Numbers.{spelled}
@@ -33,7 +33,7 @@ use Rattle.dbg_split.specs.SplitFails.SectionBars.{across}
 use Rattle.dbg_split.specs.StrippedFile.{kept_before}
 use Rattle.dbg_split.specs.StrippedReads.{IsKept, ReadsStripped}
 use Rattle.dbg_split.proofs.StrippedFitLaws.{IsSplit, names-there}
-use Rattle.dw_meaning.proofs.LoadedLaws.{before-none, outside, unless-same, tabulate-each, images-same, loaded-is, segments-are, EachSegment}
+use Rattle.dw_meaning.proofs.LoadedLaws.{before-none, moved-behind, outside, unless-same, tabulate-each, images-same, loaded-is, segments-are, EachSegment}
 
 -- the section of the build-id is kept: its name is none of debug data, and its type none of those that are dropped
 no-self : (m s : Bool) → (m && ((false || false) || (false && s))) ≡ false
@@ -152,31 +152,12 @@ all-same b name out r =
     ∙ below-same b name out (section_count b) r (omega arith)
 
 -- so the build-id lies where it lay, before the fixed end
-note-full : (s : Section) → s.kind ≡ SHT_NOTE → is_empty_kind s ≡ false
+pub note-full : (s : Section) → s.kind ≡ SHT_NOTE → is_empty_kind s ≡ false
 note-full s is = rw is refl
 
-free-parts : (l a t : Bool) → l ≡ true → (l && (a || t)) ≡ false → (a ≡ false) × (t ≡ false)
-free-parts true true t e h = let no : true ≡ false = h in cc
-free-parts true false t e h = (refl, h)
-free-parts false a t e h = let no : false ≡ true = e in cc
-
-le-past : (m n : ℕ) → nat_le m n ≡ false → n < m
-le-past m n h = grind (arith, nat_tests)
-
-fixed-parts : (b : List ℕ) (s : Section) → is_loaded_kind b ≡ true → is_fixed b s ≡ false → (is_alloc s ≡ false) × (nat_le (s.offset + s.size) (fixed_end b) ≡ false)
-unfolding is_fixed
-fixed-parts b s loaded free = free-parts (is_loaded_kind b) (is_alloc s) (nat_le (s.offset + s.size) (fixed_end b)) loaded free
-
-old-behind : (b : List ℕ) (i : ℕ) → IsSplit b → i < section_count b → is_fixed b (nth_section b i) ≡ false → is_empty_kind (nth_section b i) ≡ false
+pub old-behind : (b : List ℕ) (i : ℕ) → IsSplit b → i < section_count b → is_fixed b (nth_section b i) ≡ false → is_empty_kind (nth_section b i) ≡ false
     → fixed_end b ≤ (nth_section b i).offset
-old-behind b i w lt free full =
-    let s = nth_section b i in
-    let parts = fixed-parts b s w.loaded free in
-    let ends = le-past (s.offset + s.size) (fixed_end b) parts.1 in
-    elim (cases_lt s.offset (fixed_end b)) [
-      | inl begins ↦ absurd (w.free i _ lt (across (record { bytes = full; alloc = parts.0; begins = begins; ends = ends })))
-      | inr behind ↦ behind
-    ]
+old-behind b i w lt free full = moved-behind b i w.loaded (λ j below lies. w.free j _ below (across lies)) lt full free
 
 -- the descriptor of a section
 abbrev pub at_section : List ℕ → ℕ → Descriptor → ℕ → Bool
@@ -241,7 +222,7 @@ ids-same b name out place w r lt =
     ∙ id-of b name out o place w r (id-found b) lt
     ∙ ap (λ (id : Option BuildId). in_id_at b id place) (sym (build_id-is b))
 
-or-both : (x y : Bool) → (x || y) ≡ false → (x ≡ false) × (y ≡ false)
+pub or-both : (x y : Bool) → (x || y) ≡ false → (x ≡ false) × (y ≡ false)
 or-both true y h = let no : true ≡ false = h in cc
 or-both false y h = (refl, h)
 
@@ -251,7 +232,7 @@ numbers-outside c place (inl before) second = inl before
 numbers-outside c place (inr past) (inl before) = let places = number_places c in absurd (omega arith)
 numbers-outside c place (inr past) (inr behind) = let places = number_places c in inr (omega arith)
 
-is-outside : (b : List ℕ) (place : ℕ) → in_section_field b place ≡ false → IsOutside b place
+pub is-outside : (b : List ℕ) (place : ℕ) → in_section_field b place ≡ false → IsOutside b place
 is-outside b place none =
     let c = class_of b in
     let first = or-both (lies_within (shoff_place c) (word_size c) place || lies_within (shnum_place c) 2 place) (lies_within (shstrndx_place c) 2 place) none in
@@ -261,7 +242,7 @@ is-outside b place none =
       numbers = numbers-outside c place (outside (shnum_place c) 2 place second.1) (outside (shstrndx_place c) 2 place first.1);
     }
 
-fields-same : (out b : List ℕ) (place : ℕ) → class_of out ≡ class_of b → in_section_field out place ≡ in_section_field b place
+pub fields-same : (out b : List ℕ) (place : ℕ) → class_of out ≡ class_of b → in_section_field out place ≡ in_section_field b place
 fields-same out b place same = rw same refl
 
 byte-same : (b name out : List ℕ) (place : ℕ) → IsSplit b → ReadsStripped b name out → KeepsFront b out → place < fixed_end b

@@ -1,31 +1,25 @@
 -- What is loaded of the joined file of a split is what is loaded of the file.
-use Rattle.std.proofs.Common.{◌≡◌, ◌≢◌, ℕ, zero, suc, ◌+◌, ◌<◌, ◌≤◌, ◌⊎◌, ◌==◌, ◌&&◌, ◌||◌, nat_le, Bool, true, false, List, [], ◌∷◌, ◌++◌, length, slice_index, cond, refl, sym, ap, ◌∙◌, arith, inl, inr}
-use Rattle.std.proofs.lemmas.Bool.{cases_lt, cases_Bool, le-leb, lt-ltb}
-use Rattle.std.proofs.lemmas.Bool.Decides.{nat_tests}
-use Rattle.std.specs.Bool.{⊤}
+use Rattle.std.proofs.Common.{◌≡◌, ◌≢◌, ℕ, ◌+◌, ◌<◌, ◌≤◌, ◌==◌, ◌||◌, Bool, true, false, List, [], length, slice_index, refl, sym, ap, ◌∙◌, arith, inl, inr}
+use Rattle.std.proofs.lemmas.Bool.{cases_lt, cases_Bool}
 use Rattle.std.specs.Prelude.{map, filter, Option, Some, None}
-use Rattle.dw_base.specs.Elf.{class_of, order_of, contents_of, ehdr_size, e_phnum, is_empty_kind, name_index, nth_section, nth_segment, section_count, segments_of, shnum_place, shoff_place, shstrndx_place, word_size}
-use Rattle.dw_base.specs.Layout.{fixed_end, is_alloc, is_fixed, is_loaded_kind}
-use Rattle.dw_base.specs.Lists.{tabulate}
+use Rattle.dw_base.specs.Elf.{class_of, order_of, contents_of, e_phnum, name_index, nth_section, nth_segment, section_count, segments_of}
+use Rattle.dw_base.specs.Layout.{fixed_end, is_fixed, is_loaded_kind}
 use Rattle.dw_base.specs.Notes.{BuildId, Descriptor, build_id_at, build_id_in, build_id_of, first_below, id_in, is_id_section}
 use Rattle.dw_base.specs.declared.elf_numbers.TheConstants.{SHT_NOTE, SHT_NULL}
 use Rattle.dw_base.specs.declared.records.Section.{Section}
 use Rattle.dw_base.specs.declared.records.Segment.{Segment}
-use Rattle.dw_base.specs.declared.shared.Class.{Class}
 use Rattle.dw_base.proofs.ElfLaws.{e_shoff-some}
 use Rattle.dw_base.proofs.FixedPartLaws.{segment-fixed}
 use Rattle.dw_base.proofs.LayoutLaws.{laid_tabulate-longer}
-use Rattle.dw_base.proofs.PartsLaws.{number_places}
 use Rattle.dw_base.proofs.ReadsBackLaws.{tabulate-ext}
 use Rattle.dw_base.proofs.WrittenContents.{new_head-moves}
-use Rattle.dw_meaning.specs.Loaded.{LoadedKept, in_id_at, in_section_field, is_load, lies_within, loaded_byte, loaded_bytes, segment_image, unless_left_out}
-use Rattle.dbg_split.specs.KeptFront.{IsOutside}
-use Rattle.dbg_split.specs.SplitFails.SectionBars.{across}
+use Rattle.dw_meaning.specs.Loaded.{LoadedKept, in_id_at, in_section_field, is_load, lies_within, loaded_byte, segment_image, unless_left_out}
+use Rattle.dw_meaning.proofs.LoadedLaws.{EachSegment, before-none, images-same, loaded-is, segments-are, tabulate-each, unless-same}
 use Rattle.dbg_split.specs.StrippedFile.{kept_before}
 use Rattle.dbg_split.specs.StrippedReads.{IsKept}
 use Rattle.dbg_split.proofs.LaidLaws.{before_of, nth-is}
-use Rattle.dbg_split.proofs.SplitLoadedLaws.{build_id-is, id-found, kind-same, strings-differ}
-use Rattle.dbg_split.proofs.StrippedFitLaws.{IsSplit, names-there}
+use Rattle.dbg_split.proofs.SplitLoadedLaws.{at_section, build_id-is, fields-same, id-found, is-outside, kind-same, note-full, old-behind, or-both, strings-differ}
+use Rattle.dbg_split.proofs.StrippedFitLaws.{names-there}
 use Rattle.dbg_unstrip.specs.Joined.{joined_front, joined_part, partner_number, stays}
 use Rattle.dbg_unstrip.specs.Matching.{is_kept}
 use Rattle.dbg_unstrip.proofs.FixedAgainLaws.{fixed-kept, fixed_end-same}
@@ -42,32 +36,6 @@ eq-false m n h = grind arith
 stays-true : (s d : List ℕ) (i j : ℕ) → is_kept d i ≡ true → i ≢ name_index d → partner_number s d i ≡ j → is_fixed s (nth_section s j) ≡ true → stays s d i ≡ true
 unfolding stays
 stays-true s d i j kept other partner fixed = rw (kept, eq-false i (name_index d) other, partner) fixed
-
-note-full : (s : Section) → s.kind ≡ SHT_NOTE → is_empty_kind s ≡ false
-note-full s is = rw is refl
-
-free-parts : (l a t : Bool) → l ≡ true → (l && (a || t)) ≡ false → (a ≡ false) × (t ≡ false)
-free-parts true true t e h = let no : true ≡ false = h in cc
-free-parts true false t e h = (refl, h)
-free-parts false a t e h = let no : false ≡ true = e in cc
-
-le-past : (m n : ℕ) → nat_le m n ≡ false → n < m
-le-past m n h = grind (arith, nat_tests)
-
-fixed-parts : (b : List ℕ) (s : Section) → is_loaded_kind b ≡ true → is_fixed b s ≡ false → (is_alloc s ≡ false) × (nat_le (s.offset + s.size) (fixed_end b) ≡ false)
-unfolding is_fixed
-fixed-parts b s loaded free = free-parts (is_loaded_kind b) (is_alloc s) (nat_le (s.offset + s.size) (fixed_end b)) loaded free
-
-old-behind : (b : List ℕ) (i : ℕ) → IsSplit b → i < section_count b → is_fixed b (nth_section b i) ≡ false → is_empty_kind (nth_section b i) ≡ false
-    → fixed_end b ≤ (nth_section b i).offset
-old-behind b i w lt free full =
-    let s = nth_section b i in
-    let parts = fixed-parts b s w.loaded free in
-    let ends = le-past (s.offset + s.size) (fixed_end b) parts.1 in
-    elim (cases_lt s.offset (fixed_end b)) [
-      | inl begins ↦ absurd (w.free i _ lt (across (record { bytes = full; alloc = parts.0; begins = begins; ends = ends })))
-      | inr behind ↦ behind
-    ]
 
 -- one that moves stands behind what stays
 moved-behind : (b name d s : List ℕ) (i : ℕ) → AreJoined b name d s → i < section_count b → (joined_part s d i).moves ≡ true → fixed_end s ≤ (nth_section (out_of s d) i).offset
@@ -103,15 +71,6 @@ id-place b name d s i j is kind =
       kind = kind;
       other = λ e. strings-differ (nth_section b (name_index b)) (w.reads.debug.index.strings w.named) (ap (λ (n : ℕ). (nth_section b n).kind) (sym e) ∙ kind);
     }
-
-before-none : (at n place : ℕ) → place < at → lies_within at n place ≡ false
-before-none at n place lt = rw (below at place lt) refl
-  where
-    below : (at place : ℕ) → place < at → nat_le at place ≡ false
-    below at place lt = grind (arith, nat_tests)
-
-abbrev at_section : List ℕ → ℕ → Descriptor → ℕ → Bool
-at_section b i e place = lies_within ((nth_section b i).offset + e.place) e.size place
 
 place-same : (b name d s : List ℕ) (i : ℕ) (e : Descriptor) (place : ℕ) → AreJoined b name d s → IsIdPlace b name d s i → place < fixed_end b
     → at_section (out_of s d) i e place ≡ at_section b i e place
@@ -159,47 +118,6 @@ ids-same b name d s place j w lt =
     ∙ ap (λ (id : Option BuildId). in_id_at b id place) (sym (build_id-is b))
 
 -- a byte that isn't left out is as it was
-outside : (at n place : ℕ) → lies_within at n place ≡ false → (place < at) ⊎ (at + n ≤ place)
-outside at n place none =
-    elim (cases_lt place at) [
-      | inl before ↦ inl before
-      | inr past ↦
-          elim (cases_lt place (at + n)) [
-            | inl here ↦
-                let inside : lies_within at n place ≡ true = rw (le-leb at place (omega arith), lt-ltb place (at + n) here) refl in
-                let no : true ≡ false = sym inside ∙ none in
-                cc
-            | inr behind ↦ inr (omega arith)
-          ]
-    ]
-
-or-both : (x y : Bool) → (x || y) ≡ false → (x ≡ false) × (y ≡ false)
-or-both true y h = let no : true ≡ false = h in cc
-or-both false y h = (refl, h)
-
-numbers-outside : (c : Class) (place : ℕ) → (place < shnum_place c) ⊎ (shnum_place c + 2 ≤ place) → (place < shstrndx_place c) ⊎ (shstrndx_place c + 2 ≤ place)
-    → (place < shnum_place c) ⊎ (ehdr_size c ≤ place)
-numbers-outside c place (inl before) second = inl before
-numbers-outside c place (inr past) (inl before) = let places = number_places c in absurd (omega arith)
-numbers-outside c place (inr past) (inr behind) = let places = number_places c in inr (omega arith)
-
-is-outside : (b : List ℕ) (place : ℕ) → in_section_field b place ≡ false → IsOutside b place
-is-outside b place none =
-    let c = class_of b in
-    let first = or-both (lies_within (shoff_place c) (word_size c) place || lies_within (shnum_place c) 2 place) (lies_within (shstrndx_place c) 2 place) none in
-    let second = or-both (lies_within (shoff_place c) (word_size c) place) (lies_within (shnum_place c) 2 place) first.0 in
-    record {
-      shoff = outside (shoff_place c) (word_size c) place second.0;
-      numbers = numbers-outside c place (outside (shnum_place c) 2 place second.1) (outside (shstrndx_place c) 2 place first.1);
-    }
-
-unless-same : (left : Bool) (x y : ℕ) → (left ≡ false → x ≡ y) → unless_left_out left x ≡ unless_left_out left y
-unless-same true x y same = refl
-unless-same false x y same = ap (λ (n : ℕ). Some n) (same refl)
-
-fields-same : (out b : List ℕ) (place : ℕ) → class_of out ≡ class_of b → in_section_field out place ≡ in_section_field b place
-fields-same out b place same = rw same refl
-
 byte-same : (b name d s : List ℕ) (place : ℕ) → AreJoined b name d s → SameSections b (out_of s d) → place < fixed_end b
     → loaded_byte (out_of s d) place ≡ loaded_byte b place
 unfolding loaded_byte
@@ -222,37 +140,6 @@ image-same b name d s i j w lt =
     let some : g.filesz ≢ 0 = λ e. omega arith in
     let ends : g.offset + g.filesz ≤ fixed_end b = segment-fixed b i w.loaded lt some in
     byte-same b name d s (g.offset + n) j w (omega arith))
-
--- of each segment
-abbrev EachSegment : (Segment → Type 0) → List Segment → Type 0
-EachSegment P [] = ⊤
-EachSegment P (g ∷ gs) = P g × EachSegment P gs
-
-each-push : (P : Segment → Type 0) (gs : List Segment) (g : Segment) → EachSegment P gs → P g → EachSegment P (gs ++ g ∷ [])
-each-push P [] g all one = (one, tt)
-each-push P (x ∷ gs) g all one = (all.0, each-push P gs g all.1 one)
-
-tabulate-each : (P : Segment → Type 0) (f : ℕ → Segment) (n : ℕ) → ((i : ℕ) → i < n → P (f i)) → EachSegment P (tabulate f n)
-tabulate-each P f zero each = tt
-tabulate-each P f (suc n) each = each-push P (tabulate f n) (f n) (tabulate-each P f n (λ i lt. each i (omega arith))) (each n (omega arith))
-
-images-same : (b out : List ℕ) (gs : List Segment) → EachSegment (λ g. segment_image out g ≡ segment_image b g) gs
-    → map (segment_image out) (filter is_load gs) ≡ map (segment_image b) (filter is_load gs)
-images-same b out [] each = refl
-images-same b out (g ∷ gs) each = by_load (is_load g) each.0 (images-same b out gs each.1)
-  where
-    by_load : (t : Bool) → segment_image out g ≡ segment_image b g → map (segment_image out) (filter is_load gs) ≡ map (segment_image b) (filter is_load gs)
-        → map (segment_image out) (cond t (g ∷ filter is_load gs) (filter is_load gs)) ≡ map (segment_image b) (cond t (g ∷ filter is_load gs) (filter is_load gs))
-    by_load true one rest = rw (one, rest) refl
-    by_load false one rest = rest
-
-loaded-is : (b : List ℕ) → is_loaded_kind b ≡ true → loaded_bytes b ≡ record { segments = segments_of b; images = map (segment_image b) (filter is_load (segments_of b)) }
-unfolding loaded_bytes
-loaded-is b loaded = rw loaded refl
-
-segments-are : (b : List ℕ) → segments_of b ≡ tabulate (nth_segment b) (e_phnum b)
-unfolding segments_of
-segments-are b = refl
 
 pub loaded-same : (b name d s : List ℕ) → AreJoined b name d s → SameSections b (out_of s d) → LoadedKept b (out_of s d)
 loaded-same b name d s j w =

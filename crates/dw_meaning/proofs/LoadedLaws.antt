@@ -87,7 +87,7 @@ free-parts b s kind free = free-alloc (is_loaded_kind b) (is_alloc s) (nat_le (s
 past : (m n : ℕ) → nat_le m n ≡ false → n < m
 past m n h = grind (arith, nat_tests)
 
-moved-behind : (b : List ℕ) (i : ℕ) → is_loaded_kind b ≡ true → NoneAcross b → i < section_count b → is_empty_kind (nth_section b i) ≡ false
+pub moved-behind : (b : List ℕ) (i : ℕ) → is_loaded_kind b ≡ true → NoneAcross b → i < section_count b → is_empty_kind (nth_section b i) ≡ false
     → is_fixed b (nth_section b i) ≡ false → fixed_end b ≤ (nth_section b i).offset
 moved-behind b i kind none lt full free =
     let s : Section = nth_section b i in
