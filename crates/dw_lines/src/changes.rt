@@ -16,29 +16,13 @@ ghost use Rattle.dw_lines.specs.ChangeSteps.{after_changes, fits_width, offset_f
 ghost use Rattle.dw_base.specs.TextLineChanges.{text_changes, texts_changes};
 ghost use Rattle.dw_base.specs.TextWriteFails.{WideText};
 ghost use Rattle.dw_base.specs.WrittenLines.{bytes_at, part};
-ghost use Rattle.dw_base.specs.LineTables.{texts_of};
 
 use crate::new_texts::NewTexts;
 use crate::parts::{bytes_at, part, push_number};
-use dw_base::{DebugSection, FilePlace, Kind, LineText, NoMemory, Refusal, TextPlace, Width};
+use dw_base::{DebugSection, Kind, LineText, NoMemory, Refusal, TextPlace, Width};
 use dw_paths::{Maps, map_path};
 use dw_view::View;
 use std::alloc::{AllocError, Global};
-
-/// The paths of a header: of its directories, then of its files.
-pub(crate) fn paths_of(
-    alloc: Global,
-    dirs: &[TextPlace],
-    files: &[FilePlace],
-) -> Result<Vec<TextPlace>, AllocError>
-    ensures paths { IfOk result (λ paths. paths.items ≡ dirs.now ++ texts_of files.now) }
-{
-    let mut paths = Vec::from_slice(alloc, dirs)?;
-    for file in files {
-        paths.push(file.text)?;
-    }
-    Ok(paths)
-}
 
 /// The number of `.debug_str`; 0 where there is none.
 #[tactic(auto, unfolding(dw_base::specs::ViewData::located))]

@@ -9,7 +9,6 @@ ghost use Rattle.dw_base.specs.LineTables.{HasLists, IsLineTable, LineTable as L
 ghost use Rattle.dw_base.specs.TableTexts.{as_paths, texts_by};
 ghost use Rattle.dw_base.specs.LineFails.{LineFails, ListsFail};
 
-use crate::changes::paths_of;
 use crate::columns::bad_table;
 use crate::entries::entries_at;
 use crate::header::line_header;
@@ -139,6 +138,21 @@ fn new_lists(
         texts,
         behind,
     })
+}
+
+/// The paths of a header: of its directories, then of its files.
+fn paths_of(
+    alloc: Global,
+    dirs: &[TextPlace],
+    files: &[FilePlace],
+) -> Result<Vec<TextPlace>, AllocError>
+    ensures paths { IfOk result (λ paths. paths.items ≡ dirs.now ++ texts_of files.now) }
+{
+    let mut paths = Vec::from_slice(alloc, dirs)?;
+    for file in files {
+        paths.push(file.text)?;
+    }
+    Ok(paths)
 }
 
 /// The lists before version 5.

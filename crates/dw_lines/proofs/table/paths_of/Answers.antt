@@ -1,7 +1,7 @@
 -- The directories, then the path of each file.
 use Rattle.std.proofs.Common.{arith}
 use Rattle.dw_lines.proofs.ChangeLaws.{paths-more, paths-over, paths-start}
-use Rattle.dw_lines.proofs.changes.paths_of.Goals as goal
+use Rattle.dw_lines.proofs.table.paths_of.Goals as goal
 
 pub loop-file-init : goal.loop-file-init
 loop-file-init c = paths-start c.args.dirs.now _ c.args.files.now c.in_ok-paths.ensures.items
