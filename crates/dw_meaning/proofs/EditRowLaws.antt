@@ -6,11 +6,9 @@ use Rattle.dw_base.specs.TextLineChanges.{text_place}
 use Rattle.dw_base.specs.TextWriteFails.{CanWriteTexts, TextWriteFails}
 use Rattle.dw_base.specs.RelocationRows.{moving_sections}
 use Rattle.dw_meaning.proofs.AddendRowLaws.{addends-exclude}
-use Rattle.dw_meaning.proofs.DataKeptLaws.{places-stay}
 use Rattle.dw_meaning.proofs.StartRowLaws.{starts-exclude}
 use Rattle.dw_meaning.proofs.MacroRowLaws.{macros-exclude}
-use Rattle.dw_meaning.proofs.LineRowLaws.{lines-exclude, TableAmong, table-among}
-use Rattle.dw_meaning.proofs.TextRowLaws.{write_texts-excludes}
+use Rattle.dw_meaning.proofs.LineRowLaws.{TableAmong, lines-exclude, table-among, write-excludes}
 use Rattle.dw_base.specs.Cells.{Located}
 use Rattle.dw_base.specs.DebugData.{Around, DataReadings, around_of, line_source, source_around}
 use Rattle.dw_base.specs.FileViews.{view_of}
@@ -83,7 +81,7 @@ edit-excludes m b r a (line_table_row readings before behind t reads split f) =
         table-among (line_source (file_data b)) 0 (length (line_source (file_data b)).bytes) before behind t
         (subst (λ (ts : List LineReading). TablesTo (line_source (file_data b)) 0 ts (length (line_source (file_data b)).bytes)) split reads.lines) in
         let fits : DataFits m (file_data b) rs = subst (DataFits m (file_data b)) (sym same) a.fits in
-        write_texts-excludes (line_source (file_data b)) m (places_by (changes_of m (around_of (file_data b) rs) rs) (file_data b)) among.start t r (places-stay m (file_data b) rs) among.reads
+        write-excludes (line_source (file_data b)) m (places_by (changes_of m (around_of (file_data b) rs) rs) (file_data b)) among.start t r among.reads
         (writable-among m (changes_of m (around_of (file_data b) rs) rs) (around_of (file_data b) rs) before behind t
         (subst (EachWritable m (changes_of m (around_of (file_data b) rs) rs) (around_of (file_data b) rs)) split fits.lines)) f
 edit-excludes m b r a (addends_row readings reads fits f) =

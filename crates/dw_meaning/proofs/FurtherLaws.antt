@@ -1,18 +1,17 @@
--- Where a plan asks for paths alone, what becomes of all texts of a line table is what becomes of its paths, and so are the texts that they ask for.
+-- Where a plan asks for paths alone, a text of a line table that isn't a path gets no new place, and all its texts ask for what its paths ask for.
 use Rattle.std.proofs.Common.{Bool, true, false, ◌≡◌, ℕ, ◌==◌, ◌&&◌, not, List, [], ◌∷◌, ◌++◌, Option, Some, None, refl, sym, ap, ◌∙◌, if◌then◌else◌}
-use Rattle.dw_base.specs.LineChanges.{asked_place, line_mentions, line_place, mention_in, paths_mentions}
-use Rattle.dw_base.specs.LineReadings.{LineReading, ReadsTable, TablesTo, table_read}
+use Rattle.dw_base.specs.LineChanges.{asked_place, line_mentions, mention_in, paths_mentions}
+use Rattle.dw_base.specs.LineReadings.{LineReading, TablesTo, table_read}
 use Rattle.dw_base.specs.LineSources.{LineSource}
 use Rattle.dw_base.specs.Paths.{PathMap, mapped_path}
 use Rattle.dw_base.specs.StringTables.{Mention, Plan, appending, new_place, new_text, with_mention, with_text, texts_after}
 use Rattle.dw_base.specs.TableTexts.{paths_among}
 use Rattle.dw_base.specs.TextChanges.{TableChange}
-use Rattle.dw_base.specs.TextLineChanges.{all_texts_mentions, further_changes, mention_of, on_paths, text_mention, text_place, texts_changes, texts_mentions}
+use Rattle.dw_base.specs.TextLineChanges.{all_texts_mentions, mention_of, text_mention, text_place, texts_mentions}
 use Rattle.dw_base.specs.Texts.{same_text}
-use Rattle.dw_base.specs.WrittenLines.{Change, all_changes, path_changes, paths_of}
+use Rattle.dw_base.specs.WrittenLines.{paths_of}
 use Rattle.dw_base.specs.declared.line_tables.LineText.{LineText}
 use Rattle.dw_base.specs.declared.line_tables.TextPlace.{TextPlace}
-use Rattle.dw_base.specs.declared.shared.Width.{Width}
 use Rattle.dw_base.specs.declared.texts.TextSection.{TextSection}
 use Rattle.dw_base.specs.declared.texts.TextSection.TheVariants.{InStr, InLineStr}
 use Rattle.dw_meaning.proofs.LineTextLaws.{table-paths-among}
@@ -39,35 +38,6 @@ further-stay m str line_str g a b = record { none = λ x e. by_section x (x.plac
         → (if t then asked_place str m (text_mention g.str.bytes x) else asked_place line_str m (text_mention g.line_str.bytes x)) ≡ None
     by_section x true e = asked-none str m (text_mention g.str.bytes x) a e
     by_section x false e = asked-none line_str m (text_mention g.line_str.bytes x) b e
-
-pub place-same : (m : PathMap) (str line_str : TableChange) (g : LineSource) (x : TextPlace) → on_paths (text_place m str line_str g) x ≡ line_place m str line_str g x
-place-same m str line_str g x = refl
-
--- the changes
-further-none : (g : LineSource) (w : Width) (x : TextPlace) (o : Option ℕ) → o ≡ None → further_changes g w x o ≡ []
-further-none g w x o e = ap (further_changes g w x) e ∙ by_section (x.section == g.number)
-  where
-    by_section : (b : Bool) → ◌≡◌ {A = List Change} (if b then [] else []) []
-    by_section true = refl
-    by_section false = refl
-
-pub changes-same : (g : LineSource) (m : PathMap) (places : LineText → Option ℕ) (w : Width) (xs : List LineText) → FurtherStay places
-    → texts_changes g m places w xs ≡ all_changes g m (on_paths places) w (paths_among xs)
-changes-same g m places w [] stay = refl
-changes-same g m places w (x ∷ xs) stay = by_path x.path refl (changes-same g m places w xs stay)
-  where
-    by_path : (b : Bool) → x.path ≡ b → texts_changes g m places w xs ≡ all_changes g m (on_paths places) w (paths_among xs)
-        → (if b then path_changes g m (on_paths places) w x.place else further_changes g w x.place (places x)) ++ texts_changes g m places w xs
-        ≡ all_changes g m (on_paths places) w (if b then x.place ∷ paths_among xs else paths_among xs)
-    by_path true e rest = ap (λ (cs : List Change). path_changes g m (on_paths places) w x.place ++ cs) rest
-    by_path false e rest = ap (λ (cs : List Change). cs ++ texts_changes g m places w xs) (further-none g w x.place (places x) (stay.none x e)) ∙ rest
-
--- of a table that was read
-pub table-changes : (g : LineSource) (m : PathMap) (places : LineText → Option ℕ) (w : Width) (start : ℕ) (r : LineReading) → FurtherStay places → ReadsTable g start r
-    → texts_changes g m places w (table_read g r).texts ≡ all_changes g m (on_paths places) w (paths_of (table_read g r))
-table-changes g m places w start r stay reads =
-    changes-same g m places w (table_read g r).texts stay
-    ∙ ap (all_changes g m (on_paths places) w) (table-paths-among g start r reads)
 
 -- the texts that mentions ask for
 unasked : (plan : Plan) (m : PathMap) (ts : List (List ℕ)) (x : Mention) → AsksPaths plan → x.path ≡ false → with_mention plan m ts x ≡ ts

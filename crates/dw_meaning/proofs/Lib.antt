@@ -120,9 +120,6 @@ pub mod MentionLaws
 pub mod LeavingLaws
 pub mod LineTextLaws
 pub mod FurtherLaws
-pub mod FurtherCellLaws
 pub mod TextCellLaws
 pub mod TextStretchLaws
-pub mod FurtherTableLaws
-pub mod TextRowLaws
 pub mod TextNoneLaws

@@ -4,14 +4,11 @@ use Rattle.std.specs.Bool.{⊤}
 use Rattle.std.proofs.lemmas.List.{drop-drop}
 use Rattle.dw_base.specs.Cells.{Cell, bytes_of, cells_at, plain_cells}
 use Rattle.dw_base.specs.Forms.{width_size}
-use Rattle.dw_base.specs.LineChanges.{line_place, lines_after}
-use Rattle.dw_base.specs.LineReadings.{LineReading, all_lines, table_read}
 use Rattle.dw_base.specs.LineSources.{LineSource}
 use Rattle.dw_base.specs.LineTables.{LineTable}
 use Rattle.dw_base.specs.Numbers.{number_bytes}
 use Rattle.dw_base.specs.Paths.{PathMap, mapped_path}
-use Rattle.dw_base.specs.TextChanges.{TableChanges}
-use Rattle.dw_base.specs.WrittenLines.{Change, all_changes, behind_lengths, bytes_at, cells_part, changed, header_length_place, length_bytes, length_size, offset_changes, part, path_changes, paths_of, written_header, written_rest, written_table}
+use Rattle.dw_base.specs.WrittenLines.{Change, all_changes, bytes_at, cells_part, changed, header_length_place, length_size, offset_changes, part, path_changes}
 use Rattle.dw_base.specs.declared.line_tables.TextPlace.{TextPlace}
 use Rattle.dw_base.specs.declared.shared.Order.{Order}
 use Rattle.dw_base.specs.declared.shared.Width.{Width}
@@ -20,8 +17,7 @@ use Rattle.dw_base.proofs.PlainCellLaws.{IsPlain, bytes_of-plain, plain-append, 
 use Rattle.dw_base.proofs.RelocationFieldLaws.{bytes_of-drop, bytes_of-take}
 use Rattle.dw_base.proofs.UnitEditLaws.{length-bytes_of}
 use Rattle.dw_base.proofs.UnitHeaderLaws.{bytes_of-append}
-use Rattle.dw_base.specs.declared.debug_sections.DebugSection.TheVariants.{Str, LineStr}
-use Rattle.dw_meaning.specs.LineCells.{CellChange, all_path_cells, changed_cells, header_cells, inline_cells, offset_cells, path_cells, rest_cells, written_cells, all_written_cells}
+use Rattle.dw_meaning.specs.LineCells.{CellChange, all_path_cells, changed_cells, inline_cells, offset_cells, path_cells, rest_cells}
 
 -- parts one after another
 pub cells-split : (cells : List Cell) (a b c : ℕ) → a ≤ b → b ≤ c → cells_part cells a c ≡ cells_part cells a b ++ cells_part cells b c
@@ -121,15 +117,6 @@ cells-append g m places w (x ∷ xs) ys =
     ap (λ (cs : List CellChange). path_cells g m places w x ++ cs) (cells-append g m places w xs ys)
     ∙ sym (append_assoc (path_cells g m places w x) (all_path_cells g m places w xs) (all_path_cells g m places w ys))
 
--- the new header
-pub header-bytes : (g : LineSource) (m : PathMap) (places : TextPlace → Option ℕ) (t : LineTable) → bytes_of g.cells ≡ g.bytes
-    → bytes_of (header_cells g m places t) ≡ written_header g m places t
-unfolding header_cells written_header
-header-bytes g m places t own =
-    changed-bytes g.cells (behind_lengths t.start t.width t.version) t.program (all_path_cells g m places t.width (paths_of t))
-    (all_changes g m places t.width (paths_of t)) (paths-bytes g m places t.width (paths_of t) own)
-    ∙ ap (λ (bs : List ℕ). changed bs (behind_lengths t.start t.width t.version) t.program (all_changes g m places t.width (paths_of t))) own
-
 -- a number in front of cells
 number-bytes : (order : Order) (size : ℕ) (cells : List Cell) (bytes : List ℕ) → bytes_of cells ≡ bytes
     → bytes_of (plain_cells (number_bytes order size (length cells)) ++ cells) ≡ number_bytes order size (length bytes) ++ bytes
@@ -159,20 +146,6 @@ rest-bytes g t header bytes own is =
     joined-bytes : (p q r : List Cell) (a b c : List ℕ) → bytes_of p ≡ a → bytes_of q ≡ b → bytes_of r ≡ c → bytes_of (p ++ q ++ r) ≡ a ++ b ++ c
     joined-bytes p q r a b c e f k =
         bytes_of-append (p ++ q) r ∙ ap (λ (x : List ℕ). x ++ bytes_of r) (bytes_of-append p q) ∙ rw (e, f, k) refl
-
--- the new table
-pub written-bytes : (g : LineSource) (m : PathMap) (places : TextPlace → Option ℕ) (t : LineTable) → bytes_of g.cells ≡ g.bytes
-    → bytes_of (written_cells g m places t) ≡ written_table g m places t
-unfolding written_cells written_table
-written-bytes g m places t own =
-    let rest : bytes_of (rest_cells g t (header_cells g m places t)) ≡ written_rest g m places t =
-    rest-bytes g t (header_cells g m places t) (written_header g m places t) own (header-bytes g m places t own) in
-    bytes_of-append (plain_cells (length_bytes g.order t.width (length (rest_cells g t (header_cells g m places t))))) (rest_cells g t (header_cells g m places t))
-    ∙ ap (λ (x : List ℕ). x ++ bytes_of (rest_cells g t (header_cells g m places t)))
-    (bytes_of-plain (length_bytes g.order t.width (length (rest_cells g t (header_cells g m places t)))))
-    ∙ ap (λ (n : ℕ). length_bytes g.order t.width n ++ bytes_of (rest_cells g t (header_cells g m places t)))
-    (sym (length-bytes_of (rest_cells g t (header_cells g m places t))))
-    ∙ ap (λ (x : List ℕ). length_bytes g.order t.width (length x) ++ x) rest
 
 -- where no relocation begins in the section
 part-is : (cells : List Cell) (from end : ℕ) → IsPlain cells → IsPlain (cells_part cells from end)
@@ -207,18 +180,6 @@ path-is g m places width x plain = by_section (x.section == g.number)
     by_section true = (plain_cells-plain (mapped_path m (bytes_of (cells_at g.cells x.at x.len))), tt)
     by_section false = offset-is g width x.field (places x) plain
 
-paths-are : (g : LineSource) (m : PathMap) (places : TextPlace → Option ℕ) (width : Width) (xs : List TextPlace) → IsPlain g.cells
-    → EachPlain (all_path_cells g m places width xs)
-paths-are g m places width [] plain = tt
-paths-are g m places width (x ∷ xs) plain =
-    plains-append (path_cells g m places width x) (all_path_cells g m places width xs) (path-is g m places width x plain) (paths-are g m places width xs plain)
-
-header-is : (g : LineSource) (m : PathMap) (places : TextPlace → Option ℕ) (t : LineTable) → IsPlain g.cells → IsPlain (header_cells g m places t)
-unfolding header_cells
-header-is g m places t plain =
-    changed-is g.cells (behind_lengths t.start t.width t.version) t.program (all_path_cells g m places t.width (paths_of t)) plain
-    (paths-are g m places t.width (paths_of t) plain)
-
 pub rest-is : (g : LineSource) (t : LineTable) (header : List Cell) → IsPlain g.cells → IsPlain header → IsPlain (rest_cells g t header)
 rest-is g t header plain h =
     plain-append
@@ -230,30 +191,3 @@ rest-is g t header plain h =
     (plain-append (plain_cells (number_bytes g.order (width_size t.width) (length header))) header
     (plain_cells-plain (number_bytes g.order (width_size t.width) (length header))) h))
     (part-is g.cells t.program t.end plain)
-
-pub written-is : (g : LineSource) (m : PathMap) (places : TextPlace → Option ℕ) (t : LineTable) → IsPlain g.cells → IsPlain (written_cells g m places t)
-unfolding written_cells
-written-is g m places t plain =
-    plain-append (plain_cells (length_bytes g.order t.width (length (rest_cells g t (header_cells g m places t))))) (rest_cells g t (header_cells g m places t))
-    (plain_cells-plain (length_bytes g.order t.width (length (rest_cells g t (header_cells g m places t)))))
-    (rest-is g t (header_cells g m places t) plain (header-is g m places t plain))
-
--- the new tables, one behind another
-pub all-bytes : (c : TableChanges) (g : LineSource) (rs : List LineReading) → bytes_of g.cells ≡ g.bytes
-    → bytes_of (all_written_cells g c.map (line_place c.map (c.new Str) (c.new LineStr) g) rs) ≡ all_lines (lines_after c.map (c.new Str) (c.new LineStr) g rs)
-all-bytes c g [] own = refl
-all-bytes c g (r ∷ rs) own =
-    bytes_of-append (written_cells g c.map (line_place c.map (c.new Str) (c.new LineStr) g) (table_read g r)) (all_written_cells g c.map (line_place c.map (c.new Str) (c.new LineStr) g) rs)
-    ∙ ap (λ (x : List ℕ). x ++ bytes_of (all_written_cells g c.map (line_place c.map (c.new Str) (c.new LineStr) g) rs))
-    (written-bytes g c.map (line_place c.map (c.new Str) (c.new LineStr) g) (table_read g r) own)
-    ∙ ap (λ (x : List ℕ). written_table g c.map (line_place c.map (c.new Str) (c.new LineStr) g) (table_read g r) ++ x) (all-bytes c g rs own)
-
-pub all-plain : (c : TableChanges) (g : LineSource) (rs : List LineReading) → bytes_of g.cells ≡ g.bytes → IsPlain g.cells
-    → all_written_cells g c.map (line_place c.map (c.new Str) (c.new LineStr) g) rs ≡ plain_cells (all_lines (lines_after c.map (c.new Str) (c.new LineStr) g rs))
-all-plain c g rs own plain = (all-is rs).plain ∙ ap plain_cells (all-bytes c g rs own)
-  where
-    all-is : (xs : List LineReading) → IsPlain (all_written_cells g c.map (line_place c.map (c.new Str) (c.new LineStr) g) xs)
-    all-is [] = plain_cells-plain []
-    all-is (x ∷ xs) =
-        plain-append (written_cells g c.map (line_place c.map (c.new Str) (c.new LineStr) g) (table_read g x)) (all_written_cells g c.map (line_place c.map (c.new Str) (c.new LineStr) g) xs)
-        (written-is g c.map (line_place c.map (c.new Str) (c.new LineStr) g) (table_read g x) plain) (all-is xs)

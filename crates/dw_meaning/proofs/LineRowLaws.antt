@@ -8,14 +8,16 @@ use Rattle.dw_base.specs.LinePrograms.{opcode_at, next_opcode}
 use Rattle.dw_base.specs.LineReadings.{AreTables, LineReading, ReadsTable, TablesTo, table_read}
 use Rattle.dw_base.specs.LineSources.{LineSource}
 use Rattle.dw_base.specs.LineTables.{table_bytes, HasLists, old_lists, new_lists}
-use Rattle.dw_base.specs.LineWriteFails.{changes_path, changes_file, ProgramFails, defined, wide, WriteFails, wide_table, wide_header, wide_offset, program as defines, DefinedStay, CanWrite}
+use Rattle.dw_base.specs.LineWriteFails.{changes_path, changes_file, ProgramFails, defined, DefinedStay}
 use Rattle.dw_base.specs.OldLineLists.{next_dir, next_file}
 use Rattle.dw_base.specs.Paths.{PathMap}
 use Rattle.dw_base.specs.Walks.{Step, goes, ends, Walks, no_step, one_more, ComesTo, Breaks}
 use Rattle.dw_base.specs.WrittenLines.{bytes_at}
+use Rattle.dw_base.specs.TextWriteFails.{CanWriteTexts, TextWriteFails, text_header, text_offset, text_program, text_table, wide_text}
 use Rattle.dw_base.specs.declared.fault.Refusal.{Refusal}
 use Rattle.dw_base.specs.declared.line_tables.FilePlace.{FilePlace}
 use Rattle.dw_base.specs.declared.line_tables.LineHeader.{LineHeader}
+use Rattle.dw_base.specs.declared.line_tables.LineText.{LineText}
 use Rattle.dw_base.specs.declared.line_tables.Opcode.{Opcode}
 use Rattle.dw_base.specs.declared.line_tables.TextPlace.{TextPlace}
 use Rattle.dw_meaning.specs.DataFails.{LinesFail, line_table as line_table_row}
@@ -154,18 +156,18 @@ program-excludes g m t r comes stay (defined files place o walks lt at changes) 
     first-opcode g.number t.header (table_bytes g t.header) m place o files read.files read.are lt at (subst (DefinedStay m (table_bytes g t.header)) read.all stay) changes
 
 -- a table that can be written
-pub write-excludes : (g : LineSource) (m : PathMap) (places : TextPlace → Option ℕ) (start : ℕ) (t : LineReading) (r : Refusal) → ReadsTable g start t
-    → CanWrite g m places (table_read g t) → WriteFails g m places (table_read g t) r → ⊥
-write-excludes g m places start t r reads can (wide_table far) =
+pub write-excludes : (g : LineSource) (m : PathMap) (places : LineText → Option ℕ) (start : ℕ) (t : LineReading) (r : Refusal) → ReadsTable g start t
+    → CanWriteTexts g m places (table_read g t) → TextWriteFails g m places (table_read g t) r → ⊥
+write-excludes g m places start t r reads can (text_table far) =
     let below = can.table in
     omega (arith, below, far)
-write-excludes g m places start t r reads can (wide_header far) =
+write-excludes g m places start t r reads can (text_header far) =
     let below = can.header in
     omega (arith, below, far)
-write-excludes g m places start t r reads can (wide_offset (wide x place here apart is far)) =
+write-excludes g m places start t r reads can (text_offset (wide_text x place here apart is far)) =
     let below = can.offsets x place here apart is in
     omega (arith, below, far)
-write-excludes g m places start t r reads can (defines h e f) =
+write-excludes g m places start t r reads can (text_program h e f) =
     let begins : t.header.start ≡ start = (header-places g start t.header (header-is g.order g.bytes start t.header reads.header)).0 in
     let same : h ≡ t.header = some-same h t.header (sym e ∙ ap (Rattle.dw_base.specs.LineHeaders.line_header g.order g.bytes) begins ∙ reads.header) in
     program-excludes g m t r reads.program can.defined (subst (λ (x : LineHeader). ProgramFails m g.number x (table_bytes g x) r) same f)

@@ -4,17 +4,16 @@ use Rattle.std.specs.Bool.{⊤}
 use Rattle.std.specs.Prelude.{Ok}
 use Rattle.std.proofs.lemmas.Bool.{eq-eqb, ne_eqb}
 use Rattle.std.proofs.lemmas.List.{append-nil}
-use Rattle.dw_base.specs.Cells.{Cell, bytes_of, cells_at, plain_cells}
+use Rattle.dw_base.specs.Cells.{Cell, cells_at, plain_cells}
 use Rattle.dw_base.specs.Forms.{width_size}
 use Rattle.dw_base.specs.LineEntries.{columns, entries_at, entry_at, with_column, list_end, place_behind}
-use Rattle.dw_base.specs.LineReadings.{AreTables, LineReading, ReadsTable, TablesTo, table_read}
+use Rattle.dw_base.specs.LineReadings.{LineReading}
 use Rattle.dw_base.specs.LineSources.{LineSource}
 use Rattle.dw_base.specs.LineTables.{HasLists, new_lists, old_lists, table_bytes, texts_of}
 use Rattle.dw_base.specs.LineTexts.{text_of}
-use Rattle.dw_base.specs.Numbers.{number_bytes}
 use Rattle.dw_base.specs.Paths.{PathMap}
 use Rattle.dw_base.specs.Texts.{text_in}
-use Rattle.dw_base.specs.WrittenLines.{behind_lengths, cells_part, header_length_place, length_bytes, length_size, paths_of}
+use Rattle.dw_base.specs.WrittenLines.{cells_part}
 use Rattle.dw_base.specs.declared.line_numbers.TheConstants.{DW_LNCT_path}
 use Rattle.dw_base.specs.declared.line_tables.Column.{Column}
 use Rattle.dw_base.specs.declared.line_tables.Entry.{Entry}
@@ -25,22 +24,19 @@ use Rattle.dw_base.specs.declared.shared.Order.{Order}
 use Rattle.dw_base.specs.declared.shared.Width.{Width}
 use Rattle.dw_base.specs.declared.values.Spec.{Spec}
 use Rattle.dw_base.proofs.RelocationFieldLaws.{length-cells_at}
-use Rattle.dw_base.proofs.UnitEditLaws.{length-bytes_of}
 use Rattle.dw_base.specs.declared.texts.TextSection.{TextSection}
 use Rattle.dw_base.specs.declared.texts.TextSection.TheVariants.{InStr, InLineStr}
-use Rattle.dw_meaning.specs.LineCells.{CellChange, all_path_cells, all_written_cells, changed_cells, header_cells, inline_cells, offset_cells, path_cells, rest_cells, written_cells}
-use Rattle.dw_meaning.specs.LineStretches.{PlacedStretch, Stretch, all_path_stretches, inline_stretch, kept_stretch, line_stretches, offset_stretch, offset_stretches, other_stretch, path_stretches, stretch_after, stretch_size, stretches_after, stretches_between, stretches_end, table_stretches}
+use Rattle.dw_meaning.specs.LineCells.{CellChange, changed_cells, inline_cells, offset_cells, path_cells}
+use Rattle.dw_meaning.specs.LineStretches.{PlacedStretch, Stretch, all_path_stretches, inline_stretch, kept_stretch, offset_stretch, offset_stretches, other_stretch, path_stretches, stretch_after, stretch_size, stretches_after, stretches_between, stretches_end}
 use Rattle.dw_meaning.proofs.ClearLaws.{Clear, ColumnsClear, EntriesClear, ListClear, clear-part, clear_from}
-use Rattle.dw_meaning.proofs.LineClearLaws.{EachClear, TableClear, dirs-behind, header-lists, inline-unnamed, old-behind}
+use Rattle.dw_meaning.proofs.LineClearLaws.{TableClear, dirs-behind, inline-unnamed, old-behind}
 use Rattle.dw_meaning.proofs.LineColumnLaws.{ColumnIs, column-is, inline_is, offset_is, texts_in, value_is}
 use Rattle.dw_meaning.proofs.LineEntryLaws.{AreColumns, column-step, columns-keep, entry-same, first-taken, takes, takes-path, text_with}
-use Rattle.dw_meaning.proofs.LineHeaderLaws.{header-is, length-place}
 use Rattle.dw_meaning.proofs.LineListLaws.{entry-is, format-place, list-is}
 use Rattle.dw_meaning.proofs.LineMoveLaws.{column-place, none-place, some-place}
 use Rattle.dw_meaning.proofs.LineOldLaws.{file-place}
 use Rattle.dw_meaning.proofs.LineReadLaws.{inline-inside}
 use Rattle.dw_meaning.proofs.LineSectionLaws.{TablesApart}
-use Rattle.dw_meaning.proofs.LineTableLaws.{header-places}
 use Rattle.dw_meaning.proofs.LineWalkLaws.{NewFiles, OldDirs, OldFiles, dirs-of, files-of}
 
 -- a stretch in whose place others come has no relocation
@@ -121,13 +117,6 @@ same-path g m places w x = by_section (x.section == g.number)
         (if b then inline_stretch m g.cells x ∷ [] else offset_stretches w x.field (places x))
     by_section true = (record { at = refl; old = refl; new = refl }, tt)
     by_section false = by_place (places x)
-
-same-paths : (g : LineSource) (m : PathMap) (places : TextPlace → Option ℕ) (w : Width) (xs : List TextPlace)
-    → SameStretches g.order g.cells (all_path_cells g m places w xs) (all_path_stretches g m places w xs)
-same-paths g m places w [] = tt
-same-paths g m places w (x ∷ xs) =
-    same-both g.order g.cells (path_cells g m places w x) (all_path_cells g m places w xs) (path_stretches g m places w x) (all_path_stretches g m places w xs)
-    (same-path g m places w x) (same-paths g m places w xs)
 
 pub between-cells : (order : Order) (cells : List Cell) (end p : ℕ) (cs : List CellChange) (ss : List PlacedStretch) → SameStretches order cells cs ss → Placed cells end p ss
     → end ≤ length cells → stretches_after order cells p (stretches_between p end ss) ≡ changed_cells cells p end cs
@@ -363,14 +352,6 @@ texts-apart g r rs h = record { other = by_section }
     by_section InStr = ne_eqb g.str.number g.number (λ e. h.0 (sym e))
     by_section InLineStr = ne_eqb g.line_str.number g.number (λ e. h.1 (sym e))
 
--- the paths of a table stand in their order behind its lengths, and those of the table have no relocations
-pub table-placed : (g : LineSource) (m : PathMap) (places : TextPlace → Option ℕ) (p : ℕ) (r : LineReading) → TextsApart g → TableClear g r → ReadsTable g p r
-    → Placed g.cells r.header.program (behind_lengths r.header.start r.header.width r.header.version) (all_path_stretches g m places r.header.width (paths_of (table_read g r)))
-table-placed g m places p r apart clear reads =
-    placed-before g.cells r.header.program r.header.lists (behind_lengths r.header.start r.header.width r.header.version)
-    (all_path_stretches g m places r.header.width (paths_of (table_read g r))) (header-lists g p r reads)
-    (lists-placed g m places r r.dirs r.files r.behind refl apart clear reads.lists reads.before)
-
 -- a length, what stands before the length of a header, that length, the header, and the rest
 pub whole-stretched : (g : LineSource) (start n hl w program end : ℕ) (length_is number_is : List ℕ) (header : List Stretch) (cells : List Cell) → start + n ≤ hl → program ≤ end
     → Clear g.cells start (start + n) → Clear g.cells hl (hl + w) → StretchesAre g.cells (hl + w) header → stretches_end (hl + w) header ≡ program
@@ -401,63 +382,3 @@ whole-stretched g start n hl w program end length_is number_is header cells le l
           ∙ ap (λ (l : List Cell). cells_part g.cells (start + n) hl ++ l) (sym (append_assoc (plain_cells number_is) cells (cells_part g.cells program end)))
           ∙ sym (append_assoc (cells_part g.cells (start + n) hl) (plain_cells number_is ++ cells) (cells_part g.cells program end)));
     }
-
--- the stretches of a table are its cells
-pub table-are : (g : LineSource) (m : PathMap) (places : TextPlace → Option ℕ) (p : ℕ) (r : LineReading) → bytes_of g.cells ≡ g.bytes → TextsApart g → TableClear g r → ReadsTable g p r
-    → StretchedTo g.order g.cells r.header.start r.header.end (table_stretches g m places (table_read g r)) (written_cells g m places (table_read g r))
-unfolding table_stretches written_cells header_cells
-table-are g m places p r own apart clear reads =
-    let x = header-is g.order g.bytes p r.header reads.header in
-    let places_ = header-places g p r.header x in
-    let program = places_.1.program in
-    let first = places_.1.first in
-    let at = length-place r.header.version (r.header.start + length_size r.header.width) in
-    let lists = header-lists g p r reads in
-    let xw = x.within in
-    let xe = x.end_is in
-    let size : length g.bytes ≡ length g.cells = sym (ap length own) ∙ length-bytes_of g.cells in
-    let placed = table-placed g m places p r apart clear reads in
-    whole-stretched g r.header.start (length_size r.header.width) (header_length_place r.header.start r.header.width r.header.version) (width_size r.header.width) r.header.program r.header.end
-    (length_bytes g.order r.header.width (length (rest_cells g (table_read g r) (header_cells g m places (table_read g r)))))
-    (number_bytes g.order (width_size r.header.width) (length (header_cells g m places (table_read g r))))
-    (stretches_between (behind_lengths r.header.start r.header.width r.header.version) r.header.program (all_path_stretches g m places r.header.width (paths_of (table_read g r))))
-    (changed_cells g.cells (behind_lengths r.header.start r.header.width r.header.version) r.header.program (all_path_cells g m places r.header.width (paths_of (table_read g r))))
-    (omega (arith, at)) program
-    (clear-part g.cells r.header.start r.header.lists r.header.start (r.header.start + length_size r.header.width) clear.front (omega arith) (omega (arith, at, lists)))
-    (clear-part g.cells r.header.start r.header.lists (header_length_place r.header.start r.header.width r.header.version)
-    (header_length_place r.header.start r.header.width r.header.version + width_size r.header.width) clear.front (omega (arith, at)) lists)
-    (between-are g.cells r.header.program (behind_lengths r.header.start r.header.width r.header.version) (all_path_stretches g m places r.header.width (paths_of (table_read g r))) placed)
-    (between-end g.cells r.header.program (behind_lengths r.header.start r.header.width r.header.version) (all_path_stretches g m places r.header.width (paths_of (table_read g r))) placed)
-    (between-cells g.order g.cells r.header.program (behind_lengths r.header.start r.header.width r.header.version) (all_path_cells g m places r.header.width (paths_of (table_read g r)))
-    (all_path_stretches g m places r.header.width (paths_of (table_read g r))) (same-paths g m places r.header.width (paths_of (table_read g r))) placed (omega (arith, program, xw, xe, size)))
-
--- and those of tables one behind another
-pub tables-are : (g : LineSource) (m : PathMap) (places : TextPlace → Option ℕ) (p e : ℕ) (rs : List LineReading) → bytes_of g.cells ≡ g.bytes → TablesApart g rs → EachClear g rs
-    → TablesTo g p rs e → StretchedTo g.order g.cells p e (line_stretches g m places rs) (all_written_cells g m places rs)
-tables-are g m places p e [] own apart clear tables = record { are = tt; ends = tables; cells = refl }
-tables-are g m places p e (r ∷ rs) own apart clear tables =
-    let begin : r.header.start ≡ p = (header-places g p r.header (header-is g.order g.bytes p r.header tables.0.header)).0 in
-    let one : StretchedTo g.order g.cells p r.header.end (table_stretches g m places (table_read g r)) (written_cells g m places (table_read g r)) =
-    subst (λ (i : ℕ). StretchedTo g.order g.cells i r.header.end (table_stretches g m places (table_read g r)) (written_cells g m places (table_read g r))) begin
-    (table-are g m places p r own (texts-apart g r rs apart) clear.0 tables.0) in
-    let rest = tables-are g m places r.header.end e rs own (behind-apart rs) clear.1 tables.1 in
-    record {
-      are = are-append g.cells p (table_stretches g m places (table_read g r)) (line_stretches g m places rs) one.are
-          (subst (λ (i : ℕ). StretchesAre g.cells i (line_stretches g m places rs)) (sym one.ends) rest.are);
-      ends = end-append p (table_stretches g m places (table_read g r)) (line_stretches g m places rs) ∙ ap (λ (i : ℕ). stretches_end i (line_stretches g m places rs)) one.ends ∙ rest.ends;
-      cells = after-append g.order g.cells p (table_stretches g m places (table_read g r)) (line_stretches g m places rs)
-          ∙ ap (λ (l : List Cell). l ++ stretches_after g.order g.cells (stretches_end p (table_stretches g m places (table_read g r))) (line_stretches g m places rs)) one.cells
-          ∙ ap (λ (i : ℕ). written_cells g m places (table_read g r) ++ stretches_after g.order g.cells i (line_stretches g m places rs)) one.ends
-          ∙ ap (λ (l : List Cell). written_cells g m places (table_read g r) ++ l) rest.cells;
-    }
-  where
-    behind-apart : (xs : List LineReading) → TablesApart g xs
-    behind-apart [] = tt
-    behind-apart (x ∷ xs) = apart
-
--- the whole section
-pub section-are : (g : LineSource) (m : PathMap) (places : TextPlace → Option ℕ) (rs : List LineReading) → bytes_of g.cells ≡ g.bytes → TablesApart g rs → EachClear g rs → AreTables g rs
-    → StretchedTo g.order g.cells 0 (length g.cells) (line_stretches g m places rs) (all_written_cells g m places rs)
-section-are g m places rs own apart clear tables =
-    subst (λ (e : ℕ). StretchedTo g.order g.cells 0 e (line_stretches g m places rs) (all_written_cells g m places rs)) (sym (ap length own) ∙ length-bytes_of g.cells)
-    (tables-are g m places 0 (length g.bytes) rs own apart clear tables)

@@ -3,13 +3,12 @@
 use Rattle.std.specs.Prelude.{ℕ, ◌+◌, ◌==◌, if◌then◌else◌, List, [], ◌∷◌, ◌++◌, length, Option, Some, None}
 use Rattle.dw_base.specs.Cells.{Cell, bytes_of, cells_at, plain_cells}
 use Rattle.dw_base.specs.Forms.{width_size}
-use Rattle.dw_base.specs.LineReadings.{LineReading, table_read}
 use Rattle.dw_base.specs.LineSources.{LineSource}
 use Rattle.dw_base.specs.LineTables.{LineTable}
 use Rattle.dw_base.specs.Numbers.{number_bytes}
 use Rattle.dw_base.specs.Paths.{PathMap, mapped_path}
 use Rattle.dw_base.specs.NewOffsets.{with_offset}
-use Rattle.dw_base.specs.WrittenLines.{behind_lengths, cells_part, header_length_place, length_bytes, length_size, paths_of}
+use Rattle.dw_base.specs.WrittenLines.{cells_part, header_length_place, length_size}
 use Rattle.dw_base.specs.declared.line_tables.TextPlace.{TextPlace}
 use Rattle.dw_base.specs.declared.shared.Order.{Order}
 use Rattle.dw_base.specs.declared.shared.Width.{Width}
@@ -53,23 +52,8 @@ abbrev pub all_path_cells : LineSource → PathMap → (TextPlace → Option ℕ
 all_path_cells g m places width [] = []
 all_path_cells g m places width (x ∷ xs) = path_cells g m places width x ++ all_path_cells g m places width xs
 
--- the new header from behind its length up to the program
-unfoldable pub header_cells : LineSource → PathMap → (TextPlace → Option ℕ) → LineTable → List Cell
-header_cells g m places t =
-    changed_cells g.cells (behind_lengths t.start t.width t.version) t.program (all_path_cells g m places t.width (paths_of t))
-
 -- what stands in the new table behind its length, of a new header
 abbrev pub rest_cells : LineSource → LineTable → List Cell → List Cell
 rest_cells g t header =
     cells_part g.cells (t.start + length_size t.width) (header_length_place t.start t.width t.version)
     ++ (plain_cells (number_bytes g.order (width_size t.width) (length header)) ++ header) ++ cells_part g.cells t.program t.end
-
--- the new table
-unfoldable pub written_cells : LineSource → PathMap → (TextPlace → Option ℕ) → LineTable → List Cell
-written_cells g m places t =
-    plain_cells (length_bytes g.order t.width (length (rest_cells g t (header_cells g m places t)))) ++ rest_cells g t (header_cells g m places t)
-
--- the new tables, one behind another
-abbrev pub all_written_cells : LineSource → PathMap → (TextPlace → Option ℕ) → List LineReading → List Cell
-all_written_cells g m places [] = []
-all_written_cells g m places (r ∷ rs) = written_cells g m places (table_read g r) ++ all_written_cells g m places rs

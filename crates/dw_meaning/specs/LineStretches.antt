@@ -1,20 +1,15 @@
 -- The line table that an edit makes of one, stretch by stretch (DWARF 5, 6.2.4; gABI ch. 4 "Relocation"): cells that stay as they are, cells in
 -- whose place others without relocations come, and fields that get another offset. So it is said where each byte of the old table comes to stand,
 -- and which of its fields say other offsets.
-use Rattle.std.specs.Prelude.{ℕ, ◌+◌, ◌-◌, ◌==◌, if◌then◌else◌, List, [], ◌∷◌, ◌++◌, length, Option, Some, None}
+use Rattle.std.specs.Prelude.{ℕ, ◌+◌, ◌-◌, ◌==◌, if◌then◌else◌, List, [], ◌∷◌, ◌++◌, Option, Some, None}
 use Rattle.dw_base.specs.Cells.{Cell, bytes_of, cells_at, plain_cells}
 use Rattle.dw_base.specs.Forms.{width_size}
-use Rattle.dw_base.specs.LineReadings.{LineReading, table_read}
 use Rattle.dw_base.specs.LineSources.{LineSource}
-use Rattle.dw_base.specs.LineTables.{LineTable}
 use Rattle.dw_base.specs.NewOffsets.{with_offset}
-use Rattle.dw_base.specs.Numbers.{number_bytes}
 use Rattle.dw_base.specs.Paths.{PathMap, mapped_path}
-use Rattle.dw_base.specs.WrittenLines.{behind_lengths, header_length_place, length_bytes, length_size, paths_of}
 use Rattle.dw_base.specs.declared.line_tables.TextPlace.{TextPlace}
 use Rattle.dw_base.specs.declared.shared.Order.{Order}
 use Rattle.dw_base.specs.declared.shared.Width.{Width}
-use Rattle.dw_meaning.specs.LineCells.{header_cells, rest_cells}
 
 -- so many cells stay; go, and these bytes come; or are a field that gets an offset
 pub data Stretch : Type 0 where
@@ -72,21 +67,3 @@ path_stretches g m places width x =
 abbrev pub all_path_stretches : LineSource → PathMap → (TextPlace → Option ℕ) → Width → List TextPlace → List PlacedStretch
 all_path_stretches g m places width [] = []
 all_path_stretches g m places width (x ∷ xs) = path_stretches g m places width x ++ all_path_stretches g m places width xs
-
--- the header from behind its length up to the program
-abbrev pub header_stretches : LineSource → PathMap → (TextPlace → Option ℕ) → LineTable → List Stretch
-header_stretches g m places t =
-    stretches_between (behind_lengths t.start t.width t.version) t.program (all_path_stretches g m places t.width (paths_of t))
-
--- the table: its length, what stands in front of the length of the header, that length, the header, and the program
-unfoldable pub table_stretches : LineSource → PathMap → (TextPlace → Option ℕ) → LineTable → List Stretch
-table_stretches g m places t =
-    other_stretch (length_size t.width) (length_bytes g.order t.width (length (rest_cells g t (header_cells g m places t))))
-    ∷ kept_stretch (header_length_place t.start t.width t.version - (t.start + length_size t.width))
-    ∷ other_stretch (width_size t.width) (number_bytes g.order (width_size t.width) (length (header_cells g m places t)))
-    ∷ (header_stretches g m places t ++ kept_stretch (t.end - t.program) ∷ [])
-
--- the tables, one behind another
-abbrev pub line_stretches : LineSource → PathMap → (TextPlace → Option ℕ) → List LineReading → List Stretch
-line_stretches g m places [] = []
-line_stretches g m places (r ∷ rs) = table_stretches g m places (table_read g r) ++ line_stretches g m places rs

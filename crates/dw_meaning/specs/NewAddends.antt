@@ -22,7 +22,6 @@ use Rattle.dw_base.specs.StringTables.{new_place}
 use Rattle.dw_base.specs.TextChanges.{TableChanges, change_of, mention_at}
 use Rattle.dw_base.specs.TextLineChanges.{on_paths, text_place}
 use Rattle.dw_base.specs.UnitStates.{UnitState}
-use Rattle.dw_base.specs.WrittenLines.{paths_of}
 use Rattle.dw_base.specs.declared.debug_sections.DebugSection.TheVariants.{Str, LineStr, StrOffsets, Line, Names}
 use Rattle.dw_base.specs.declared.fault.Kind.TheVariants.{TooWide}
 use Rattle.dw_base.specs.declared.fault.Refusal.{Refusal}
@@ -67,22 +66,13 @@ MakesNew (Some n) p = Makes (first_relocation p) (length p) n
 abbrev pub MakesRole : Role → TableChanges → Around → List Cell → Type 0
 MakesRole r changes around p = MakesNew (new_offset r changes around p) p
 
--- the same of the paths of a line table that offsets name
+-- the same of a text of a line table that an offset names
 abbrev pub MakesPath : LineSource → Width → TextPlace → Option ℕ → Bool → Type 0
 MakesPath g width x None own = ⊤
 MakesPath g width x (Some n) true = ⊤
 MakesPath g width x (Some n) false = Makes (relocation_at g.cells x.field) (width_size width) n
 
-abbrev pub EachPathMakes : LineSource → (TextPlace → Option ℕ) → Width → List TextPlace → Type 0
-EachPathMakes g places width [] = ⊤
-EachPathMakes g places width (x ∷ xs) = MakesPath g width x (places x) (x.section == g.number) × EachPathMakes g places width xs
-
-abbrev pub EachTableMakes : LineSource → (TextPlace → Option ℕ) → List LineReading → Type 0
-EachTableMakes g places [] = ⊤
-EachTableMakes g places (t ∷ ts) =
-    EachPathMakes g places (table_read g t).width (paths_of (table_read g t)) × EachTableMakes g places ts
-
--- the same of all texts of line tables: the new place of a text, as a path or beside one
+-- of all texts of line tables: the new place of a text, as a path or beside one
 abbrev pub place_of : (LineText → Option ℕ) → LineText → Option ℕ
 place_of places x = if x.path then on_paths places x.place else places x
 
@@ -116,16 +106,6 @@ pub record PieceMisses {S : Type 0} (role : Piece S → Role) (changes : TableCh
   pub place : ℕ
   pub put : new_offset (role x) changes around x.cells ≡ Some place
   pub misses : Misses (first_relocation x.cells) (length x.cells) place
-
--- and a path of a line table that does
-pub record PathMisses (g : LineSource) (places : TextPlace → Option ℕ) (t : LineReading) (x : TextPlace) : Type 0 where
-  pub before : List TextPlace
-  pub behind : List TextPlace
-  pub among : paths_of (table_read g t) ≡ before ++ x ∷ behind
-  pub named : (x.section == g.number) ≡ false
-  pub place : ℕ
-  pub put : places x ≡ Some place
-  pub misses : Misses (relocation_at g.cells x.field) (width_size (table_read g t).width) place
 
 -- a text of a line table whose offset the addend doesn't make
 pub record TextMisses (g : LineSource) (places : LineText → Option ℕ) (t : LineReading) (x : LineText) : Type 0 where
