@@ -21,3 +21,4 @@ pub mod PairIdLaws
 pub mod PairMeaningLaws
 pub mod PairReadLaws
 pub mod WorkedSplits
+pub mod WorkedRanges
