@@ -22,3 +22,4 @@ pub mod ShapeLaws
 pub mod SourceLaws
 pub mod SplitRowLaws
 pub mod StayingIdLaws
+pub mod WorkedSources
