@@ -1,11 +1,9 @@
-//! What fields of a view read as: those of values, and the offsets that they say.
+//! What fields of a view read as: those of values, and whether they are there.
 //!
 //! Read first: `specs/ShownUnits.antt`.
 
 ghost use Rattle.std.specs.Prelude.{◌≡◌, ◌+◌, ◌<◌, length, nat_le, true};
-ghost use Rattle.dw_base.specs.Cells.{offset_into};
 ghost use Rattle.dw_base.specs.FileViews.{address_at, field_at};
-ghost use Rattle.dw_base.specs.ViewData.{located};
 ghost use Rattle.dbg_show.specs.ShownUnits.{address_field, has_field, is_leb_form, number_field};
 ghost use Rattle.dbg_show.specs.UnitReads.{BytesFit};
 
@@ -13,15 +11,8 @@ use dw_base::dwarf_numbers::{
     DW_FORM_addrx, DW_FORM_loclistx, DW_FORM_ref_udata, DW_FORM_rnglistx, DW_FORM_strx,
     DW_FORM_udata,
 };
-use dw_base::{DebugSection, Field, Value};
+use dw_base::{Field, Value};
 use dw_view::View;
-
-/// The offset that a field says into the section of a name.
-pub(crate) fn offset_into(view: &View, name: DebugSection, field: Field) -> u64
-    ensures offset { result ≡ offset_into (located view.now name) field }
-{
-    view.located(name).offset(field)
-}
 
 /// So many bytes at a place are there.
 #[tactic(auto, using(crate::proofs::FieldPlaceLaws::room_laws))]

@@ -8,7 +8,7 @@ ghost use Rattle.dw_base.specs.Values.{value_at};
 ghost use Rattle.dbg_show.specs.ShownUnits.{base_number, entry_base, first_base, is_base_class, says_base, unit_bytes, unit_entries, values_base};
 ghost use Rattle.dbg_show.specs.UnitReads.{BytesFit, CanRead};
 
-use crate::fields::{number_field, offset_into};
+use crate::fields::number_field;
 use dw_abbrev::AbbrevTable;
 use dw_base::dwarf_numbers::DW_AT_str_offsets_base;
 use dw_base::{
@@ -64,7 +64,7 @@ fn base_number(view: &View, unit: &UnitHeader, bytes: &[u8], form: u64, value: &
         return value.number;
     }
     let field = number_field(view, unit.section, bytes, form, value);
-    offset_into(view, DebugSection::StrOffsets, field)
+    view.located(DebugSection::StrOffsets).offset(field)
 }
 
 /// The base of texts by index that values say from a place on.

@@ -18,7 +18,7 @@ ghost use Rattle.dbg_show.specs.ArenaTexts.{HasArena, IsNumbered, node_entry};
 ghost use Rattle.dw_entries.specs.ViewUnits.{IsUnitSection, unit_section_at};
 ghost use Rattle.dw_find.specs.LineStarts.{Rises};
 
-use crate::fields::{address_field, number_field, offset_into};
+use crate::fields::{address_field, number_field};
 use crate::listed_unit::ListedUnit;
 use crate::printing::write_full;
 use crate::show_err::ShowErr;
@@ -256,7 +256,7 @@ fn value_offset(unit: &ShownUnit, name: DebugSection, form: u64, value: &Value) 
 {
     let field = value_field(unit, form, value);
     let source = unit.source;
-    offset_into(source.view, name, field)
+    source.view.located(name).offset(field)
 }
 
 /// Appends the text at a place of a table of texts.

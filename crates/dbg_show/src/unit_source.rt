@@ -20,7 +20,7 @@ ghost use Rattle.dw_base.specs.LineMeanings.{item_at};
 ghost use Rattle.dw_base.specs.StringOffsets.{slot_place};
 
 use crate::entry_index::{EntryIndex, table_at};
-use crate::fields::{has_room, offset_into};
+use crate::fields::has_room;
 use crate::listed_unit::ListedUnit;
 use crate::macro_source::unit_number;
 use dw_abbrev::AbbrevTable;
@@ -289,6 +289,6 @@ fn slot_text<'v>(view: &'v View, place: u64, size: u8) -> &'v [u8]
     text_of(
         view,
         DebugSection::Str,
-        offset_into(view, DebugSection::Str, field),
+        view.located(DebugSection::Str).offset(field),
     )
 }

@@ -1,12 +1,10 @@
 //! The texts that a line table mentions (DWARF 5, 6.2.4 and 7.26).
 
 ghost use Rattle.std.specs.Prelude.{◌≡◌, ◌+◌, ◌≤◌, ◌<◌, ◌^◌, length, IfSome, IfOk, IfErr};
-ghost use Rattle.dw_base.specs.Cells.{offset_into};
 ghost use Rattle.dw_base.specs.FileViews.{section_bytes};
 ghost use Rattle.dw_base.specs.ViewData.{located};
 ghost use Rattle.dw_lines.specs.ViewSources.{view_source};
 ghost use Rattle.dw_base.specs.LineTexts.{file_numbers, inline_text, named_text, skip_lebs, text_by, text_if};
-ghost use Rattle.dw_base.specs.declared.view_fields.Field.TheVariants.{Into};
 
 use dw_base::{DebugSection, Field, Kind, Refusal, TextPlace, uleb_at};
 use dw_strings::text_at;
@@ -92,14 +90,6 @@ fn text_if(
     }
 }
 
-/// An offset into the section of a number as one into a section of texts; in another section it is that one's length, at
-/// which no text begins.
-fn offset_into(view: &View, texts: DebugSection, section: u32, offset: u64) -> u64
-    ensures offset { result ≡ offset_into (located view.now texts) (Into section offset) }
-{
-    view.located(texts).offset(Field::Into { section, offset })
-}
-
 /// The text that a field at a place of a section names in a section of texts. Refused at the field: as `Relocation` exactly
 /// where it is a symbol that has no place, as `StringOffset` exactly where no text that ends begins there.
 fn text_by(
@@ -113,11 +103,8 @@ fn text_by(
 {
     match field {
         Field::Num(offset) => text_if(view, texts, section, place, offset),
-        Field::Into {
-            section: target,
-            offset,
-        } => {
-            let at = offset_into(view, texts, target, offset);
+        Field::Into { .. } => {
+            let at = view.located(texts).offset(field);
             text_if(view, texts, section, place, at)
         }
         Field::Sym { .. } => Err(Refusal::at(Kind::Relocation, section, place)),

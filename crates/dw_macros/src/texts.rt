@@ -97,13 +97,6 @@ pub(crate) fn names_text(
     Ok(is_text(view, texts, read))
 }
 
-/// The offset that a field holds into a section; one into another section is the section's length.
-fn offset_into(view: &View, kind: DebugSection, field: Field) -> u64
-    ensures offset { result ≡ offset_into (located view.now kind) field }
-{
-    view.located(kind).offset(field)
-}
-
 /// The offset at a place of a section, into a section of the view.
 #[tactic(auto, using(crate::proofs::TextLaws::named_laws))]
 pub(crate) fn offset_at(
@@ -120,5 +113,5 @@ pub(crate) fn offset_at(
     ensures refused { IfErr result (FieldRefuses view.now section width field) }
 {
     let read = macro_field(view, section, width, field)?;
-    Ok(offset_into(view, kind, read))
+    Ok(view.located(kind).offset(read))
 }

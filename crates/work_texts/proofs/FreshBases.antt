@@ -1,9 +1,9 @@
 -- Behind any pairs of a map there is a further base: one that differs from the base of the n-th pair in a byte of its own.
-use Rattle.std.proofs.Common.{◌≡◌, ℕ, suc, ◌+◌, ◌<◌, ◌≤◌, Bool, true, false, ◌==◌, ◌||◌, if◌then◌else◌, List, [], ◌∷◌, ◌++◌, length, get_or, refl, sym, ap, ◌∙◌, append_assoc, arith}
-use Rattle.std.specs.Prelude.{codes, IsTrue}
+use Rattle.std.proofs.Common.{◌≡◌, ℕ, suc, ◌+◌, ◌≤◌, Bool, true, false, ◌==◌, ◌||◌, if◌then◌else◌, List, [], ◌∷◌, ◌++◌, length, get_or, refl, sym, ap, ◌∙◌, append_assoc, arith}
+use Rattle.std.specs.Prelude.{codes}
 use Rattle.std.proofs.lemmas.Bool.{eqb-true, eqb-false}
 use Rattle.std.proofs.lemmas.List.{length-append}
-use Rattle.dw_base.specs.Paths.{slash, MapPair, has_base, is_prefix, kept_front, without_end_slashes}
+use Rattle.dw_base.specs.Paths.{slash, MapPair, has_base, kept_front, without_end_slashes}
 use Rattle.dw_base.specs.Texts.{has_nul, same_text}
 use Rattle.dw_base.proofs.PathLaws.{is_prefix-from}
 use Rattle.work_texts.proofs.SlashRules.{differ-cases}
