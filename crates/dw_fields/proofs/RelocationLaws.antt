@@ -1,6 +1,6 @@
 -- The relocations of a view, and the sections whose places change.
 use Rattle.std.proofs.Common.{Bool, true, false, ◌≡◌, ℕ, zero, suc, ◌+◌, ◌<◌, ◌≤◌, if◌then◌else◌, List, [], ◌∷◌, length, Option, Some, None, refl, sym, ap, ◌∙◌, arith}
-use Rattle.std.specs.Prelude.{MatchOption, option_map}
+use Rattle.std.specs.Prelude.{MatchOption}
 use Rattle.std.proofs.lemmas.Bool.{eq-eqb, ne_eqb}
 use Rattle.dw_base.specs.Cells.{Relocation as CellRelocation}
 use Rattle.dw_base.specs.DebugSections.{debug_section}
@@ -9,8 +9,7 @@ use Rattle.dw_base.specs.RelocationRows.{lies_in, moving_from, moving_sections}
 use Rattle.dw_base.specs.RelocationSectionFails.{moves}
 use Rattle.dw_base.specs.TextIndexes.{holds_number}
 use Rattle.dw_base.specs.declared.debug_sections.DebugSection.{DebugSection}
-use Rattle.dw_view.specs.Relocations.{HasNoNext, IsNextPlace, relocation_value}
-use Rattle.dw_view.specs.declared.fields.Relocation.{Relocation}
+use Rattle.dw_view.specs.Relocations.{HasNoNext, IsNextPlace, target_in}
 use Rattle.dw_fields.specs.FieldWalks.{HasNone, IsNext, moves_to}
 
 -- the next relocation of a view is that of its cells
@@ -70,13 +69,8 @@ moves-past v i n count le =
 pub ruleset section_rules = (moves-there, moves-past)
 
 -- the symbol of a relocation
-pub target-there : (moving : List ℕ) (cells : Option CellRelocation) (o : Option Relocation) (r : Relocation) (t : Bool) → option_map relocation_value o ≡ cells → o ≡ Some r
-    → t ≡ lies_in moving r.target → t ≡ moves_to moving cells
-target-there moving cells o r t is some t_is =
-    t_is ∙ ap (λ (x : Option Relocation). moves_to moving (option_map relocation_value x)) (sym some) ∙ ap (moves_to moving) is
+pub target-moves : (moving : List ℕ) (o : Option CellRelocation) (t : Bool) → t ≡ lies_in moving (target_in o) → t ≡ moves_to moving o
+target-moves moving None t is = is
+target-moves moving (Some r) t is = is
 
-pub target-none : (moving : List ℕ) (cells : Option CellRelocation) (o : Option Relocation) → option_map relocation_value o ≡ cells → o ≡ None
-    → false ≡ moves_to moving cells
-target-none moving cells o is none = ap (λ (x : Option Relocation). moves_to moving (option_map relocation_value x)) (sym none) ∙ ap (moves_to moving) is
-
-pub ruleset target_rules = (target-there, target-none)
+pub ruleset target_rules = (target-moves)

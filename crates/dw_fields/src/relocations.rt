@@ -49,8 +49,5 @@ pub(crate) fn relocation_moves(view: &View, section: u32, place: u64) -> bool
     requires inside { place < length (section_bytes view.now section) }
     ensures { result ≡ moves_to (moving_sections view.now) (relocation_at (view_cells view.now section) place) }
 {
-    match view.relocation(section, place) {
-        Some(relocation) => lies_in_moving(view, relocation.target),
-        None => false,
-    }
+    lies_in_moving(view, view.target(section, place))
 }

@@ -7,7 +7,8 @@ use Rattle.std.proofs.lemmas.Bool.{eq-eqb, eqb-true, ltb-true, ltb-false}
 use Rattle.dw_base.specs.AbsoluteTypes.{absolute_size, absolute_types, eight_by, size_in}
 use Rattle.dw_base.specs.Cells.{Relocation as CellRelocation, addend_of, field_by, relocated, shown_addend, symbol_field, targeted, wrapped}
 use Rattle.dw_base.specs.Relocs.{reloc_at}
-use Rattle.dw_base.specs.SectionRelocations.{RelocationSource, records_in, relocation_of}
+use Rattle.dw_base.specs.SectionRelocations.{RelocationSource, records_in, relocation_of, target_of}
+use Rattle.dw_base.specs.Symbols.{symbol_at}
 use Rattle.dw_base.specs.declared.relocations.AbsoluteTypes.{AbsoluteTypes}
 use Rattle.dw_base.specs.declared.relocations.Reloc.{Reloc}
 use Rattle.dw_base.specs.declared.view_fields.Field.{Field}
@@ -32,6 +33,19 @@ sizes-none None is = tt
 sizes-none (Some n) is = absurd cc
 
 pub ruleset record_rules = (record-read, record-absent, sizes-none)
+
+-- where its symbol is defined
+pub target-read : (g : RelocationSource) (index : ℕ) (r : Reloc) (t : Option (ℕ × ℕ)) → Some r ≡ reloc_at g.class g.order g.rela g.table index
+    → index < length (records_in g) → t ≡ target_of (symbol_at g.class g.order g.symbols g.extended r.symbol) → t ≡ (relocation_of g (record_of g index)).target
+unfolding relocation_of
+target-read g index r t e lt is =
+    is ∙ ap (λ (x : Reloc). target_of (symbol_at g.class g.order g.symbols g.extended x.symbol)) (sym (record-is g index r (sym e) lt))
+
+pub target-absent : (g : RelocationSource) (index : ℕ) (t : Option (ℕ × ℕ)) → None ≡ reloc_at g.class g.order g.rela g.table index → index < length (records_in g)
+    → t ≡ (relocation_of g (record_of g index)).target
+target-absent g index t e lt = let some = record-there g index (record { offset = 0; symbol = 0; kind = 0; addend = None }) lt in absurd cc
+
+pub ruleset symbol_rules = (target-read, target-absent)
 
 -- a relocation of another type or size gives the symbol
 by-other : (o : Option ℕ) (r : CellRelocation) (n x : ℕ) → o ≢ Some n → relocated o r n x ≡ symbol_field r x

@@ -13,7 +13,7 @@ use Rattle.dw_base.specs.declared.relocations.Reloc.{Reloc}
 use Rattle.dw_base.specs.declared.view_fields.Field.{Field}
 use Rattle.dw_base.proofs.RelocationTieLaws.{get_or-records, record-there}
 use Rattle.dw_view.specs.Places.{BeginBefore, BeginFrom, IsNextAmong, LeftAmong, Lists, NoneFrom, PlacesRise, counts_at, partly_among, place_at, record_of}
-use Rattle.dw_view.specs.Relocations.{IsKept, KeptRelocations, kept_of, partly_kept, relocation_value}
+use Rattle.dw_view.specs.Relocations.{IsKept, KeptRelocations, kept_of, partly_kept, relocation_value, target_in}
 use Rattle.dw_view.specs.declared.fields.Relocation.{Relocation}
 use Rattle.dw_view.specs.declared.places.PlacedRecord.{PlacedRecord}
 use Rattle.dw_view.proofs.PlaceLaws.{place-absent, place-found, record-is}
@@ -127,6 +127,16 @@ pub place-some : (g : RelocationSource) (place index : ℕ) (x : Relocation) →
 place-some g place index x found is = ap Some is ∙ found
 
 pub ruleset place_rules = (place-some)
+
+-- where its symbol is defined
+pub target-some : (g : RelocationSource) (place index : ℕ) (t : Option (ℕ × ℕ)) → Some (relocation_of g (record_of g index)) ≡ relocation_in (relocations_in g) place
+    → t ≡ (relocation_of g (record_of g index)).target → t ≡ target_in (relocation_in (relocations_in g) place)
+target-some g place index t found is = is ∙ ap target_in found
+
+pub target-none : (g : RelocationSource) (place : ℕ) → None ≡ relocation_in (relocations_in g) place → None ≡ target_in (relocation_in (relocations_in g) place)
+target-none g place none = ap target_in none
+
+pub ruleset target_rules = (target-some, target-none)
 
 pub part-none : (g : RelocationSource) (read : Bool) (list : List PlacedRecord) (place n : ℕ) → read ≡ false → None ≡ partly_kept (kept_of g read list) place n
 part-none g read list place n is = ap (λ (t : Bool). if t then partly_among (relocations_in g) place n else None) (sym is)

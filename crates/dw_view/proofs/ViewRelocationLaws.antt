@@ -23,7 +23,7 @@ use Rattle.dw_base.proofs.ViewOffsetLaws.{read-nowhere, read-placed, read-refuse
 use Rattle.dw_view.specs.Kept.{FieldFits}
 use Rattle.dw_view.specs.PairViews.{pair_view}
 use Rattle.dw_view.specs.Places.{IsNextAmong, Lists, NoneFrom, partly_among, place_at}
-use Rattle.dw_view.specs.Relocations.{FileKeeps, HasNoNext, IsNextPlace, Keeps, KeepsAll, KeepsAt, KeptRelocations, NextKept, ViewKeeps, field_kept, partly_kept, relocation_kept, relocation_value}
+use Rattle.dw_view.specs.Relocations.{FileKeeps, HasNoNext, IsNextPlace, Keeps, KeepsAll, KeepsAt, KeptRelocations, NextKept, ViewKeeps, field_kept, partly_kept, relocation_kept, relocation_value, target_in}
 use Rattle.dw_view.specs.declared.fields.Relocation.{Relocation}
 use Rattle.dw_view.specs.declared.places.PlacedRecord.{PlacedRecord}
 use Rattle.dw_view.proofs.PartLaws.{length-pair, pair-relocations, pair-room}
@@ -101,6 +101,13 @@ relocation-some o k place x o_is is = is ∙ ap (λ (y : Option KeptRelocations)
 pub relocation-none : (o : Option KeptRelocations) (place : ℕ) → None ≡ o → None ≡ relocation_kept o place
 relocation-none o place o_is = ap (λ (y : Option KeptRelocations). relocation_kept y place) o_is
 
+pub target-some : (o : Option KeptRelocations) (k : KeptRelocations) (place : ℕ) (t : Option (ℕ × ℕ)) → Some k ≡ o
+    → t ≡ target_in (relocation_in (relocations_in k.source) place) → t ≡ target_in (relocation_kept o place)
+target-some o k place t o_is is = is ∙ ap (λ (y : Option KeptRelocations). target_in (relocation_kept y place)) o_is
+
+pub target-none : (o : Option KeptRelocations) (place : ℕ) → None ≡ o → None ≡ target_in (relocation_kept o place)
+target-none o place o_is = ap (λ (y : Option KeptRelocations). target_in (relocation_kept y place)) o_is
+
 pub next-listed : (o : Option KeptRelocations) (k : KeptRelocations) (from : ℕ) (x : Option ℕ) → Some k ≡ o
     → MatchOption x (NoneFrom k.places from) (IsNextAmong k.places from) → NextKept o from x
 next-listed o k from x o_is next = subst (λ (y : Option KeptRelocations). NextKept y from x) o_is (by_answer x next)
@@ -112,7 +119,7 @@ next-listed o k from x o_is next = subst (λ (y : Option KeptRelocations). NextK
 pub next-without : (o : Option KeptRelocations) (from : ℕ) → None ≡ o → NextKept o from None
 next-without o from o_is = subst (λ (y : Option KeptRelocations). NextKept y from None) o_is refl
 
-pub ruleset by_rules = (field-some, field-none, relocation-some, relocation-none, next-listed, next-without)
+pub ruleset by_rules = (field-some, field-none, relocation-some, relocation-none, target-some, target-none, next-listed, next-without)
 
 -- the relocation at a place
 kept-relocation : (rs : List PlacedRelocation) (read : Bool) (size place : ℕ) (o : Option KeptRelocations) → KeepsAll rs read size o
@@ -132,6 +139,14 @@ place-reads v kept i place x lt inside h is =
     ∙ sym (cell-relocation (view_relocations v i) (section_bytes v i) place inside)
 
 pub ruleset place_rules = (place-reads)
+
+-- and where its symbol is defined
+pub target-reads : (v : View) (kept : List (Option KeptRelocations)) (i place : ℕ) (t : Option (ℕ × ℕ)) → i < length v.sections
+    → place < length (section_bytes v i) → ViewKeeps v kept → t ≡ target_in (relocation_kept (get_or kept i None) place)
+    → t ≡ target_in (relocation_at (view_cells v i) place)
+target-reads v kept i place t lt inside h is = is ∙ ap target_in (place-reads v kept i place (relocation_kept (get_or kept i None) place) lt inside h refl)
+
+pub ruleset target_rules = (target-reads)
 
 pub address-reads : (v : View) (kept : List (Option KeptRelocations)) (i place n number : ℕ) (x : Option Relocation) (f : Field) → i < length v.sections → 0 < n
     → place + n ≤ length (section_bytes v i) → ViewKeeps v kept → number ≡ spelled v.order (section_bytes v i) place n

@@ -78,6 +78,11 @@ abbrev pub relocation_kept : Option KeptRelocations → ℕ → Option CellReloc
 relocation_kept None place = None
 relocation_kept (Some k) place = relocation_in (relocations_in k.source) place
 
+-- where the symbol of a relocation is defined, if there is one
+abbrev pub target_in : Option CellRelocation → Option (ℕ × ℕ)
+target_in None = None
+target_in (Some r) = r.target
+
 -- the first place from another on that is listed
 abbrev pub NextKept : Option KeptRelocations → ℕ → Option ℕ → Type 0
 NextKept None from x = x ≡ None

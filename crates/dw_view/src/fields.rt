@@ -86,6 +86,18 @@ fn target(source: &RelocSource, symbol: u32) -> Option<(u32, u64)>
     ))
 }
 
+/// Where the symbol of the relocation of the record of a number is defined.
+#[tactic(auto, using(crate::proofs::FieldLaws::symbol_rules))]
+pub fn target_by(source: &RelocSource, index: u64) -> Option<(u32, u64)>
+    requires there { index < length (records_in source.now) }
+    ensures { result ≡ (relocation_of source.now (record_of source.now index)).target }
+{
+    match record(source, index) {
+        Some(reloc) => target(source, reloc.symbol),
+        None => None,
+    }
+}
+
 /// Where a symbol is defined: the number of the section, and its value there.
 fn target_of(symbol: Option<Symbol>) -> Option<(u32, u64)>
     ensures target { result ≡ target_of symbol }

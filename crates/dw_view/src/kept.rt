@@ -7,9 +7,9 @@ ghost use Rattle.dw_base.specs.SectionRelocations.{records_in, relocation_in, re
 ghost use Rattle.elf_relocs.specs.FieldOffsets.{field_number};
 ghost use Rattle.dw_view.specs.Moved.{number_put};
 ghost use Rattle.dw_view.specs.Places.{IsNextAmong, LeftAmong, Lists, NoneFrom, PlacesRise, counts_at, record_of};
-ghost use Rattle.dw_view.specs.Relocations.{IsKept, KeptRelocations, NextKept, field_kept, kept_of, partly_kept, relocation_kept, relocation_value};
+ghost use Rattle.dw_view.specs.Relocations.{IsKept, KeptRelocations, NextKept, field_kept, kept_of, partly_kept, relocation_kept, relocation_value, target_in};
 
-use crate::fields::{Relocation, field_by, relocation_of};
+use crate::fields::{Relocation, field_by, relocation_of, target_by};
 use crate::partly::partly_at;
 use crate::places::place_at;
 use crate::search::{PlaceIndex, first_from, index_at};
@@ -101,6 +101,23 @@ fn relocation_found(
 {
     match index_in(source, read, places, place) {
         Some(index) => Some(relocation_of(source, index)),
+        None => None,
+    }
+}
+
+/// Where the symbol of the relocation that begins at a place is defined.
+#[tactic(auto, using(crate::proofs::KeptLaws::target_rules))]
+fn target_found(
+    source: &RelocSource,
+    read: bool,
+    places: &PlaceIndex,
+    place: u64,
+) -> Option<(u32, u64)>
+    requires kept { IsKept (kept_of source.now read places.now) }
+    ensures { result ≡ target_in (relocation_in (relocations_in source.now) place) }
+{
+    match index_in(source, read, places, place) {
+        Some(index) => target_by(source, index),
         None => None,
     }
 }
@@ -229,6 +246,13 @@ impl<'a> Kept<'a> {
         relocation_found(&self.source, self.read, &self.places, place)
     }
 
+    /// Where the symbol of the relocation that begins at a place is defined.
+    pub fn target(&self, place: u64) -> Option<(u32, u64)>
+        ensures { result ≡ target_in (relocation_in (relocations_in self.now.source) place) }
+    {
+        target_found(&self.source, self.read, &self.places, place)
+    }
+
     /// What a field with a number in it reads as.
     pub fn field(&self, section: u32, place: u64, size: u8, number: u64) -> Result<Field, Refusal>
         requires small { place + size < 2 ^ 63 }
@@ -308,6 +332,17 @@ pub fn relocation_in(kept: &[Option<Kept>], section: u32, place: u64) -> Option<
 {
     match entry(kept, section) {
         Some(kept) => kept.relocation(place),
+        None => None,
+    }
+}
+
+/// Where the symbol of the relocation that begins at a place of the section of a number is defined.
+#[tactic(auto, using(crate::proofs::ViewRelocationLaws::by_rules))]
+pub fn target_in(kept: &[Option<Kept>], section: u32, place: u64) -> Option<(u32, u64)>
+    ensures { result ≡ target_in (relocation_kept (get_or kept.now section None) place) }
+{
+    match entry(kept, section) {
+        Some(kept) => kept.target(place),
         None => None,
     }
 }

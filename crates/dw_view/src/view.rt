@@ -17,13 +17,13 @@ ghost use Rattle.dw_base.specs.declared.fault.Refusal.{Refusal};
 ghost use Rattle.dw_view.specs.Kept.{FieldFits, KindsAre, NumbersAre};
 ghost use Rattle.dw_view.specs.PairViews.{pair_view};
 ghost use Rattle.dw_view.specs.Pairs.{IsPaired, PairBlames, PairRefused};
-ghost use Rattle.dw_view.specs.Relocations.{FileKeeps, HasNoNext, IsNextPlace, ViewKeeps, relocation_value};
+ghost use Rattle.dw_view.specs.Relocations.{FileKeeps, HasNoNext, IsNextPlace, ViewKeeps, relocation_value, target_in};
 ghost use Rattle.dw_view.specs.declared.mismatch.PairErr.{PairErr};
 ghost use Rattle.dw_base.specs.ViewData.{located};
 
 use crate::fields::{Relocation, address_by, field_by, is_placed};
 use crate::found::{next_filled, numbers_of};
-use crate::kept::{Kept, field_in, moved_in, next_in, relocation_in};
+use crate::kept::{Kept, field_in, moved_in, next_in, relocation_in, target_in};
 use crate::kinds::kinds_of;
 use crate::mismatch::PairErr;
 use crate::names::{kind_fits, names_apart, names_fit};
@@ -331,6 +331,17 @@ impl<'a> View<'a> {
         ensures { option_map relocation_value result ≡ relocation_at (view_cells self.now section) at }
     {
         relocation_in(&self.kept, section, at)
+    }
+
+    /// Where the symbol of the relocation that begins at a place of the section of a number is defined, if one does and it is: the number of
+    /// the section, and the symbol's value there.
+    #[tactic(auto, using(crate::proofs::ViewRelocationLaws::target_rules))]
+    pub fn target(&self, section: u32, at: u64) -> Option<(u32, u64)>
+        requires there { section < length self.now.sections }
+        requires inside { at < length (section_bytes self.now section) }
+        ensures { result ≡ target_in (relocation_at (view_cells self.now section) at) }
+    {
+        target_in(&self.kept, section, at)
     }
 
     /// The first place from one on at which a relocation begins, in the section of a number that is read. None exactly where none does.
