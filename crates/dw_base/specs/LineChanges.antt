@@ -1,4 +1,4 @@
--- The texts that line tables name by offsets, and what becomes of the tables when the tables of texts change (DWARF 5, 6.2.4).
+-- The paths that line tables name by offsets, and where they stand when the tables of texts change (DWARF 5, 6.2.4).
 use Rattle.std.specs.Prelude.{true, ℕ, ◌==◌, if◌then◌else◌, List, [], ◌∷◌, ◌++◌, Option, Some, None}
 use Rattle.dw_base.specs.LineReadings.{LineReading, table_read}
 use Rattle.dw_base.specs.LineSources.{LineSource}
@@ -6,7 +6,7 @@ use Rattle.dw_base.specs.Paths.{PathMap}
 use Rattle.dw_base.specs.StringTables.{Mention, new_place}
 use Rattle.dw_base.specs.TextChanges.{TableChange}
 use Rattle.dw_base.specs.Texts.{text_in}
-use Rattle.dw_base.specs.WrittenLines.{paths_of, written_table}
+use Rattle.dw_base.specs.WrittenLines.{paths_of}
 use Rattle.dw_base.specs.declared.line_tables.TextPlace.{TextPlace}
 use Rattle.dw_base.specs.declared.texts.TextSection.{TextSection}
 use Rattle.dw_base.specs.declared.texts.TextSection.TheVariants.{InStr, InLineStr}
@@ -37,8 +37,3 @@ asked_place c m x = if c.plan.asks x then Some (new_place c.plan m c.texts x) el
 abbrev pub line_place : PathMap → TableChange → TableChange → LineSource → TextPlace → Option ℕ
 line_place m str line_str g x =
     if x.section == g.str.number then asked_place str m (path_in g.str.bytes x) else asked_place line_str m (path_in g.line_str.bytes x)
-
--- the new tables, each with its paths mapped
-abbrev pub lines_after : PathMap → TableChange → TableChange → LineSource → List LineReading → List (List ℕ)
-lines_after m str line_str g [] = []
-lines_after m str line_str g (r ∷ rs) = written_table g m (line_place m str line_str g) (table_read g r) ∷ lines_after m str line_str g rs

@@ -82,12 +82,6 @@ header_length_place start width version = length_place version (start + length_s
 abbrev pub behind_lengths : ℕ → Width → ℕ → ℕ
 behind_lengths start width version = header_length_place start width version + width_size width
 
--- the new header from behind its length up to the program
-unfoldable pub written_header : LineSource → PathMap → (TextPlace → Option ℕ) → LineTable → List ℕ
-written_header g m places t =
-    changed g.bytes (behind_lengths t.start t.width t.version) t.program
-    (all_changes g m places t.width (paths_of t))
-
 -- a header with its length in front, behind the version and, in version 5, the sizes of addresses and of segment selectors
 abbrev pub with_header_length : LineSource → LineTable → List ℕ → List ℕ
 with_header_length g t header =
@@ -102,18 +96,3 @@ with_program g t front = front ++ part g.bytes t.program t.end
 abbrev pub length_bytes : Order → Width → ℕ → List ℕ
 length_bytes order W32 n = number_bytes order 4 n
 length_bytes order W64 n = number_bytes order 4 0xffff_ffff ++ number_bytes order 8 n
-
--- what stands in the new table behind its length, up to the program, and up to its end
-abbrev pub written_front : LineSource → PathMap → (TextPlace → Option ℕ) → LineTable → List ℕ
-written_front g m places t = with_header_length g t (written_header g m places t)
-
-abbrev pub written_rest : LineSource → PathMap → (TextPlace → Option ℕ) → LineTable → List ℕ
-written_rest g m places t = with_program g t (written_front g m places t)
-
--- the new table: the paths mapped, those by offset at their new places
-unfoldable pub written_table : LineSource → PathMap → (TextPlace → Option ℕ) → LineTable → List ℕ
-written_table g m places t = length_bytes g.order t.width (length (written_rest g m places t)) ++ written_rest g m places t
-
--- where the program starts in it, from the new table's start
-unfoldable pub written_program : LineSource → PathMap → (TextPlace → Option ℕ) → LineTable → ℕ
-written_program g m places t = length_size t.width + length (written_front g m places t)
