@@ -16,7 +16,7 @@ _deilmuko() {
     esac
     case ${COMP_WORDS[1]} in
     edit) options='--base-dir --dest-dir --more-maps --build-id --seed --list-file --max-file' ;;
-    run) options='--base-dir --dest-dir --build-id --seed --jobs --skip-refused --max-file' ;;
+    run) options='--base-dir --dest-dir --more-maps --build-id --seed --jobs --skip-refused --max-file' ;;
     esac
     case $word in
     -*) mapfile -t COMPREPLY < <(compgen -W "$options" -- "$word") ;;

@@ -10,7 +10,7 @@ use std::test::Fail;
 
 /// Words, and the command that they are: those of a run and an exercise, an edit whose words are in another order, and late
 /// words.
-const COMMANDS: [(&str, &str); 9] = [
+const COMMANDS: [(&str, &str); 10] = [
     (
         "edit --seed=- --build-id .//a/ /./b --base-dir=/b=c --dest-dir /d// --list-file=l",
         "edit a /b /b=c /d true [-] 1073741824 list l",
@@ -22,6 +22,10 @@ const COMMANDS: [(&str, &str); 9] = [
     (
         "run --jobs 64 --skip-refused --base-dir /b --dest-dir /d r --max-file=1",
         "run r /b /d false [] 1 jobs 64 skip",
+    ),
+    (
+        "run r --base-dir /b --dest-dir /d --more-maps /c=/e:/f=/g --skip-refused",
+        "run r /b /d false [] 1073741824 more 2 jobs 1 skip",
     ),
     ("exercise 0 1", "exercise 0 1"),
     (
@@ -79,8 +83,8 @@ const NONE: [(&str, &str); 15] = [
         "an item of three sides",
     ),
     (
-        "run r --base-dir /b --dest-dir /d --more-maps /c=/e",
-        "further pairs of a run",
+        "run r --base-dir /b --dest-dir /d --more-maps /b=/e",
+        "one base twice in a run",
     ),
     (
         "run r --base-dir /b --dest-dir /d --grow-inline",
@@ -192,8 +196,9 @@ fn told(alloc: Global, command: &Command) -> Result<String, AllocError> {
         } => {
             let root = root.as_str();
             let skip = if options.skip { " skip" } else { "" };
+            let late = late_told(alloc, options)?;
             let options = options_told(alloc, options)?;
-            format!(in alloc; "run {root} {options} jobs {jobs}{skip}")
+            format!(in alloc; "run {root} {options}{late} jobs {jobs}{skip}")
         }
         Command::Show { file, debug } => {
             let mut told = String::from_str(alloc, "show ")?;

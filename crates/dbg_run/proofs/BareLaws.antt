@@ -217,7 +217,7 @@ edit-free l =
 run-free : (l : CommandLine) → All DebugBare (run_of l)
 unfolding run_of
 run-free l =
-    all_if DebugBare (is_some l.list_file || is_some l.more_maps || l.grow_inline) None (option_and_then (run_named l) (one_of l.paths)) tt
+    all_if DebugBare (is_some l.list_file || l.grow_inline) None (option_and_then (run_named l) (one_of l.paths)) tt
     (all_then (λ a. ⊤) DebugBare (run_named l) (one_of l.paths) (any (one_of l.paths)) (λ w _.
     all_then (λ a. ⊤) DebugBare (run_below l) (path_named w) (any (path_named w)) (λ root _.
     all_then (λ a. ⊤) DebugBare (run_settled l root) (settings_of l) (any (settings_of l)) (λ o _.

@@ -117,7 +117,7 @@ split_apart l =
 run_apart : (l : CommandLine) → All IsApart (run_of l)
 unfolding run_of
 run_apart l =
-    all_if IsApart (is_some l.list_file || is_some l.more_maps || l.grow_inline) None (option_and_then (run_named l) (one_of l.paths)) tt
+    all_if IsApart (is_some l.list_file || l.grow_inline) None (option_and_then (run_named l) (one_of l.paths)) tt
     (all_then (λ a. ⊤) IsApart (run_named l) (one_of l.paths) (any (one_of l.paths)) (λ w _.
     all_then (λ a. ⊤) IsApart (run_below l) (path_named w) (any (path_named w)) (λ root _.
     all_then (λ a. ⊤) IsApart (run_settled l root) (settings_of l) (any (settings_of l)) (λ o _.

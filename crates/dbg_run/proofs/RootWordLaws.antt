@@ -155,13 +155,12 @@ run-below-fit l b =
 
 run-fit : (l : CommandLine) → SeedBare l → All IsRunFit (run_of l)
 unfolding run_of
-run-fit l b = by_options (is_some l.list_file) (is_some l.more_maps) l.grow_inline
+run-fit l b = by_options (is_some l.list_file) l.grow_inline
   where
-    by_options : (list more grow : Bool) → All IsRunFit (if list || more || grow then None else option_and_then (run_named l) (one_of l.paths))
-    by_options true more grow = tt
-    by_options false true grow = tt
-    by_options false false true = tt
-    by_options false false false = run-below-fit l b
+    by_options : (list grow : Bool) → All IsRunFit (if list || grow then None else option_and_then (run_named l) (one_of l.paths))
+    by_options true grow = tt
+    by_options false true = tt
+    by_options false false = run-below-fit l b
 
 listed-none : (l : CommandLine) (p : List ℕ × List ℕ) (list : Option (List ℕ)) → All IsRunFit (edit_listed l p list)
 listed-none l p None = all_map (λ a. ⊤) IsRunFit (λ o. Edit p.0 p.1 o None) (settings_of l) (any (settings_of l)) (λ o _. tt)

@@ -110,7 +110,7 @@ split_named w = option_and_then (split_paths w.2) (two_paths (w.0, w.1))
 unfoldable pub split_of : CommandLine → Option Command
 split_of l = if is_bare l then option_and_then split_named (three_of l.paths) else None
 
--- run ROOT, with --base-dir, --dest-dir, --build-id, --seed, --jobs, --skip-refused and --max-file
+-- run ROOT, with --base-dir, --dest-dir, --more-maps, --build-id, --seed, --jobs, --skip-refused and --max-file
 abbrev pub run_settled : CommandLine → List ℕ → Settings → Option Command
 run_settled l root o = option_map (λ jobs. Run root o jobs) (number_or 1 64 1 l.jobs)
 
@@ -121,7 +121,7 @@ abbrev pub run_named : CommandLine → List ℕ → Option Command
 run_named l word = option_and_then (run_below l) (path_named word)
 
 unfoldable pub run_of : CommandLine → Option Command
-run_of l = if is_some l.list_file || is_some l.more_maps || l.grow_inline then None else option_and_then (run_named l) (one_of l.paths)
+run_of l = if is_some l.list_file || l.grow_inline then None else option_and_then (run_named l) (one_of l.paths)
 
 -- show FILE, and show STRIPPED DEBUG, with no option
 abbrev pub show_one : List ℕ → Option Command

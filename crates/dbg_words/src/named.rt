@@ -177,7 +177,7 @@ fn run_named(alloc: Global, line: &Line<'_>, word: &str) -> Result<Option<Comman
 pub fn run_of(alloc: Global, line: &Line<'_>) -> Result<Option<Command>, NoMemory>
     ensures value { IfOk result (λ c. c ≡ run_of line.now) }
 {
-    if line.list_file.is_some() || line.more_maps.is_some() || line.grow_inline {
+    if line.list_file.is_some() || line.grow_inline {
         return Ok(None);
     }
     match one_of(&line.paths) {

@@ -356,6 +356,52 @@ fn work_folder_with_no_plan_is_emptied(rt: HostRuntime) -> Result<(), Fail> {
     Ok(())
 }
 
+/// The plan and the finished text of the small runs, as version 1 wrote them.
+const OLD_PLAN: &[u8] = b"dbgplan 1\0/b\0/d\x000\0\x000\x00100\0done\x000\x000\0end\0";
+
+const OLD_FINISHED: &[u8] = b"dbgfinished 1\0/b\0/d\x000\0\x000\x00100\0done\0";
+
+/// Whether a start over the three jobs' tree comes to the end, and leaves this.
+fn ends_as(alloc: Global, tree: &mut MemTree, whole: &MemTree) -> Result<bool, Fail> {
+    let mut maker = Toy {
+        jobs: 3,
+        first: b'f',
+    };
+    let ended = start(alloc, tree, &mut maker, 2)?;
+    Ok(ended && are_same(tree, whole))
+}
+
+/// Three jobs' files under a plan of version 1: the first job is committed, and one of its two files stands at its path.
+fn begun_by_version_1(alloc: Global) -> Result<MemTree, Fail> {
+    let mut tree = begun(alloc, 3)?;
+    put_text(alloc, &mut tree, "r/w/plan", OLD_PLAN)?;
+    put_text(alloc, &mut tree, "r/w/c.0", b"")?;
+    put_text(alloc, &mut tree, "r/d/0", b"filed")?;
+    put_text(alloc, &mut tree, "r/w/t.0.1", b"files")?;
+    Ok(tree)
+}
+
+#[test]
+fn what_version_1_began_is_ended(rt: HostRuntime) -> Result<(), Fail> {
+    let alloc = rt.alloc();
+    let whole = undisturbed(&rt, alloc, 3, 2, 6)?;
+    let mut tree = begun_by_version_1(alloc)?;
+    assert!(rt; ends_as(alloc, &mut tree, &whole)?);
+    Ok(())
+}
+
+#[test]
+fn what_version_1_finished_gets_its_text_anew(rt: HostRuntime) -> Result<(), Fail> {
+    let alloc = rt.alloc();
+    let whole = undisturbed(&rt, alloc, 3, 2, 6)?;
+    let mut tree = undisturbed(&rt, alloc, 3, 2, 6)?;
+    put_text(alloc, &mut tree, "r/w/finished", OLD_FINISHED)?;
+    put_text(alloc, &mut tree, "r/w/c.1", b"")?;
+    assert!(rt; ends_as(alloc, &mut tree, &whole)?);
+    assert_eq!(rt; tree.settle_count(), 9);
+    Ok(())
+}
+
 #[test]
 fn file_that_was_changed_stops_the_run_until_it_is_back(rt: HostRuntime) -> Result<(), Fail> {
     let alloc = rt.alloc();

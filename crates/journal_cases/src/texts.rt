@@ -134,13 +134,19 @@ fn a_plan_that_ends_too_early_is_bad_at_its_last_field(rt: HostRuntime) -> Resul
 }
 
 /// From where to where other bytes stand, these bytes, and the place of the first bad field.
-const CHANGES: [(usize, usize, &[u8], u64); 39] = [
+const CHANGES: [(usize, usize, &[u8], u64); 40] = [
     (0, 226, b"x", 0),
     (0, 226, b"dbgplan 3\0", 0),
     (0, 226, b"dbgplan 1\0build\0", 10),
     (0, 226, b"dbgplan 1\0/build/p\0", 19),
     (0, 226, b"dbgplan 2\0build\0", 10),
     (0, 9, b"dbgplan 1", 60),
+    (
+        0,
+        59,
+        b"dbgplan 1\0/build/p\0/usr/src/debug/p\x001\0seed-1\x000\x001073741824\x002\0/build/q\0/x\0/build/r\0/y",
+        60,
+    ),
     (10, 18, b"build/p", 10),
     (10, 18, b"/build/p/", 10),
     (19, 35, b"usr/src/debug/p", 19),

@@ -16,11 +16,12 @@ use Rattle.work_journal.specs.Spares.{IsHit, InWork}
 use Rattle.work_journal.specs.Spares.{IsHit as hit}
 use Rattle.work_journal.specs.Wanted.{Wanted}
 use Rattle.root_plan.specs.Makers.{plan_view}
+use Rattle.root_plan.specs.Plans.{key_of}
 use Rattle.root_plan.specs.Roots.{work_folder}
 use Rattle.root_plan.specs.Verdicts.{JudgeView}
 use Rattle.root_run.specs.declared.run_err.RunErr.{RunErr}
-use Rattle.root_run.specs.Starts.{SettledFirst, PlanWent, OpenedWent, StartRan}
-use Rattle.root_run.specs.Starts.{PlanWent as went, OpenedWent as way, StartRan as ran}
+use Rattle.root_run.specs.Starts.{SettledFirst, ClearEnded, PlanWent, OpenedWent, StartRan}
+use Rattle.root_run.specs.Starts.{ClearEnded as over, PlanWent as went, OpenedWent as way, StartRan as ran}
 use Rattle.root_run.proofs.FirstLaws.{first-tells, first-later, first-now, maps-same}
 use Rattle.root_run.proofs.KeysLaws.{work-in-root, in-root-below}
 
@@ -67,9 +68,14 @@ module _ (root : List ℕ) (s : Settings) (v : JudgeView) (fails : List ℕ → 
   went-kept p c old new result (went.no_start same is) = subst (λ (x : Seen). Kept root old x) (sym same) (kept-now root old old refl (omega arith) refl)
   went-kept p c old new result (went.started r x is) = kept-ran root (work_folder root) _ _ _ c old new r (λ q h. hit-below root p q h) x.ran
 
+  over-kept : (report : List ℕ) (earlier : Bool) (old new : Seen) (result : Result (List ℕ) RunErr) → ClearEnded (work_folder root) (key_of s) report old new result earlier → Kept root old new
+  over-kept report earlier old new result (over.no_text same is) = subst (λ (x : Seen). Kept root old x) (sym same) (kept-now root old old refl (omega arith) refl)
+  over-kept report earlier old new result (over.renewed r x is) = kept-ran root (work_folder root) (InWork (work_folder root)) 2 _ _ old new r (λ q h. work-in-root root q h) x.ran
+  over-kept report earlier old new result (over.cleared r x is) = kept-ran root (work_folder root) (InWork (work_folder root)) 1 _ _ old new r (λ q h. work-in-root root q h) x.ran
+
   opened-kept : (paths : List (List ℕ)) (old new : Seen) (o : Opened) (result : Result (List ℕ) RunErr)
       → OpenedWent root (work_folder root) s v fails edit_fails split_fails in_flight paths old new result o → Kept root old new
-  opened-kept paths old new o result (way.finished x) = kept-ran root (work_folder root) (InWork (work_folder root)) 1 _ _ old new x.journal_end (λ q h. work-in-root root q h) x.ran.ran
+  opened-kept paths old new o result (way.finished x) = over-kept _ _ old new result x
   opened-kept paths old new o result (way.resumed {p = p} w) = went-kept p _ old new result w
   opened-kept paths old new o result (way.unplanned e looked f is) = kept-now root old new looked.tells looked.later looked.now
   opened-kept paths old new o result (way.planned p mid looked is serves w) =

@@ -28,7 +28,7 @@ use Rattle.work_journal.proofs.LookLaws.{looks_ran}
 use Rattle.work_journal.proofs.RunLaws.{run_one}
 use Rattle.root_run.specs.Begun.{Begun}
 use Rattle.root_run.specs.Begun.{Begun as begun}
-use Rattle.root_run.specs.Cores.{LeadsTo, ShowsCore}
+use Rattle.root_run.specs.Cores.{LeadsTo, ShowsCore, is_old_end}
 use Rattle.root_run.specs.Cores.{ShowsCore as shows}
 use Rattle.root_run.specs.Wholes.{steps_of}
 
@@ -101,7 +101,7 @@ core-calm steps m = core-by (is_any (m.final 3)) (is_earlier (m.final 3)) (is_an
 
 pub shows-calm : (start : TreeMap) (root work : List ℕ) (s : Settings) (v : JudgeView) (fails : List ℕ → List ℕ → Refusal → Type 0) (t : TreeMap) (c : CoreState)
     → ShowsCore start root work s v fails t c → after c Settle ≡ c
-shows-calm start root work s v fails t c (shows.by_plan {p} planned partway) = core-calm (steps_of p) (presence work (keys_below t root))
+shows-calm start root work s v fails t c (shows.by_plan {p} planned partway) = core-calm (steps_of p) (presence (is_old_end t work) work (keys_below t root))
 shows-calm start root work s v fails t c (shows.by_none u none) = refl
 
 -- and then its own steps

@@ -73,14 +73,14 @@ same-err d e h = cc
 same-resumed : (p q : PlanData) → ok_of (opened.Resumed p) ≡ ok_of (opened.Resumed q) → p ≡ q
 same-resumed p q e = cc
 
-resumed-finished : (p : PlanData) (r : List ℕ) → ok_of (opened.Resumed p) ≡ ok_of (opened.Finished r) → ⊥
-resumed-finished p r e = cc
+resumed-finished : (p : PlanData) (r : List ℕ) (b : Bool) → ok_of (opened.Resumed p) ≡ ok_of (opened.Finished r b) → ⊥
+resumed-finished p r b e = cc
 
 empty-resumed : (p : PlanData) → ok_of opened.Empty ≡ ok_of (opened.Resumed p) → ⊥
 empty-resumed p e = cc
 
-empty-finished : (r : List ℕ) → ok_of opened.Empty ≡ ok_of (opened.Finished r) → ⊥
-empty-finished r e = cc
+empty-finished : (r : List ℕ) (b : Bool) → ok_of opened.Empty ≡ ok_of (opened.Finished r b) → ⊥
+empty-finished r b e = cc
 
 both-never : (b : Bool) → b ≡ true → b ≡ false → ⊥
 both-never true e f = cc
@@ -165,7 +165,7 @@ module _ (old : Seen) (t : TreeMap) (tells : old.tells ≡ true) (at-now : map_n
       text.other bytes stands.mode p (stands-in bytes stands) is (key-differs p.key key e other) (sym (key-status p.key key e other hard))
 
   end-due : (r : Result Opened JournalErr) (e : JournalErr) → FinishedKept old path key r → r ≡ err_of e → is_mild_run e ≡ false → EndDue (journal_status e)
-  end-due r e (finished_kept.finished_read bytes d stands is same) h hard = absurd (no-ok (opened.Finished d.report) e h)
+  end-due r e (finished_kept.finished_read bytes d stands is same) h hard = absurd (no-ok (opened.Finished d.report d.old) e h)
   end-due r e (finished_kept.finished_not_there {e = d} b) h hard = not-there IsFinishedText (λ (x : FinishedData). x.key) file.Finished e (subst (λ (x : JournalErr). TextBlames old path file.Finished x) (same-err d e h) b) hard
   end-due r e (finished_kept.finished_bad {e = d} bytes stands b) h hard =
       let bad = finished-bad bytes e (subst (λ (x : JournalErr). FinishedBlames bytes x) (same-err d e h) b) hard in
@@ -419,23 +419,23 @@ module _ (root work : List ℕ) (s : Settings) (v : JudgeView) (fails : List ℕ
       resumed-by r p (opens.opens_finished a kept) h = absurd (not-finished kept h)
         where
           not-finished : {q : List ℕ} {x : Result Opened JournalErr} → FinishedKept old q (key_of s) x → x ≡ ok_of (opened.Resumed p) → ⊥
-          not-finished (finished_kept.finished_read bytes d stands is same) f = resumed-finished p d.report (sym f)
+          not-finished (finished_kept.finished_read bytes d stands is same) f = resumed-finished p d.report d.old (sym f)
           not-finished (finished_kept.finished_not_there {e = d} b) f = no-err (opened.Resumed p) d f
           not-finished (finished_kept.finished_bad {e = d} bytes stands b) f = no-err (opened.Resumed p) d f
           not-finished (finished_kept.finished_other {e = d} bytes x stands is b) f = no-err (opened.Resumed p) d f
 
-      finished-by : (r : Result Opened JournalErr) (report : List ℕ) → Opens work paths (key_of s) old r → r ≡ ok_of (opened.Finished report) → RunDue root work s v fails t 0
-      finished-by r report opens.opens_memory h = absurd (no-err (opened.Finished report) journal.NoMemory h)
-      finished-by r report (opens.opens_empty a b) h = absurd (empty-finished report h)
-      finished-by r report (opens.opens_plan a b kept) h = absurd (not-resumed kept h)
+      finished-by : (r : Result Opened JournalErr) (report : List ℕ) (earlier : Bool) → Opens work paths (key_of s) old r → r ≡ ok_of (opened.Finished report earlier) → RunDue root work s v fails t 0
+      finished-by r report earlier opens.opens_memory h = absurd (no-err (opened.Finished report earlier) journal.NoMemory h)
+      finished-by r report earlier (opens.opens_empty a b) h = absurd (empty-finished report earlier h)
+      finished-by r report earlier (opens.opens_plan a b kept) h = absurd (not-resumed kept h)
         where
-          not-resumed : {q : List ℕ} {x : Result Opened JournalErr} → PlanKept old q (key_of s) x → x ≡ ok_of (opened.Finished report) → ⊥
-          not-resumed (plan_kept.plan_read bytes p stands is same) f = resumed-finished p report f
-          not-resumed (plan_kept.plan_not_there {e = d} b) f = no-err (opened.Finished report) d f
-          not-resumed (plan_kept.plan_bad {e = d} bytes stands b) f = no-err (opened.Finished report) d f
-          not-resumed (plan_kept.plan_other {e = d} bytes p stands is b) f = no-err (opened.Finished report) d f
-      finished-by r report (opens.opens_finished a kept) h =
-          due.finished (is-finished a) (end-own old t tells (holds old t tells here) (key_of s) (work_path work (final 3)) r (opened.Finished report) kept h)
+          not-resumed : {q : List ℕ} {x : Result Opened JournalErr} → PlanKept old q (key_of s) x → x ≡ ok_of (opened.Finished report earlier) → ⊥
+          not-resumed (plan_kept.plan_read bytes p stands is same) f = resumed-finished p report earlier f
+          not-resumed (plan_kept.plan_not_there {e = d} b) f = no-err (opened.Finished report earlier) d f
+          not-resumed (plan_kept.plan_bad {e = d} bytes stands b) f = no-err (opened.Finished report earlier) d f
+          not-resumed (plan_kept.plan_other {e = d} bytes p stands is b) f = no-err (opened.Finished report earlier) d f
+      finished-by r report earlier (opens.opens_finished a kept) h =
+          due.finished (is-finished a) (end-own old t tells (holds old t tells here) (key_of s) (work_path work (final 3)) r (opened.Finished report earlier) kept h)
 
       empty-by : (r : Result Opened JournalErr) → Opens work paths (key_of s) old r → r ≡ ok_of opened.Empty → IsFresh root work t
       empty-by r opens.opens_memory h = absurd (no-err opened.Empty journal.NoMemory h)
@@ -450,7 +450,7 @@ module _ (root work : List ℕ) (s : Settings) (v : JudgeView) (fails : List ℕ
       empty-by r (opens.opens_finished a kept) h = absurd (not-finished kept h)
         where
           not-finished : {q : List ℕ} {x : Result Opened JournalErr} → FinishedKept old q (key_of s) x → x ≡ ok_of opened.Empty → ⊥
-          not-finished (finished_kept.finished_read bytes d stands is same) f = empty-finished d.report (sym f)
+          not-finished (finished_kept.finished_read bytes d stands is same) f = empty-finished d.report d.old (sym f)
           not-finished (finished_kept.finished_not_there {e = d} b) f = no-err opened.Empty d f
           not-finished (finished_kept.finished_bad {e = d} bytes stands b) f = no-err opened.Empty d f
           not-finished (finished_kept.finished_other {e = d} bytes x stands is b) f = no-err opened.Empty d f
@@ -465,8 +465,8 @@ module _ (root work : List ℕ) (s : Settings) (v : JudgeView) (fails : List ℕ
       pub resumed-due : (p : PlanData) → Opens work paths (key_of s) old (Ok (opened.Resumed p)) → RunDue root work s v fails t 0
       resumed-due p o = let is = resumed-is p o in due.begun is.begun is.own
 
-      pub finished-due : (report : List ℕ) → Opens work paths (key_of s) old (Ok (opened.Finished report)) → RunDue root work s v fails t 0
-      finished-due report o = finished-by (ok_of (opened.Finished report)) report o refl
+      pub finished-due : (report : List ℕ) (earlier : Bool) → Opens work paths (key_of s) old (Ok (opened.Finished report earlier)) → RunDue root work s v fails t 0
+      finished-due report earlier o = finished-by (ok_of (opened.Finished report earlier)) report earlier o refl
 
       pub planned-due : (p : PlanData) → Opens work paths (key_of s) old (Ok opened.Empty) → IsPlanOf (now_of old) root paths s v fails p → RunDue root work s v fails t 0
       planned-due p o is =

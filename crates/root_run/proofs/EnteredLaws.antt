@@ -1,5 +1,5 @@
 -- What a start did, by the way on which it ended: a journal went on by a plan of the root, or nothing was changed.
-use Rattle.std.proofs.Common.{◌≡◌, ℕ, ◌+◌, ◌<◌, ◌≤◌, ◌^◌, true, false, List, length, refl, sym, ap, subst, ◌∙◌, arith, Result, Ok, Err}
+use Rattle.std.proofs.Common.{◌≡◌, ℕ, ◌+◌, ◌<◌, ◌≤◌, ◌^◌, Bool, true, false, List, length, refl, sym, ap, subst, ◌∙◌, arith, Result, Ok, Err}
 use Rattle.std.specs.Prelude.{Option, Some, IsTrue, ⊤}
 use Rattle.std.proofs.lemmas.List.{length-map}
 use Rattle.dw_base.specs.Layout.{file_limit}
@@ -12,7 +12,8 @@ use Rattle.file_tree.specs.Trees.{TreeMap}
 use Rattle.file_tree.proofs.ImageLaws.{image_now}
 use Rattle.job_types.specs.Settings.{HasKey, Settings, IsWithin}
 use Rattle.journal_core.specs.Names.{plan, final}
-use Rattle.journal_core.specs.Table.{closed_core, new_core}
+use Rattle.journal_core.specs.Starts.{shown_core}
+use Rattle.journal_core.specs.Table.{new_core}
 use Rattle.work_texts.specs.declared.journal_err.JournalErr.{JournalErr}
 use Rattle.work_texts.specs.declared.journal_err.JournalErr.TheVariants as journal
 use Rattle.work_texts.specs.declared.key.RunKey.{RunKey}
@@ -22,13 +23,14 @@ use Rattle.work_texts.specs.Rules.{IsKey, IsPlan}
 use Rattle.work_texts.proofs.SizeLaws.{no_longer}
 use Rattle.work_journal.specs.declared.opening.Opened.{Opened}
 use Rattle.work_journal.specs.declared.opening.Opened.TheVariants as opened
+use Rattle.work_journal.specs.Ending.{text_file}
 use Rattle.work_journal.specs.Keeps.{Keeps}
 use Rattle.work_journal.specs.Opening.{Opens, PlanKept, FinishedKept}
 use Rattle.work_journal.specs.Opening.{Opens as opens, PlanKept as plan_kept, FinishedKept as finished_kept}
 use Rattle.work_journal.specs.Rounds.{rounds_of}
 use Rattle.work_journal.specs.Spares.{InWork, IsHit}
-use Rattle.work_journal.specs.Wanted.{IsPartway}
-use Rattle.work_journal.specs.Work.{work_path, has_path}
+use Rattle.work_journal.specs.Wanted.{Wanted, IsPartway}
+use Rattle.work_journal.specs.Work.{work_path, has_path, presence}
 use Rattle.root_plan.specs.Makers.{plan_view}
 use Rattle.root_plan.specs.Plans.{IsPlanOf, key_of}
 use Rattle.root_plan.specs.Roots.{work_folder}
@@ -37,20 +39,21 @@ use Rattle.root_plan.specs.Verdicts.{JudgeView, IsJudge}
 use Rattle.root_plan.specs.Walks.{AreWalked}
 use Rattle.root_run.specs.declared.run_err.RunErr.{RunErr}
 use Rattle.root_run.specs.declared.run_err.RunErr.TheVariants as run
+use Rattle.root_run.specs.Cores.{is_old_end}
 use Rattle.root_run.specs.Begun.{Begun}
 use Rattle.root_run.specs.Begun.{Begun as begun}
-use Rattle.root_run.specs.Starts.{SettledFirst, EarlyEnds, HasOpened, report_of, core_from, ClearEnded, PlanRan, PlanWent, OpenedWent, StartRan, IsPlanRun, FewJobs}
-use Rattle.root_run.specs.Starts.{EarlyEnds as early, PlanWent as went, OpenedWent as way, StartRan as ran}
+use Rattle.root_run.specs.Starts.{SettledFirst, EarlyEnds, HasOpened, report_of, core_from, end_text, IsEndRun, ClearEnded, ClearRan, PlanRan, PlanWent, OpenedWent, StartRan, IsPlanRun, FewJobs}
+use Rattle.root_run.specs.Starts.{EarlyEnds as early, ClearEnded as over, PlanWent as went, OpenedWent as way, StartRan as ran}
 use Rattle.root_run.specs.RootRuns.{IsPartwayRun}
 use Rattle.root_run.specs.Underway.{IsUnderway, is_mild_end}
-use Rattle.root_run.specs.Wholes.{IsRootPlan, wanted_of, steps_of}
+use Rattle.root_run.specs.Wholes.{IsRootPlan, wanted_of, steps_of, finished_text}
 use Rattle.root_run.proofs.FirstLaws.{now-tells, maps-same, looked-first}
 use Rattle.root_run.proofs.GivenLaws.{wanted-given}
 use Rattle.root_run.proofs.JournaledLaws.{Journaled}
 use Rattle.root_run.proofs.MildLaws.{opens-mild}
 use Rattle.root_run.proofs.RootStartLaws.{finished-found, resumed-found, fresh-found, fresh-keeps, root-names, root-run, root-plan-fits}
 use Rattle.root_run.proofs.TextLaws.{resumed-own, finished-own}
-use Rattle.root_run.proofs.WaysLaws.{shown_closed, shown_new, shown_resumed}
+use Rattle.root_run.proofs.WaysLaws.{over_core, shown_over, shown_new, shown_resumed}
 
 -- ### What was opened
 
@@ -60,55 +63,55 @@ ok_of o = Ok o
 no-err : (o : Opened) (e : JournalErr) → Err e ≡ ok_of o → ⊥
 no-err o e h = cc
 
-not-empty-finished : (report : List ℕ) → ok_of opened.Empty ≡ ok_of (opened.Finished report) → ⊥
-not-empty-finished report e = cc
+not-empty-finished : (report : List ℕ) (old : Bool) → ok_of opened.Empty ≡ ok_of (opened.Finished report old) → ⊥
+not-empty-finished report old e = cc
 
-not-resumed-finished : (p : PlanData) (report : List ℕ) → ok_of (opened.Resumed p) ≡ ok_of (opened.Finished report) → ⊥
-not-resumed-finished p report e = cc
+not-resumed-finished : (p : PlanData) (report : List ℕ) (old : Bool) → ok_of (opened.Resumed p) ≡ ok_of (opened.Finished report old) → ⊥
+not-resumed-finished p report old e = cc
 
 not-empty-resumed : (p : PlanData) → ok_of opened.Empty ≡ ok_of (opened.Resumed p) → ⊥
 not-empty-resumed p e = cc
 
-not-finished-resumed : (report : List ℕ) (p : PlanData) → ok_of (opened.Finished report) ≡ ok_of (opened.Resumed p) → ⊥
-not-finished-resumed report p e = cc
+not-finished-resumed : (report : List ℕ) (old : Bool) (p : PlanData) → ok_of (opened.Finished report old) ≡ ok_of (opened.Resumed p) → ⊥
+not-finished-resumed report old p e = cc
 
-not-finished-empty : (report : List ℕ) → ok_of (opened.Finished report) ≡ ok_of opened.Empty → ⊥
-not-finished-empty report e = cc
+not-finished-empty : (report : List ℕ) (old : Bool) → ok_of (opened.Finished report old) ≡ ok_of opened.Empty → ⊥
+not-finished-empty report old e = cc
 
 not-resumed-empty : (p : PlanData) → ok_of (opened.Resumed p) ≡ ok_of opened.Empty → ⊥
 not-resumed-empty p e = cc
 
 module _ (work : List ℕ) (paths : List (List ℕ)) (key : RunKey) (seen : Seen) where
   -- a finished text was read
-  pub record FinishedOpened (report : List ℕ) : Type 0 where
+  pub record FinishedOpened (report : List ℕ) (old : Bool) : Type 0 where
     pub there : has_path paths (work_path work (final 3)) ≡ true
-    pub kept : FinishedKept seen (work_path work (final 3)) key (Ok (opened.Finished report))
+    pub kept : FinishedKept seen (work_path work (final 3)) key (Ok (opened.Finished report old))
     pub fits : IsKey key
 
-  finished-kept : (r : Result Opened JournalErr) (report : List ℕ) → r ≡ ok_of (opened.Finished report) → FinishedKept seen (work_path work (final 3)) key r → IsKey key
-  finished-kept r report e (finished_kept.finished_read bytes d stands text same) = subst IsKey same text.finished.key
-  finished-kept r report e (finished_kept.finished_not_there {e = x} h) = absurd (no-err (opened.Finished report) x e)
-  finished-kept r report e (finished_kept.finished_bad {e = x} bytes stands h) = absurd (no-err (opened.Finished report) x e)
-  finished-kept r report e (finished_kept.finished_other {e = x} bytes d stands text h) = absurd (no-err (opened.Finished report) x e)
+  finished-kept : (r : Result Opened JournalErr) (report : List ℕ) (old : Bool) → r ≡ ok_of (opened.Finished report old) → FinishedKept seen (work_path work (final 3)) key r → IsKey key
+  finished-kept r report old e (finished_kept.finished_read bytes d stands text same) = subst IsKey same text.finished.key
+  finished-kept r report old e (finished_kept.finished_not_there {e = x} h) = absurd (no-err (opened.Finished report old) x e)
+  finished-kept r report old e (finished_kept.finished_bad {e = x} bytes stands h) = absurd (no-err (opened.Finished report old) x e)
+  finished-kept r report old e (finished_kept.finished_other {e = x} bytes d stands text h) = absurd (no-err (opened.Finished report old) x e)
 
-  plan-not-finished : (r : Result Opened JournalErr) (report : List ℕ) → r ≡ ok_of (opened.Finished report) → PlanKept seen (work_path work plan) key r → ⊥
-  plan-not-finished r report e (plan_kept.plan_read bytes p stands text same) = not-resumed-finished p report e
-  plan-not-finished r report e (plan_kept.plan_not_there {e = x} h) = no-err (opened.Finished report) x e
-  plan-not-finished r report e (plan_kept.plan_bad {e = x} bytes stands h) = no-err (opened.Finished report) x e
-  plan-not-finished r report e (plan_kept.plan_other {e = x} bytes p stands text h) = no-err (opened.Finished report) x e
+  plan-not-finished : (r : Result Opened JournalErr) (report : List ℕ) (old : Bool) → r ≡ ok_of (opened.Finished report old) → PlanKept seen (work_path work plan) key r → ⊥
+  plan-not-finished r report old e (plan_kept.plan_read bytes p stands text same) = not-resumed-finished p report old e
+  plan-not-finished r report old e (plan_kept.plan_not_there {e = x} h) = no-err (opened.Finished report old) x e
+  plan-not-finished r report old e (plan_kept.plan_bad {e = x} bytes stands h) = no-err (opened.Finished report old) x e
+  plan-not-finished r report old e (plan_kept.plan_other {e = x} bytes p stands text h) = no-err (opened.Finished report old) x e
 
-  finished-by : (r : Result Opened JournalErr) (report : List ℕ) → r ≡ ok_of (opened.Finished report) → Opens work paths key seen r → FinishedOpened report
-  finished-by r report e opens.opens_memory = absurd (no-err (opened.Finished report) journal.NoMemory e)
-  finished-by r report e (opens.opens_empty none other) = absurd (not-empty-finished report e)
-  finished-by r report e (opens.opens_plan none has kept) = absurd (plan-not-finished r report e kept)
-  finished-by r report e (opens.opens_finished has kept) = record {
+  finished-by : (r : Result Opened JournalErr) (report : List ℕ) (old : Bool) → r ≡ ok_of (opened.Finished report old) → Opens work paths key seen r → FinishedOpened report old
+  finished-by r report old e opens.opens_memory = absurd (no-err (opened.Finished report old) journal.NoMemory e)
+  finished-by r report old e (opens.opens_empty none other) = absurd (not-empty-finished report old e)
+  finished-by r report old e (opens.opens_plan none has kept) = absurd (plan-not-finished r report old e kept)
+  finished-by r report old e (opens.opens_finished has kept) = record {
     there = has;
     kept = subst (FinishedKept seen (work_path work (final 3)) key) e kept;
-    fits = finished-kept r report e kept;
+    fits = finished-kept r report old e kept;
   }
 
-  pub finished-opened : (report : List ℕ) → Opens work paths key seen (Ok (opened.Finished report)) → FinishedOpened report
-  finished-opened report o = finished-by (ok_of (opened.Finished report)) report refl o
+  pub finished-opened : (report : List ℕ) (old : Bool) → Opens work paths key seen (Ok (opened.Finished report old)) → FinishedOpened report old
+  finished-opened report old o = finished-by (ok_of (opened.Finished report old)) report old refl o
 
   -- a plan was read
   pub record PlanOpened (p : PlanData) : Type 0 where
@@ -135,7 +138,7 @@ module _ (work : List ℕ) (paths : List (List ℕ)) (key : RunKey) (seen : Seen
   plan-kept r p e (plan_kept.plan_other {e = x} bytes q stands text h) = absurd (no-err (opened.Resumed p) x e)
 
   finished-not-plan : (r : Result Opened JournalErr) (p : PlanData) → r ≡ ok_of (opened.Resumed p) → FinishedKept seen (work_path work (final 3)) key r → ⊥
-  finished-not-plan r p e (finished_kept.finished_read bytes d stands text same) = not-finished-resumed d.report p e
+  finished-not-plan r p e (finished_kept.finished_read bytes d stands text same) = not-finished-resumed d.report d.old p e
   finished-not-plan r p e (finished_kept.finished_not_there {e = x} h) = no-err (opened.Resumed p) x e
   finished-not-plan r p e (finished_kept.finished_bad {e = x} bytes stands h) = no-err (opened.Resumed p) x e
   finished-not-plan r p e (finished_kept.finished_other {e = x} bytes d stands text h) = no-err (opened.Resumed p) x e
@@ -163,7 +166,7 @@ module _ (work : List ℕ) (paths : List (List ℕ)) (key : RunKey) (seen : Seen
   plan-not-empty r e (plan_kept.plan_other {e = x} bytes q stands text h) = no-err opened.Empty x e
 
   finished-not-empty : (r : Result Opened JournalErr) → r ≡ ok_of opened.Empty → FinishedKept seen (work_path work (final 3)) key r → ⊥
-  finished-not-empty r e (finished_kept.finished_read bytes d stands text same) = not-finished-empty d.report e
+  finished-not-empty r e (finished_kept.finished_read bytes d stands text same) = not-finished-empty d.report d.old e
   finished-not-empty r e (finished_kept.finished_not_there {e = x} h) = no-err opened.Empty x e
   finished-not-empty r e (finished_kept.finished_bad {e = x} bytes stands h) = no-err opened.Empty x e
   finished-not-empty r e (finished_kept.finished_other {e = x} bytes d stands text h) = no-err opened.Empty x e
@@ -181,7 +184,7 @@ module _ (work : List ℕ) (paths : List (List ℕ)) (key : RunKey) (seen : Seen
 pub few-opened : (work : List ℕ) (paths : List (List ℕ)) (key : RunKey) (seen : Seen) (o : Opened) → Opens work paths key seen (Ok o) → FewJobs o
 few-opened work paths key seen opened.Empty is = tt
 few-opened work paths key seen (opened.Resumed p) is = (plan-opened work paths key seen p is).few
-few-opened work paths key seen (opened.Finished report) is = tt
+few-opened work paths key seen (opened.Finished report old) is = tt
 
 pub few-resumed : (o : Opened) (p : PlanData) → o ≡ opened.Resumed p → FewJobs o → length p.jobs < 2 ^ 32
 few-resumed o p is few = subst FewJobs is few
@@ -197,6 +200,13 @@ limit-few n w = omega (arith, w.greatest)
 
 once-more : (n : ℕ) → 1 ≤ n + 3
 once-more n = omega arith
+
+twice-more : (n : ℕ) → 2 ≤ n + 3
+twice-more n = omega arith
+
+-- the finished text of a plan is the one that is put anew
+end-wanted : (p : PlanData) (key : RunKey) (report : List ℕ) → p.key ≡ key → report ≡ p.report → finished_text p ≡ end_text key report
+end-wanted p key report same is = ap (λ (k : RunKey). end_text k p.report) same ∙ ap (λ (r : List ℕ). end_text key r) (sym is)
 
 -- a key that a text says can be said
 key-kept : (s : Settings) → IsKey (key_of s) → HasKey s
@@ -232,14 +242,16 @@ module _ (start : TreeMap) (root : List ℕ) (s : Settings) (v : JudgeView) (fai
       at-same = maps-same mid at mid-tells (at_tells ∙ u.tells) (mid-now ∙ sym at_now)
 
       -- a run that is over
-      finished-went : (report : List ℕ) (result : Result (List ℕ) RunErr) → Opens (work_folder root) paths (key_of s) at (Ok (opened.Finished report))
-          → ClearEnded (work_folder root) report mid new result → Journaled start root s v fails judge in_flight old new u result
-      finished-went report result o c =
-          let x = finished-opened (work_folder root) paths (key_of s) at report o in
+      over-went : (report : List ℕ) (earlier : Bool) (result : Result (List ℕ) RunErr) → Opens (work_folder root) paths (key_of s) at (Ok (opened.Finished report earlier))
+          → (runs : Wanted → Type 0) → ((w : Wanted) → IsEndRun (key_of s) report w → runs w) → (n : ℕ) → ((rounds : ℕ) → n ≤ rounds + 3) → (r : Result (Unit {0}) JournalErr)
+          → ClearRan (work_folder root) runs n (over_core earlier) mid new r → result ≡ report_of r report → Journaled start root s v fails judge in_flight old new u result
+      over-went report earlier result o runs run n few r c answer =
+          let x = finished-opened (work_folder root) paths (key_of s) at report earlier o in
           let g = finished-found start root s v fails u.clean old.past f.mid.past mid paths u.partway (f.settled u.tells) mid-looks mid-walked x.there in
           let fits : IsPlan g.p = root-plan-fits start root s v fails u.clean g.p g.made judge maps within (key-kept s x.fits) g.planned in
           let own = finished-own start root (work_folder root) g.p g.made at (at_tells ∙ u.tells) fits
-          (subst (IsPartway (wanted_of start root (work_folder root) g.p g.made)) at-same g.partway) (key_of s) report x.kept in
+          (subst (IsPartway (wanted_of start root (work_folder root) g.p g.made)) at-same g.partway) (key_of s) report earlier x.kept in
+          let is_old : is_old_end (map_now mid.past) (work_folder root) ≡ earlier = ap (λ (t : TreeMap). is_old_end t (work_folder root)) at-same ∙ sym own.old_is in
           record {
             p = g.p;
             made = g.made;
@@ -251,20 +263,26 @@ module _ (start : TreeMap) (root : List ℕ) (s : Settings) (v : JudgeView) (fai
             looks = mid-looks;
             walked = mid-walked;
             tells = mid-tells;
-            runs = λ w. ⊤;
-            run = tt;
-            settles = 1;
-            few = once-more (rounds_of (length g.p.jobs) in_flight);
+            runs = runs;
+            run = run (wanted_of start root (work_folder root) g.p g.made) (ap (λ (t : List ℕ). text_file t) (end-wanted g.p (key_of s) report own.key_is own.report_is));
+            settles = n;
+            few = few (rounds_of (length g.p.jobs) in_flight);
             hits = InWork (work_folder root);
-            core = closed_core;
-            shown = shown_closed (steps_of g.p) (work_folder root) paths x.there;
-            keeps = g.keeps;
-            ended = c.journal_end;
-            ran = c.ran.ran;
-            cleared = c.ran.cleared;
-            mild = c.ran.mild;
-            answer = c.answer ∙ ap (report_of c.journal_end) own.0;
+            core = over_core earlier;
+            shown = ap (λ (b : Bool). shown_core (steps_of g.p) (presence b (work_folder root) paths)) is_old ∙ shown_over earlier (steps_of g.p) (work_folder root) paths x.there;
+            keeps = subst (λ (b : Bool). Keeps (wanted_of start root (work_folder root) g.p g.made) (over_core b) (state_of mid.past)) is_old g.keeps;
+            ended = r;
+            ran = c.ran;
+            cleared = c.cleared;
+            mild = c.mild;
+            answer = answer ∙ ap (report_of r) own.report_is;
           }
+
+      finished-went : (report : List ℕ) (earlier : Bool) (result : Result (List ℕ) RunErr) → Opens (work_folder root) paths (key_of s) at (Ok (opened.Finished report earlier))
+          → ClearEnded (work_folder root) (key_of s) report mid new result earlier → Entered result
+      finished-went report earlier result o (over.no_text same is) = unbegun (subst (λ (x : Seen). Begun old.past x.past) (sym same) mid-begun) (run.Journal journal.NoMemory) (λ seed. refl) is
+      finished-went report earlier result o (over.renewed r c is) = by_journal (over-went report true result o (IsEndRun (key_of s) report) (λ w run. run) 2 twice-more r c is)
+      finished-went report earlier result o (over.cleared r c is) = by_journal (over-went report false result o (λ w. ⊤) (λ w run. tt) 1 once-more r c is)
 
       -- a plan that was there
       resumed-went : (p : PlanData) (result : Result (List ℕ) RunErr) → Opens (work_folder root) paths (key_of s) at (Ok (opened.Resumed p))
@@ -298,7 +316,7 @@ module _ (start : TreeMap) (root : List ℕ) (s : Settings) (v : JudgeView) (fai
             few = rounds-same p root in_flight;
             hits = IsHit (work_folder root) (plan_view root p.jobs) (λ j. ⊤);
             core = core_from false (work_folder root) paths (steps_of p);
-            shown = shown_resumed (steps_of p) (work_folder root) paths x.none x.there;
+            shown = shown_resumed (is_old_end (map_now mid.past) (work_folder root)) (steps_of p) (work_folder root) paths x.none x.there;
             keeps = keeps;
             ended = r;
             ran = ran.ran;
@@ -342,7 +360,7 @@ module _ (start : TreeMap) (root : List ℕ) (s : Settings) (v : JudgeView) (fai
         few = rounds-same p root in_flight;
         hits = IsHit (work_folder root) (plan_view root p.jobs) (λ j. ⊤);
         core = new_core (steps_of p);
-        shown = shown_new (steps_of p) (work_folder root) paths x.none x.other;
+        shown = shown_new (is_old_end (map_now mid.past) (work_folder root)) (steps_of p) (work_folder root) paths x.none x.other;
         keeps = keeps;
         ended = r;
         ran = ran.ran;
@@ -368,7 +386,7 @@ module _ (start : TreeMap) (root : List ℕ) (s : Settings) (v : JudgeView) (fai
 
   opened-entered : (mid : Seen) (paths : List (List ℕ)) (o : Opened) (result : Result (List ℕ) RunErr) → HasOpened root s paths o old mid
       → OpenedWent root (work_folder root) s v fails edit_fails split_fails in_flight paths mid new result o → Entered result
-  opened-entered mid paths o result h (way.finished {report = report} c) = by_journal (finished-went mid paths h.first h.walked h.at h.at_tells h.at_now report result h.opens c)
+  opened-entered mid paths o result h (way.finished {report = report} {earlier = earlier} c) = finished-went mid paths h.first h.walked h.at h.at_tells h.at_now report earlier result h.opens c
   opened-entered mid paths o result h (way.resumed {p = p} w) = resumed-entered mid paths h.first h.walked h.at h.at_tells h.at_now p result h.opens w
   opened-entered mid paths o result h (way.unplanned e looked ends is) =
       unbegun (mid-begun new paths (looked-first old mid new h.first looked) h.walked) (run.Plan e) (λ seed. refl) is
@@ -412,8 +430,8 @@ module _ (root given work : List ℕ) (s : Settings) (v : JudgeView) (fails : Li
   as-said : (x : Opened) → o ≡ x → Went given seen x → Went work paths o
   as-said x is w = subst (Went work paths) (sym is) (subst (λ (d : List ℕ). Went d paths x) work_is (subst (λ (ps : List (List ℕ)). Went given ps x) paths_are w))
 
-  pub go-finished : (report : List ℕ) → o ≡ opened.Finished report → ClearEnded given report old new result → Went work paths o
-  go-finished report is c = as-said (opened.Finished report) is (way.finished c)
+  pub go-finished : (report : List ℕ) (earlier : Bool) → o ≡ opened.Finished report earlier → ClearEnded given (key_of s) report old new result earlier → Went work paths o
+  go-finished report earlier is c = as-said (opened.Finished report earlier) is (way.finished c)
 
   pub go-resumed : (p : PlanData) → o ≡ opened.Resumed p → PlanWent root given v edit_fails split_fails p in_flight (core_from false given seen (steps_of p)) old new result → Went work paths o
   go-resumed p is w = as-said (opened.Resumed p) is (way.resumed w)

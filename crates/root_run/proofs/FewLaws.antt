@@ -277,7 +277,7 @@ module _ (start : TreeMap) (root : List ℕ) (clean : IsClean start root (work_f
     there-in plan is there = text-in plan (1, omega arith, refl)
     there-in (temp j k) step there =
         let gone : m.temp j k ≡ absent → fin.get t (path_of W (temp j k)) ≡ None =
-        λ e. subst (λ (x : Mark). MarkHas x (fin.get start (path_of W (temp j k))) (W.node (temp j k)) (fin.get t (path_of W (temp j k)))) e (has.named (temp j k) step) in
+        λ e. subst (λ (x : Mark). MarkHas x (fin.get start (path_of W (temp j k))) (W.node (temp j k)) (W.older (temp j k)) (fin.get t (path_of W (temp j k)))) e (has.named (temp j k) step) in
         named-in (temp j k) (Contains-append_right texts (marks_of (length p.jobs) ++ temps_of (steps_of p) m (length p.jobs)) (temp j k)
         (Contains-append_right (marks_of (length p.jobs)) (temps_of (steps_of p) m (length p.jobs)) (temp j k) (open-temp j k step (λ e. there (gone e)))))
     there-in (commit j) l there =

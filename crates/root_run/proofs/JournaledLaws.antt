@@ -33,7 +33,7 @@ use Rattle.root_plan.specs.Roots.{work_folder}
 use Rattle.root_plan.specs.Verdicts.{JudgeView, IsJudge}
 use Rattle.root_plan.specs.Walks.{AreWalked}
 use Rattle.root_run.specs.declared.run_err.RunErr.{RunErr}
-use Rattle.root_run.specs.Cores.{ShowsCore, LeadsTo, SettlesFew}
+use Rattle.root_run.specs.Cores.{ShowsCore, LeadsTo, SettlesFew, is_old_end}
 use Rattle.root_run.specs.Cores.{ShowsCore as shows}
 use Rattle.root_run.specs.Finals.{IsDone}
 use Rattle.root_run.specs.RootRuns.{IsPartwayRun}
@@ -65,7 +65,7 @@ shown-few steps m few = few-by (is_any (m.final 3)) (is_earlier (m.final 3)) (is
 pub shows-few : (start : TreeMap) (root : List ℕ) (s : Settings) (v : JudgeView) (fails : List ℕ → List ℕ → Refusal → Type 0) (t : TreeMap) (c : CoreState)
     → ShowsCore start root (work_folder root) s v fails t c → length c.states ≤ 2 ^ 32
 shows-few start root s v fails t c (shows.by_plan {p} {made} planned partway) =
-    shown-few (steps_of p) (presence (work_folder root) (keys_below t root)) (plan-targets-apart start root s v fails p made planned).jobs
+    shown-few (steps_of p) (presence (is_old_end t (work_folder root)) (work_folder root) (keys_below t root)) (plan-targets-apart start root s v fails p made planned).jobs
 shows-few start root s v fails t c (shows.by_none u none) = lit≤ tt
 
 -- ### The answer of a start
@@ -109,7 +109,7 @@ module _ (start : TreeMap) (root : List ℕ) (s : Settings) (v : JudgeView) (fai
     pub few : settles ≤ rounds_of (length p.jobs) in_flight + 3
     pub hits : List ℕ → Type 0
     pub core : CoreState
-    pub shown : shown_core (steps_of p) (presence (work_folder root) paths) ≡ core
+    pub shown : shown_core (steps_of p) (presence (is_old_end (map_now mid.past) (work_folder root)) (work_folder root) paths) ≡ core
     pub keeps : Keeps (wanted_of start root (work_folder root) p made) core (state_of mid.past)
     pub ended : Result (Unit {0}) JournalErr
     pub ran : FinishRan hits settles (work_folder root) runs core mid new ended
@@ -135,10 +135,12 @@ module _ (start : TreeMap) (root : List ℕ) (s : Settings) (v : JudgeView) (fai
     -- the core that the tree showed is the one that the journal went on from
     core-is : (c : CoreState) → ShowsCore start root (work_folder root) s v fails (map_now old.past) c → c ≡ g.core
     core-is c is =
-        let keys : keys_below (map_now old.past) root ≡ g.paths =
-        ap (λ (t : TreeMap). keys_below t root) (sym (settled_stored old.past g.first_ g.mid.past g.settled g.looks).0) ∙ sym (g.walked.all.are (map_now g.mid.past) refl) in
+        let same : map_now old.past ≡ map_now g.mid.past = sym (settled_stored old.past g.first_ g.mid.past g.settled g.looks).0 in
         shows-one start root (work_folder root) s v fails g.p g.made (map_now old.past) c judge g.planned is
-        ∙ ap (λ (ps : List (List ℕ)). shown_core (steps_of g.p) (presence (work_folder root) ps)) keys ∙ g.shown
+        ∙ ap (λ (t : TreeMap). shown_core (steps_of g.p) (presence (is_old_end t (work_folder root)) (work_folder root) (keys_below t root))) same
+        ∙ ap (λ (ps : List (List ℕ)). shown_core (steps_of g.p) (presence (is_old_end (map_now g.mid.past) (work_folder root)) (work_folder root) ps))
+        (sym (g.walked.all.are (map_now g.mid.past) refl))
+        ∙ g.shown
 
     pub journaled-leads : (c : CoreState) → ShowsCore start root (work_folder root) s v fails (map_now old.past) c → LeadsTo (work_folder root) c old.past new.past result
     journaled-leads c is =

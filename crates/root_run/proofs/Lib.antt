@@ -12,6 +12,7 @@ pub mod TargetLaws
 pub mod PlanLaws
 pub mod GivenLaws
 pub mod FewLaws
+pub mod OldLaws
 pub mod TextLaws
 pub mod SettleLaws
 pub mod StartLaws

@@ -1,8 +1,9 @@
 -- Over a tree that a stop left partway, the texts of the work folder are neither bad nor of another run.
-use Rattle.std.proofs.Common.{◌≡◌, ℕ, ◌≤◌, true, false, inl, inr, ◌⊎◌, List, length, refl, sym, ap, subst, ◌∙◌, le-leb, arith, Result, Ok, Err}
+use Rattle.std.proofs.Common.{◌≡◌, ℕ, ◌≤◌, Bool, true, false, if◌then◌else◌, List, length, refl, sym, ap, subst, ◌∙◌, le-leb, Result, Ok, Err}
 use Rattle.std.specs.Prelude.{Option, Some, None, is_some, IsTrue}
 use Rattle.std.specs.FinMap as fin
 use Rattle.dw_base.specs.declared.fault.Refusal.{Refusal}
+use Rattle.file_tree.specs.declared.node.Found.{Found}
 use Rattle.file_tree.specs.declared.node.Found.TheVariants as found
 use Rattle.file_tree.specs.declared.node.Node.{Node}
 use Rattle.file_tree.specs.declared.node.Node.TheVariants as node
@@ -14,7 +15,6 @@ use Rattle.work_texts.specs.declared.journal_err.JournalErr.{JournalErr}
 use Rattle.work_texts.specs.declared.journal_err.JournalErr.TheVariants as run
 use Rattle.work_texts.specs.declared.journal_err.WorkFile.TheVariants as file
 use Rattle.work_texts.specs.declared.key.RunKey.{RunKey}
-use Rattle.work_texts.specs.declared.plan.FinishedData.{FinishedData}
 use Rattle.work_texts.specs.declared.plan.PlanData.{PlanData}
 use Rattle.work_texts.specs.BadFields.{IsBadAt, PlanBlames, FinishedBlames}
 use Rattle.work_texts.specs.Fields.{text_of, plan_fields, plan_text_fields, finished_fields}
@@ -32,9 +32,11 @@ use Rattle.root_plan.specs.Plans.{key_of}
 use Rattle.root_plan.specs.Roots.{work_folder}
 use Rattle.root_plan.specs.Verdicts.{JudgeView}
 use Rattle.root_run.specs.RootRuns.{IsRootWanted, IsPartwayRun}
-use Rattle.root_run.specs.Wholes.{IsClean, IsRootPlan, wanted_of, finished_of, finished_text}
+use Rattle.root_run.specs.Wholes.{IsClean, IsRootPlan, wanted_of, end_of, finished_text, older_text, old_plan_text, old_finished_text, is_one}
 use Rattle.root_run.proofs.StartLaws.{HasNames, plan-other, finished-other}
-use Rattle.root_run.proofs.TextLaws.{written-plan, written-end, own-plan, own-finished, plan-bytes, finished-bytes, plan-read, finished-read}
+use Rattle.root_run.proofs.OldLaws.{old-plan-shorter, old-end-shorter}
+use Rattle.root_run.proofs.TextLaws.{IsOwn, IsOwnPlan, IsOwnEnd, own-plan, own-finished, own-plan-fits, own-end-fits, own-plan-within, own-end-within, at-most, plan-bytes, finished-bytes, plan-read, finished-read}
+use Rattle.root_run.proofs.TextLaws.{IsOwn as holds}
 use Rattle.root_run.proofs.WaysLaws.{FoundBy, found_plan}
 
 -- ### Answers
@@ -85,63 +87,79 @@ pub file-read : (t : TreeMap) (path bytes : List ℕ) (mode limit : ℕ) → fin
 unfolding stands_at
 file-read t path bytes mode limit there few = rw (there, le-leb (length bytes) limit few) refl
 
-own-read : (t : TreeMap) (path text : List ℕ) → is_some (fin.get t path) ≡ true → length text ≤ text_limit → (fin.get t path ≡ None) ⊎ (fin.get t path ≡ Some (text_file text))
-    → stands_at t path text_limit ≡ found.File text 420
-own-read t path text has short (inl none) = absurd (none-there (fin.get t path) has none)
-own-read t path text has short (inr there) = file-read t path text 420 text_limit there short
+-- one of the allowed length, whoever wrote it
+pub record IsShort (x : Found) : Type 0 where
+  pub bytes : List ℕ
+  pub mode : ℕ
+  pub is : x ≡ found.File bytes mode
 
-text-mild : (seen : Seen) (path text : List ℕ) (e : JournalErr) → seen.tells ≡ true → stands_at (map_now seen.past) path text_limit ≡ found.File text 420 → TextBlames seen path file.Plan e
-    → IsTrue (is_mild_run e)
-text-mild seen path text e tells stands (blames.no_text at none) = absurd (none-some at (ap bad_place (sym stands) ∙ none.is tells))
-text-mild seen path text e tells stands blames.text_fault = refl
-text-mild seen path text e tells stands blames.text_memory = refl
+short-file : (t : TreeMap) (path bytes : List ℕ) → fin.get t path ≡ Some (text_file bytes) → length bytes ≤ text_limit → IsShort (stands_at t path text_limit)
+short-file t path bytes there few = record { bytes = bytes; mode = 420; is = file-read t path bytes 420 text_limit there few }
 
-end-mild : (seen : Seen) (path text : List ℕ) (e : JournalErr) → seen.tells ≡ true → stands_at (map_now seen.past) path text_limit ≡ found.File text 420 → TextBlames seen path file.Finished e
+older-short : (t : TreeMap) (path text : List ℕ) (b : Bool) → is_some (fin.get t path) ≡ true → fin.get t path ≡ (if b then Some (text_file text) else None) → length text ≤ text_limit
+    → IsShort (stands_at t path text_limit)
+older-short t path text true has there few = short-file t path text there few
+older-short t path text false has there few = absurd (none-there (fin.get t path) has there)
+
+own-short : (p : PlanData) (t : TreeMap) (path text old : List ℕ) → is_some (fin.get t path) ≡ true → length text ≤ text_limit → length old ≤ text_limit
+    → IsOwn (text_file text) (older_text p old) (fin.get t path) → IsShort (stands_at t path text_limit)
+own-short p t path text old has short less (holds.not_there none) = absurd (none-there (fin.get t path) has none)
+own-short p t path text old has short less (holds.by_this there) = short-file t path text there short
+own-short p t path text old has short less (holds.by_earlier is) = older-short t path old (is_one p) has is.same less
+
+text-mild : (seen : Seen) (path : List ℕ) (e : JournalErr) → seen.tells ≡ true → IsShort (stands_at (map_now seen.past) path text_limit) → TextBlames seen path file.Plan e
     → IsTrue (is_mild_run e)
-end-mild seen path text e tells stands (blames.no_text at none) = absurd (none-some at (ap bad_place (sym stands) ∙ none.is tells))
-end-mild seen path text e tells stands blames.text_fault = refl
-end-mild seen path text e tells stands blames.text_memory = refl
+text-mild seen path e tells stands (blames.no_text at none) = absurd (none-some at (ap bad_place (sym stands.is) ∙ none.is tells))
+text-mild seen path e tells stands blames.text_fault = refl
+text-mild seen path e tells stands blames.text_memory = refl
+
+end-mild : (seen : Seen) (path : List ℕ) (e : JournalErr) → seen.tells ≡ true → IsShort (stands_at (map_now seen.past) path text_limit) → TextBlames seen path file.Finished e
+    → IsTrue (is_mild_run e)
+end-mild seen path e tells stands (blames.no_text at none) = absurd (none-some at (ap bad_place (sym stands.is) ∙ none.is tells))
+end-mild seen path e tells stands blames.text_fault = refl
+end-mild seen path e tells stands blames.text_memory = refl
 
 -- ### The texts of a run
 
 module _ (start : TreeMap) (root work : List ℕ) (p : PlanData) (made : List (List Node)) (seen : Seen) (tells : seen.tells ≡ true)
     (partway : IsPartway (wanted_of start root work p made) (map_now seen.past)) (fits : IsPlan p) (key : RunKey) (same : p.key ≡ key) where
   module _ (has : is_some (fin.get (map_now seen.past) (work_path work plan)) ≡ true) (short : length (text_of (plan_fields p)) ≤ text_limit) where
-    plan-stands : stands_at (map_now seen.past) (work_path work plan) text_limit ≡ found.File (text_of (plan_fields p)) 420
-    plan-stands = own-read (map_now seen.past) (work_path work plan) (text_of (plan_fields p)) has short (own-plan (wanted_of start root work p made) (map_now seen.past) partway)
+    plan-stands : IsShort (stands_at (map_now seen.past) (work_path work plan) text_limit)
+    plan-stands =
+        own-short p (map_now seen.past) (work_path work plan) (text_of (plan_fields p)) (old_plan_text p) has short
+        (at-most (length (old_plan_text p)) (length (text_of (plan_fields p))) text_limit (old-plan-shorter p) short) (own-plan (wanted_of start root work p made) (map_now seen.past) partway)
 
     plan-never-bad : (bytes : List ℕ) → TextStands seen (work_path work plan) bytes → (at : ℕ) → IsBadAt plan_text_fields IsVersionedPlan bytes at → ⊥
     plan-never-bad bytes stands at bad =
-        let own = plan-bytes start root work p made (map_now seen.past) partway bytes stands.mode (stands.is tells) in
-        no_text plan_text_fields IsVersionedPlan bytes at (record { old = false; plan = p }) bad (written-plan p fits) own (subst (λ (b : List ℕ). length b ≤ text_limit) (sym own) short)
+        let is : IsOwnPlan p bytes = plan-bytes start root work p made (map_now seen.past) partway bytes stands.mode (stands.is tells) in
+        no_text plan_text_fields IsVersionedPlan bytes at (record { old = is.old; plan = p }) bad (own-plan-fits p bytes fits is) is.text (own-plan-within p bytes is short)
 
     pub plan-mild : (r : Result Opened JournalErr) (e : JournalErr) → PlanKept seen (work_path work plan) key r → r ≡ err_of e → IsTrue (is_mild_run e)
     plan-mild r e (plan_kept.plan_read bytes x stands text is) h = absurd (no-ok _ e h)
-    plan-mild r e (plan_kept.plan_not_there {e = d} b) h = mild-as d e h (text-mild seen (work_path work plan) (text_of (plan_fields p)) d tells plan-stands b)
+    plan-mild r e (plan_kept.plan_not_there {e = d} b) h = mild-as d e h (text-mild seen (work_path work plan) d tells plan-stands b)
     plan-mild r e (plan_kept.plan_bad {e = d} bytes stands b) h = mild-as d e h (plan-blames-mild bytes d (plan-never-bad bytes stands) b)
     plan-mild r e (plan_kept.plan_other {e = d} bytes x stands text b) h =
         let own : x ≡ p = plan-read start root work p made (map_now seen.past) partway bytes stands.mode x fits (stands.is tells) text in
         absurd (own-key x.key key d (ap (λ (y : PlanData). y.key) own ∙ same) b)
 
   module _ (has : is_some (fin.get (map_now seen.past) (work_path work (final 3))) ≡ true) (short : length (finished_text p) ≤ text_limit) where
-    finished-fits : IsFinished (finished_of p)
-    finished-fits = written-end p fits
-
-    finished-stands : stands_at (map_now seen.past) (work_path work (final 3)) text_limit ≡ found.File (finished_text p) 420
-    finished-stands = own-read (map_now seen.past) (work_path work (final 3)) (finished_text p) has short (own-finished (wanted_of start root work p made) (map_now seen.past) partway)
+    finished-stands : IsShort (stands_at (map_now seen.past) (work_path work (final 3)) text_limit)
+    finished-stands =
+        own-short p (map_now seen.past) (work_path work (final 3)) (finished_text p) (old_finished_text p) has short
+        (at-most (length (old_finished_text p)) (length (finished_text p)) text_limit (old-end-shorter p) short) (own-finished (wanted_of start root work p made) (map_now seen.past) partway)
 
     finished-never-bad : (bytes : List ℕ) → TextStands seen (work_path work (final 3)) bytes → (at : ℕ) → IsBadAt finished_fields IsFinished bytes at → ⊥
     finished-never-bad bytes stands at bad =
-        let own = finished-bytes start root work p made (map_now seen.past) partway bytes stands.mode (stands.is tells) in
-        no_text finished_fields IsFinished bytes at (finished_of p) bad finished-fits own (subst (λ (b : List ℕ). length b ≤ text_limit) (sym own) short)
+        let is : IsOwnEnd p bytes = finished-bytes start root work p made (map_now seen.past) partway bytes stands.mode (stands.is tells) in
+        no_text finished_fields IsFinished bytes at (end_of is.old p) bad (own-end-fits p bytes fits is) is.text (own-end-within p bytes is short)
 
     pub finished-mild : (r : Result Opened JournalErr) (e : JournalErr) → FinishedKept seen (work_path work (final 3)) key r → r ≡ err_of e → IsTrue (is_mild_run e)
     finished-mild r e (finished_kept.finished_read bytes x stands text is) h = absurd (no-ok _ e h)
-    finished-mild r e (finished_kept.finished_not_there {e = d} b) h = mild-as d e h (end-mild seen (work_path work (final 3)) (finished_text p) d tells finished-stands b)
+    finished-mild r e (finished_kept.finished_not_there {e = d} b) h = mild-as d e h (end-mild seen (work_path work (final 3)) d tells finished-stands b)
     finished-mild r e (finished_kept.finished_bad {e = d} bytes stands b) h = mild-as d e h (finished-blames-mild bytes d (finished-never-bad bytes stands) b)
     finished-mild r e (finished_kept.finished_other {e = d} bytes x stands text b) h =
-        let own : x ≡ finished_of p = finished-read start root work p made (map_now seen.past) partway bytes stands.mode x finished-fits (stands.is tells) text in
-        absurd (own-key x.key key d (ap (λ (y : FinishedData). y.key) own ∙ same) b)
+        let own = finished-read start root work p made (map_now seen.past) partway bytes stands.mode x fits (stands.is tells) text in
+        absurd (own-key x.key key d (own.1 ∙ same) b)
 
 -- ### Opening a work folder
 
@@ -166,10 +184,7 @@ module _ (start : TreeMap) (root : List ℕ) (s : Settings) (v : JudgeView) (fai
       → FinishedKept seen (work_path (work_folder root) (final 3)) (key_of s) r → r ≡ err_of e → IsTrue (is_mild_run e)
   finished-by r e has f kept h =
       finished-mild start root (work_folder root) f.is.plan f.is.made seen tells (subst (λ (x : Wanted). IsPartway x (map_now seen.past)) f.is.is f.partway)
-      (fit f.is.plan f.is.made f.is.planned) (key_of s) (root-key f.is.plan f.is.made f.is.planned) has (at-most (length (finished_text f.is.plan)) (length (text_of (plan_fields f.is.plan))) (shorter f.is.plan) f.is.planned.plan_is.within) r e kept h
-    where
-      at-most : (a b : ℕ) → a ≤ b → b ≤ text_limit → a ≤ text_limit
-      at-most a b x y = omega (arith, x, y)
+      (fit f.is.plan f.is.made f.is.planned) (key_of s) (root-key f.is.plan f.is.made f.is.planned) has (at-most (length (finished_text f.is.plan)) (length (text_of (plan_fields f.is.plan))) text_limit (shorter f.is.plan) f.is.planned.plan_is.within) r e kept h
 
   opens-by : (r : Result Opened JournalErr) (e : JournalErr) → Opens (work_folder root) paths (key_of s) seen r → r ≡ err_of e → IsTrue (is_mild_run e)
   opens-by r e opens.opens_memory h = mild-as run.NoMemory e h refl

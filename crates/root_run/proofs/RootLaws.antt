@@ -24,7 +24,7 @@ use Rattle.root_run.specs.Wholes.{IsClean, IsRootPlan, wanted_of, steps_of}
 use Rattle.root_run.specs.Partways.{IsUnstarted, HasEnded}
 use Rattle.root_run.specs.RootRuns.{IsRootWanted}
 use Rattle.root_run.specs.Finals.{IsFinalRun}
-use Rattle.root_run.specs.Cores.{ShowsCore}
+use Rattle.root_run.specs.Cores.{ShowsCore, is_old_end}
 use Rattle.root_run.specs.Cores.{ShowsCore as shows}
 use Rattle.root_run.proofs.BeforeLaws.{plan-before, outside-candidate}
 use Rattle.root_run.proofs.KeysLaws.{keys-order}
@@ -83,7 +83,7 @@ module _ (start : TreeMap) (root work : List ℕ) (s : Settings) (v : JudgeView)
 
   -- so all cores that a tree shows are one, by each plan
   pub shows-one : (p : PlanData) (made : List (List Node)) (t : TreeMap) (c : CoreState) → IsJudge v → IsRootPlan start root s v fails p made
-      → ShowsCore start root work s v fails t c → c ≡ shown_core (steps_of p) (presence work (keys_below t root))
+      → ShowsCore start root work s v fails t c → c ≡ shown_core (steps_of p) (presence (is_old_end t work) work (keys_below t root))
   shows-one p made t c judge planned (shows.by_plan {p = q} {made = other} is partway) =
-      ap (λ (jobs : List JobLine). shown_core (map (λ (job : JobLine). length (targets_of job)) jobs) (presence work (keys_below t root))) (same-jobs q p other made judge is planned).0
+      ap (λ (jobs : List JobLine). shown_core (map (λ (job : JobLine). length (targets_of job)) jobs) (presence (is_old_end t work) work (keys_below t root))) (same-jobs q p other made judge is planned).0
   shows-one p made t c judge planned (shows.by_none u none) = absurd (none p made planned)

@@ -1,5 +1,5 @@
 -- A whole start over a build root, on each of the three ways in: at every moment of it a stop leaves the run partway, and at `Ok` it is done.
-use Rattle.std.proofs.Common.{◌≡◌, ℕ, ◌+◌, ◌≤◌, ◌^◌, true, false, List, length, refl, sym, ap, subst, ◌∙◌, arith, Result, Ok, Err}
+use Rattle.std.proofs.Common.{◌≡◌, ℕ, ◌+◌, ◌≤◌, ◌^◌, Bool, true, false, List, length, refl, sym, ap, subst, ◌∙◌, arith, Result, Ok, Err}
 use Rattle.std.specs.Prelude.{Some, OnOk}
 use Rattle.dw_base.specs.Layout.{file_limit}
 use Rattle.dw_base.specs.Paths.{IsPathMap}
@@ -14,9 +14,10 @@ use Rattle.file_tree.specs.Trees.{TreeMap, keys_below}
 use Rattle.job_types.specs.Settings.{HasKey, Settings, IsWithin}
 use Rattle.journal_core.specs.declared.event.Event.TheVariants.{Settle}
 use Rattle.journal_core.specs.declared.event.Phase.TheVariants.{Closed}
+use Rattle.journal_core.specs.Marks.{is_earlier}
 use Rattle.journal_core.specs.Names.{plan, final}
 use Rattle.journal_core.specs.Starts.{shown_states}
-use Rattle.journal_core.specs.Table.{CoreState, after, closed_core, new_core, resumed_core}
+use Rattle.journal_core.specs.Table.{CoreState, after, new_core, resumed_core}
 use Rattle.work_texts.specs.declared.journal_err.JournalErr.{JournalErr}
 use Rattle.work_texts.specs.declared.plan.JobLine.{JobLine}
 use Rattle.work_texts.specs.declared.plan.PlanData.{PlanData}
@@ -36,12 +37,13 @@ use Rattle.root_plan.specs.Roots.{work_folder}
 use Rattle.root_plan.specs.Verdicts.{JudgeView, IsJudge}
 use Rattle.root_plan.specs.Walks.{AreWalked}
 use Rattle.root_run.specs.Begun.{Begun as begun}
-use Rattle.root_run.specs.Cores.{LeadsTo, SettlesFew}
+use Rattle.root_run.specs.Cores.{LeadsTo, SettlesFew, is_old_end}
 use Rattle.root_run.specs.Finals.{IsFinalRun, IsDone}
 use Rattle.root_run.specs.RootRuns.{IsRootWanted, IsPartwayRun}
 use Rattle.root_run.specs.Wholes.{IsClean, IsRootPlan, wanted_of, steps_of, lists_of, finished_text}
 use Rattle.root_run.proofs.GivenLaws.{wanted-given}
 use Rattle.root_run.proofs.KeysLaws.{keys-order, keys-have, root-below, work-below}
+use Rattle.root_run.proofs.OldLaws.{marked-old}
 use Rattle.root_run.proofs.PlanLaws.{run-fits}
 use Rattle.root_run.proofs.RootLaws.{HasRootPlan, root-planned, plan-wanted, plan-final, same-jobs}
 use Rattle.root_run.proofs.StartLaws.{HasNames, way-finished, way-resumed, way-unstarted, way-fresh, settled-partway, start-leaves}
@@ -49,7 +51,7 @@ use Rattle.root_run.proofs.BegunLaws.{settled_stored}
 use Rattle.root_run.proofs.CoreLaws.{begun-stays, leads}
 use Rattle.root_run.proofs.SettleLaws.{settled-once}
 use Rattle.root_run.proofs.WantedLaws.{wanted_run}
-use Rattle.root_run.proofs.WaysLaws.{run-ended}
+use Rattle.root_run.proofs.WaysLaws.{over_core, run-ended}
 
 closed-by : {A E : Type 0} (r : Result A E) (c d : CoreState) → OnOk r (c ≡ d) → OnOk r (d.phase ≡ Closed) → OnOk r (c.phase ≡ Closed)
 closed-by (Ok a) c d same closed = ap (λ (x : CoreState). x.phase) same ∙ closed
@@ -70,6 +72,12 @@ module _ (start : TreeMap) (root : List ℕ) (s : Settings) (v : JudgeView) (fai
 
   root-starts : (w : Wanted) → Root w → w.start ≡ start
   root-starts w is = ap (λ (x : Wanted). x.start) is.is
+
+  -- its finished text is an earlier program's where its mark says so
+  root-old : (w : Wanted) → Root w → (t : TreeMap) (p : IsPartway w t) → is_earlier (p.marking.final 3) ≡ is_old_end t (work_folder root)
+  root-old w is =
+      subst (λ (x : Wanted). (t : TreeMap) (p : IsPartway x t) → is_earlier (p.marking.final 3) ≡ is_old_end t (work_folder root)) (sym is.is)
+      (marked-old start root (work_folder root) is.plan is.made)
 
   pub root-names : (t : TreeMap) (paths : List (List ℕ)) → AreWalked (Some t) root paths → HasNames (work_folder root) t paths
   root-names t paths walked = subst (HasNames (work_folder root) t) (sym (walked.all.are t refl))
@@ -115,18 +123,20 @@ module _ (start : TreeMap) (root : List ℕ) (s : Settings) (v : JudgeView) (fai
     partway-now : IsPartwayRun start root (work_folder root) s v fails (map_now mid.past)
     partway-now = settled-partway start (work_folder root) Root clean.none_below root-fits root-starts old first_ mid.past images settled looks
 
-    -- a finished text
-    pub finished-found : has_path paths (work_path (work_folder root) (final 3)) ≡ true → FoundRoot (λ w. closed_core) mid
+    -- a finished text, of this program or of an earlier one
+    pub finished-found : has_path paths (work_path (work_folder root) (final 3)) ≡ true → FoundRoot (λ w. over_core (is_old_end (map_now mid.past) (work_folder root))) mid
     finished-found has =
-        let f = way-finished start (work_folder root) Root clean.none_below root-fits root-starts mid paths partway-now (settled_stored old first_ mid.past settled looks).1 (root-names (map_now mid.past) paths walked) has in
-        found-by (λ w. closed_core) mid f.w f.is f.partway f.keeps
+        let earlier : Bool = is_old_end (map_now mid.past) (work_folder root) in
+        let f = way-finished start (work_folder root) Root clean.none_below root-fits root-starts mid paths partway-now (settled_stored old first_ mid.past settled looks).1 (root-names (map_now mid.past) paths walked)
+        earlier (λ w is p. root-old w is (map_now mid.past) p) has in
+        found-by (λ w. over_core earlier) mid f.w f.is f.partway f.keeps
 
     -- a plan
     pub resumed-found : has_path paths (work_path (work_folder root) (final 3)) ≡ false → has_path paths (work_path (work_folder root) plan) ≡ true
-        → FoundRoot (λ w. resumed_core w.steps (shown_states w.steps (presence (work_folder root) paths))) mid
+        → FoundRoot (λ w. resumed_core w.steps (shown_states w.steps (presence false (work_folder root) paths))) mid
     resumed-found none has =
         let f = way-resumed start (work_folder root) Root clean.none_below root-fits root-starts mid paths partway-now (settled_stored old first_ mid.past settled looks).1 (root-names (map_now mid.past) paths walked) none has in
-        found-by (λ w. resumed_core w.steps (shown_states w.steps (presence (work_folder root) paths))) mid f.w f.is f.partway f.keeps
+        found-by (λ w. resumed_core w.steps (shown_states w.steps (presence false (work_folder root) paths))) mid f.w f.is f.partway f.keeps
 
     -- neither: a plan that is made now is one of the root before the run, and its core agrees with the tree
     pub fresh-found : has_path paths (work_path (work_folder root) (final 3)) ≡ false → has_path paths (work_path (work_folder root) plan) ≡ false → s.max_file ≤ file_limit → IsJudge v

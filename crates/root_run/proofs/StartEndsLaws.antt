@@ -1,18 +1,19 @@
 -- Why a start of a run ends without a report, and that what it answers was due.
 use Rattle.std.proofs.Common.{◌≡◌, ℕ, ◌≤◌, Bool, true, false, if◌then◌else◌, List, refl, sym, ap, subst, ◌∙◌, inl, ◌⊎◌, Result, Ok, Err, IfErr, arith}
-use Rattle.std.specs.Prelude.{Option, Some, None}
+use Rattle.std.specs.Prelude.{Option, Some, None, ⊤}
 use Rattle.dw_base.specs.Layout.{file_limit}
 use Rattle.dw_base.specs.declared.fault.Refusal.{Refusal}
 use Rattle.file_tree.specs.Seen.{Seen, now_of, map_now}
 use Rattle.file_tree.specs.Trees.{TreeMap}
 use Rattle.job_types.specs.Settings.{Settings}
-use Rattle.journal_core.specs.Table.{CoreState}
+use Rattle.journal_core.specs.Table.{CoreState, closed_core, old_core}
 use Rattle.work_texts.specs.declared.journal_err.JournalErr.{JournalErr}
 use Rattle.work_texts.specs.declared.journal_err.JournalErr.TheVariants as journal
 use Rattle.work_texts.specs.declared.plan.PlanData.{PlanData}
 use Rattle.work_journal.specs.declared.opening.Opened.{Opened}
 use Rattle.work_journal.specs.declared.opening.Opened.TheVariants as opened
 use Rattle.work_journal.specs.Opening.{Opens}
+use Rattle.work_journal.specs.Wanted.{Wanted}
 use Rattle.root_plan.specs.Looks.{Looked}
 use Rattle.root_plan.specs.Plans.{IsPlanOf, key_of}
 use Rattle.root_plan.specs.Roots.{work_folder}
@@ -23,8 +24,8 @@ use Rattle.root_run.specs.declared.run_err.RunErr.TheVariants as run
 use Rattle.root_run.specs.Dues.{RunDue, RunCut}
 use Rattle.root_run.specs.RunEnds.{IsSame, RunEnds, status_of}
 use Rattle.root_run.specs.RunEnds.{RunEnds as run_ends}
-use Rattle.root_run.specs.Starts.{IsEarly, EarlyEnds, HasOpened, ClearEnded, ClearRan, PlanRan, PlanWent, OpenedWent, StartRan, report_of}
-use Rattle.root_run.specs.Starts.{EarlyEnds as early_ends, PlanWent as plan_went, OpenedWent as went, StartRan as start}
+use Rattle.root_run.specs.Starts.{IsEarly, EarlyEnds, HasOpened, IsEndRun, ClearEnded, ClearRan, PlanRan, PlanWent, OpenedWent, StartRan, report_of}
+use Rattle.root_run.specs.Starts.{EarlyEnds as early_ends, ClearEnded as over, PlanWent as plan_went, OpenedWent as went, StartRan as start}
 use Rattle.root_run.proofs.DueLaws.{ends-due, due-exact, resumed-due, finished-due, planned-due}
 use Rattle.root_run.proofs.EndsLaws.{opens-move, mild-ends, walking-ends, opening-ends, planning-ends, resumed-ends, fresh-ends}
 
@@ -73,14 +74,17 @@ module _ (root : List ℕ) (s : Settings) (v : JudgeView) (fails : List ℕ → 
   -- ### By what the work folder holds
 
   module _ (old mid new : Seen) (paths : List (List ℕ)) (same : IsSame old mid) (walked : AreWalked (now_of old) root paths) where
-    clear-ended : (report : List ℕ) (result : Result (List ℕ) RunErr) → ClearEnded (work_folder root) report mid new result → IfErr result (Ends old new)
-    clear-ended report result h = by-end h.journal_end h.ran h.answer
-      where
-        by-end : (r : Result (Unit {0}) JournalErr) → ClearRan (work_folder root) mid new r → result ≡ report_of r report → IfErr result (Ends old new)
-        by-end (Ok u) ran is = rw is tt
-        by-end (Err e) ran is =
-            at-err result (run.Journal e) (Ends old new) is
-            (mild-ends root (work_folder root) s v fails edit_fails split_fails old mid new e same.later (λ f. ran.ran.came.failed (fault-of e f)) ran.mild)
+    cleared-ended : (report : List ℕ) (result : Result (List ℕ) RunErr) (may : Wanted → Type 0) (n : ℕ) (c : CoreState) (r : Result (Unit {0}) JournalErr)
+        → ClearRan (work_folder root) may n c mid new r → result ≡ report_of r report → IfErr result (Ends old new)
+    cleared-ended report result may n c (Ok u) ran is = rw is tt
+    cleared-ended report result may n c (Err e) ran is =
+        at-err result (run.Journal e) (Ends old new) is
+        (mild-ends root (work_folder root) s v fails edit_fails split_fails old mid new e same.later (λ f. ran.ran.came.failed (fault-of e f)) ran.mild)
+
+    over-ended : (report : List ℕ) (earlier : Bool) (result : Result (List ℕ) RunErr) → ClearEnded (work_folder root) (key_of s) report mid new result earlier → IfErr result (Ends old new)
+    over-ended report earlier result (over.no_text none is) = at-err result (run.Journal journal.NoMemory) (Ends old new) is run_ends.no_memory
+    over-ended report earlier result (over.renewed r ran is) = cleared-ended report result (IsEndRun (key_of s) report) 2 old_core r ran is
+    over-ended report earlier result (over.cleared r ran is) = cleared-ended report result (λ w. ⊤) 1 closed_core r ran is
 
     resumed-ended : (p : PlanData) (c : CoreState) (result : Result (List ℕ) RunErr) → Opens (work_folder root) paths (key_of s) old (Ok (opened.Resumed p))
         → PlanWent root (work_folder root) v edit_fails split_fails p in_flight c mid new result → IfErr result (Ends old new)
@@ -106,7 +110,7 @@ module _ (root : List ℕ) (s : Settings) (v : JudgeView) (fails : List ℕ → 
 
   opened-ended : (old mid new : Seen) (paths : List (List ℕ)) (o : Opened) (result : Result (List ℕ) RunErr) → HasOpened root s paths o old mid
       → OpenedWent root (work_folder root) s v fails edit_fails split_fails in_flight paths mid new result o → IfErr result (Ends old new)
-  opened-ended old mid new paths o result has (went.finished {report} ended) = clear-ended old mid new paths (same-mid old mid paths o has) has.walked report result ended
+  opened-ended old mid new paths o result has (went.finished {report} {earlier} ended) = over-ended old mid new paths (same-mid old mid paths o has) has.walked report earlier result ended
   opened-ended old mid new paths o result has (went.resumed {p} ran) = resumed-ended old mid new paths (same-mid old mid paths o has) has.walked p _ result (opens-old old mid paths o has) ran
   opened-ended old mid new paths o result has (went.unplanned e looked ended is) =
       at-err result (run.Plan e) (Ends old new) is
@@ -126,8 +130,8 @@ module _ (root : List ℕ) (s : Settings) (v : JudgeView) (fails : List ℕ → 
   module _ (t : TreeMap) (old : Seen) (here : now_of old ≡ Some t) (tells : old.tells ≡ true) where
     opened-due : (mid new : Seen) (paths : List (List ℕ)) (o : Opened) (report : List ℕ) (result : Result (List ℕ) RunErr) → HasOpened root s paths o old mid
         → OpenedWent root (work_folder root) s v fails edit_fails split_fails in_flight paths mid new result o → result ≡ Ok report → RunDue root (work_folder root) s v fails t 0
-    opened-due mid new paths o report result has (went.finished {report = kept} ended) ok =
-        finished-due root (work_folder root) s v fails t old here paths has.walked tells kept (opens-old old mid paths o has)
+    opened-due mid new paths o report result has (went.finished {report = kept} {earlier = earlier} ended) ok =
+        finished-due root (work_folder root) s v fails t old here paths has.walked tells kept earlier (opens-old old mid paths o has)
     opened-due mid new paths o report result has (went.resumed {p} ran) ok =
         resumed-due root (work_folder root) s v fails t old here paths has.walked tells p (opens-old old mid paths o has)
     opened-due mid new paths o report result has (went.unplanned e looked ended is) ok = absurd (ok-not-err report (run.Plan e) (sym ok ∙ is))

@@ -15,11 +15,11 @@ use Rattle.file_tree.specs.Moments.{LooksOnly}
 use Rattle.file_tree.proofs.ImageLaws.{image_now}
 use Rattle.file_tree.proofs.MomentLaws.{spans_join}
 use Rattle.journal_core.specs.Names.{Name, IsName, plan_new, plan, temp, commit, fresh, final, target}
-use Rattle.journal_core.specs.Marks.{Mark, Marking, absent, first, whole, any, earlier, is_own}
+use Rattle.journal_core.specs.Marks.{Mark, Marking, absent, first, whole, any, earlier, is_own, is_earlier}
 use Rattle.journal_core.specs.Shapes.{HasShape, IsUnplanned}
 use Rattle.journal_core.specs.Shapes.{HasShape as shape}
 use Rattle.journal_core.specs.Starts.{shown_states}
-use Rattle.journal_core.specs.Table.{CoreState, closed_core, new_core, resumed_core}
+use Rattle.journal_core.specs.Table.{CoreState, new_core, resumed_core}
 use Rattle.work_texts.specs.declared.journal_err.JournalErr.{JournalErr}
 use Rattle.work_journal.specs.Finishing.{FinishRan}
 use Rattle.work_journal.specs.Keeps.{Keeps}
@@ -33,7 +33,7 @@ use Rattle.root_run.specs.Begun.{Begun as begun}
 use Rattle.root_run.specs.Partways.{IsUnstarted, IsPartwayBy}
 use Rattle.root_run.specs.Partways.{IsPartwayBy as way}
 use Rattle.root_run.proofs.BegunLaws.{begun_leaves, settled_stored}
-use Rattle.root_run.proofs.WaysLaws.{found_plan, new-keeps, resumed-keeps, finished-keeps, run-leaves}
+use Rattle.root_run.proofs.WaysLaws.{found_plan, over_core, new-keeps, resumed-keeps, over-keeps, run-leaves}
 
 -- ### Nodes that aren't two
 
@@ -100,32 +100,36 @@ one-entry a b never = one-by a b (entry_same a b) refl never
 
 -- ### A tree without a plan
 
-absent-has : (x : Mark) (was : Option Node) (n : Node) (o : Option Node) → x ≡ absent → MarkHas x was n o → o ≡ None
-absent-has x was n o e has = subst (λ (y : Mark). MarkHas y was n o) e has
+absent-has : (x : Mark) (was : Option Node) (n : Node) (older o : Option Node) → x ≡ absent → MarkHas x was n older o → o ≡ None
+absent-has x was n older o e has = subst (λ (y : Mark). MarkHas y was n older o) e has
 
-first-has : (x : Mark) (was : Option Node) (n : Node) (o : Option Node) → x ≡ first → MarkHas x was n o → o ≡ was
-first-has x was n o e has = subst (λ (y : Mark). MarkHas y was n o) e has
+first-has : (x : Mark) (was : Option Node) (n : Node) (older o : Option Node) → x ≡ first → MarkHas x was n older o → o ≡ was
+first-has x was n older o e has = subst (λ (y : Mark). MarkHas y was n older o) e has
 
-whole-has : (x : Mark) (was : Option Node) (n : Node) (o : Option Node) → x ≡ whole → MarkHas x was n o → o ≡ Some n
-whole-has x was n o e has = subst (λ (y : Mark). MarkHas y was n o) e has
-
-own-has : (x : Mark) (was : Option Node) (n : Node) (o : Option Node) → IsTrue (is_own x) → MarkHas x was n o → o ≡ Some n
-own-has absent was n o e has = cc
-own-has first was n o e has = cc
-own-has whole was n o e has = has
-own-has any was n o e has = cc
-own-has earlier was n o e has = absurd has
-
-none-some : (n : Node) (o : Option Node) → o ≡ Some n → o ≡ None → ⊥
+none-some : (n : Node) (o : Option Node) → o ≡ Some n → o ≢ None
 none-some n o e f = absurd-some (sym e ∙ f)
   where
     absurd-some : Some n ≡ None → ⊥
     absurd-some g = cc
 
+-- the run's own content is there, whichever program wrote it
+own-has : (x : Mark) (was : Option Node) (n : Node) (older o : Option Node) → IsTrue (is_own x) → MarkHas x was n older o → o ≢ None
+own-has absent was n older o e has = cc
+own-has first was n older o e has = cc
+own-has whole was n older o e has = none-some n o has
+own-has any was n older o e has = cc
+own-has earlier was n older o e has = has.some
+
+whole-own : (x : Mark) → x ≡ whole → IsTrue (is_own x)
+whole-own x e = rw e refl
+
+earlier-own : (x : Mark) → x ≡ earlier → IsTrue (is_own x)
+earlier-own x e = rw e refl
+
 module _ (w : Wanted) (given : IsGiven w w.work) (t : TreeMap) where
-  gone : (n : Name) (x : Mark) → IsTrue (is_below w.work (path_of w n)) → x ≡ absent → MarkHas x (fin.get w.start (path_of w n)) (w.node n) (fin.get t (path_of w n))
+  gone : (n : Name) (x : Mark) → IsTrue (is_below w.work (path_of w n)) → x ≡ absent → MarkHas x (fin.get w.start (path_of w n)) (w.node n) (w.older n) (fin.get t (path_of w n))
       → fin.get t (path_of w n) ≡ fin.get w.start (path_of w n)
-  gone n x below e has = absent-has x (fin.get w.start (path_of w n)) (w.node n) (fin.get t (path_of w n)) e has ∙ sym (given.is_work.clean (path_of w n) below)
+  gone n x below e has = absent-has x (fin.get w.start (path_of w n)) (w.node n) (w.older n) (fin.get t (path_of w n)) e has ∙ sym (given.is_work.clean (path_of w n) below)
 
   module _ (m : Marking) (h : IsUnplanned w.steps m) (has : Has w m t) where
     name-same : (n : Name) → IsName w.steps n → path_of w n ≢ work_path w.work plan_new → fin.get t (path_of w n) ≡ fin.get w.start (path_of w n)
@@ -136,21 +140,20 @@ module _ (w : Wanted) (given : IsGiven w w.work) (t : TreeMap) where
     name-same (fresh i) is other = gone (fresh i) (m.fresh i) (is_work_path w.work (fresh i)) (h.rest.fresh i is) (has.named (fresh i) is)
     name-same (final i) is other = gone (final i) (m.final i) (is_work_path w.work (final i)) (h.rest.final i is) (has.named (final i) is)
     name-same (target j k) is other =
-        first-has (m.target j k) (fin.get w.start (path_of w (target j k))) (w.node (target j k)) (fin.get t (path_of w (target j k))) (h.rest.target j k is) (has.named (target j k) is)
+        first-has (m.target j k) (fin.get w.start (path_of w (target j k))) (w.node (target j k)) (w.older (target j k)) (fin.get t (path_of w (target j k))) (h.rest.target j k is) (has.named (target j k) is)
 
     unplanned-same : (q : List ℕ) → q ≢ work_path w.work plan_new → fin.get t q ≡ fin.get w.start q
     unplanned-same q other = one-entry (fin.get t q) (fin.get w.start q) (λ differ. differ (has.others q (λ n is e. differ (subst (λ (x : List ℕ). fin.get t x ≡ fin.get w.start x) (sym e)
         (name-same n is (λ f. other (e ∙ f)))))))
 
+  own-there : (n : Name) (x : Mark) → IsTrue (is_own x) → MarkHas x (fin.get w.start (path_of w n)) (w.node n) (w.older n) (fin.get t (path_of w n)) → fin.get t (path_of w n) ≢ None
+  own-there n x own has = own-has x (fin.get w.start (path_of w n)) (w.node n) (w.older n) (fin.get t (path_of w n)) own has
+
   shape-unstarted : (m : Marking) → HasShape w.steps m → Has w m t → fin.get t (work_path w.work plan) ≡ None → fin.get t (work_path w.work (final 3)) ≡ None → IsUnstarted w.start w.work t
   shape-unstarted m (shape.unplanned h) has none other = record { others = unplanned-same m h has }
-  shape-unstarted m (shape.underway h) has none other =
-      absurd (none-some (w.node plan) (fin.get t (work_path w.work plan)) (own-has m.plan (fin.get w.start (work_path w.work plan)) (w.node plan) (fin.get t (work_path w.work plan)) h.plan (has.named plan tt)) none)
-  shape-unstarted m (shape.finished h) has none other =
-      absurd (none-some (w.node (final 3)) (fin.get t (work_path w.work (final 3)))
-      (whole-has (m.final 3) (fin.get w.start (work_path w.work (final 3))) (w.node (final 3)) (fin.get t (work_path w.work (final 3))) (h.final 3 (omega arith)) (has.named (final 3) (omega arith))) other)
-  shape-unstarted m (shape.old h) has none other =
-      absurd (subst (λ (x : Mark). MarkHas x (fin.get w.start (work_path w.work (final 3))) (w.node (final 3)) (fin.get t (work_path w.work (final 3)))) h.finished (has.named (final 3) (omega arith)))
+  shape-unstarted m (shape.underway h) has none other = absurd (own-there plan m.plan h.plan (has.named plan tt) none)
+  shape-unstarted m (shape.finished h) has none other = absurd (own-there (final 3) (m.final 3) (whole-own (m.final 3) (h.final 3 (omega arith))) (has.named (final 3) (omega arith)) other)
+  shape-unstarted m (shape.old h) has none other = absurd (own-there (final 3) (m.final 3) (earlier-own (m.final 3) h.finished) (has.named (final 3) (omega arith)) other)
 
   -- a tree partway that has neither a plan nor a finished text isn't planned yet
   pub unstarted : IsPartway w t → fin.get t (work_path w.work plan) ≡ None → fin.get t (work_path w.work (final 3)) ≡ None → IsUnstarted w.start w.work t
@@ -195,27 +198,28 @@ module _ (start : TreeMap) (work : List ℕ) (may : Wanted → Type 0) (clean : 
     has-own : (w : Wanted) → may w → (n : Name) (b : Bool) → has_path paths (work_path work n) ≡ b → has_path paths (work_path w.work n) ≡ b
     has-own w is n b e = subst (λ (k : List ℕ). has_path paths (work_path k n) ≡ b) (sym (fits w is).work_is) e
 
-    -- a finished text: the run is over
-    pub way-finished : has_path paths (work_path work (final 3)) ≡ true → Found (λ w. closed_core) mid
-    way-finished has =
+    -- a finished text: the run is over, by whether an earlier program wrote it
+    pub way-finished : (old : Bool) → ((w : Wanted) → may w → (p : IsPartway w (map_now mid.past)) → is_earlier (p.marking.final 3) ≡ old)
+        → has_path paths (work_path work (final 3)) ≡ true → Found (λ w. over_core old) mid
+    way-finished old olds has =
         let f = found_plan start work may (map_now mid.past) (final 3) clean (finished-other work) (sym (names.named (final 3)) ∙ has) partway in
         record {
           w = f.w;
           is = f.is;
           partway = f.partway;
-          keeps = finished-keeps f.w (own-given f.w f.is) mid paths f.partway settled (present-of f.w f.is (map_now mid.past) paths names) (has-own f.w f.is (final 3) true has);
+          keeps = over-keeps f.w (own-given f.w f.is) mid paths f.partway old (olds f.w f.is f.partway) settled (present-of f.w f.is (map_now mid.past) paths names) (has-own f.w f.is (final 3) true has);
         }
 
     -- a plan: the run goes on where it was
     pub way-resumed : has_path paths (work_path work (final 3)) ≡ false → has_path paths (work_path work plan) ≡ true
-        → Found (λ w. resumed_core w.steps (shown_states w.steps (presence work paths))) mid
+        → Found (λ w. resumed_core w.steps (shown_states w.steps (presence false work paths))) mid
     way-resumed none has =
         let f = found_plan start work may (map_now mid.past) plan clean (plan-other work) (sym (names.named plan) ∙ has) partway in
         record {
           w = f.w;
           is = f.is;
           partway = f.partway;
-          keeps = subst (λ (k : List ℕ). Keeps f.w (resumed_core f.w.steps (shown_states f.w.steps (presence k paths))) (state_of mid.past)) (fits f.w f.is).work_is
+          keeps = subst (λ (k : List ℕ). Keeps f.w (resumed_core f.w.steps (shown_states f.w.steps (presence false k paths))) (state_of mid.past)) (fits f.w f.is).work_is
               (resumed-keeps f.w (own-given f.w f.is) mid paths f.partway settled (present-of f.w f.is (map_now mid.past) paths names) (has-own f.w f.is (final 3) false none) (has-own f.w f.is plan true has));
         }
 

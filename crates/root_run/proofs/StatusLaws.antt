@@ -203,7 +203,7 @@ kept-text seen path key r e (plan_kept.plan_bad {e = d} bytes stands b) h hard =
 kept-text seen path key r e (plan_kept.plan_other {e = d} bytes p stands is b) h hard = as-err d e h (key-text p.key key d e h hard b)
 
 ended-text : (seen : Seen) (path : List ℕ) (key : RunKey) (r : Result Opened JournalErr) (e : JournalErr) → FinishedKept seen path key r → r ≡ err_of e → is_mild_run e ≡ false → is_of_text e ≡ true
-ended-text seen path key r e (finished_kept.finished_read bytes d stands is same) h hard = absurd (no-ok (opened.Finished d.report) e h)
+ended-text seen path key r e (finished_kept.finished_read bytes d stands is same) h hard = absurd (no-ok (opened.Finished d.report d.old) e h)
 ended-text seen path key r e (finished_kept.finished_not_there {e = d} b) h hard = as-err d e h (there-text seen path _ d e h hard b)
 ended-text seen path key r e (finished_kept.finished_bad {e = d} bytes stands b) h hard = as-err d e h (finished-text bytes d e h hard b)
 ended-text seen path key r e (finished_kept.finished_other {e = d} bytes x stands is b) h hard = as-err d e h (key-text x.key key d e h hard b)

@@ -1,6 +1,6 @@
 -- The texts of a work folder that a stop left partway are the run's own: the plan that is read there is the run's plan, and the report that is
 -- read there is the plan's.
-use Rattle.std.proofs.Common.{◌≡◌, ℕ, ◌≤◌, true, false, ◌⊎◌, inl, inr, List, [], ◌++◌, length, refl, sym, ap, subst, ◌∙◌, arith, Result, Ok, Err}
+use Rattle.std.proofs.Common.{◌≡◌, ℕ, ◌≤◌, Bool, true, false, List, [], ◌++◌, length, refl, sym, ap, subst, ◌∙◌, arith, Result, Ok, Err}
 use Rattle.std.specs.Prelude.{Option, Some, None, IsTrue}
 use Rattle.std.specs.FinMap as fin
 use Rattle.file_tree.specs.declared.node.Node.{Node}
@@ -8,10 +8,8 @@ use Rattle.file_tree.specs.declared.node.Node.TheVariants as node
 use Rattle.file_tree.specs.declared.node.Found.TheVariants as found
 use Rattle.file_tree.specs.Trees.{TreeMap, stands_at}
 use Rattle.file_tree.specs.Seen.{Seen, map_now}
-use Rattle.journal_core.specs.Marks.{Mark, Marking, absent, first, whole, any, earlier, is_kept, is_own}
+use Rattle.journal_core.specs.Marks.{Mark, absent, first, whole, any, earlier, is_kept}
 use Rattle.journal_core.specs.Names.{plan, final}
-use Rattle.journal_core.specs.Shapes.{HasShape}
-use Rattle.journal_core.specs.Shapes.{HasShape as shape}
 use Rattle.work_texts.specs.declared.journal_err.JournalErr.{JournalErr}
 use Rattle.work_texts.specs.declared.key.RunKey.{RunKey}
 use Rattle.work_texts.specs.declared.plan.FinishedData.{FinishedData}
@@ -24,55 +22,39 @@ use Rattle.work_texts.proofs.TextReaders.{plan_reader, finished_reader}
 use Rattle.work_journal.specs.declared.opening.Opened.{Opened}
 use Rattle.work_journal.specs.declared.opening.Opened.TheVariants as opened
 use Rattle.work_journal.specs.Ending.{text_file}
+use Rattle.work_journal.specs.Finishing.{plan_node}
 use Rattle.work_journal.specs.Opening.{PlanKept, FinishedKept}
 use Rattle.work_journal.specs.Opening.{PlanKept as plan_kept, FinishedKept as finished_kept}
-use Rattle.work_journal.specs.Wanted.{Wanted, IsPartway, MarkHas}
+use Rattle.work_journal.specs.Wanted.{Wanted, IsPartway, IsThere, MarkHas}
 use Rattle.work_journal.specs.Work.{work_path}
-use Rattle.root_run.specs.Wholes.{wanted_of, finished_of, finished_text}
+use Rattle.root_run.specs.Cores.{is_old_end}
+use Rattle.root_run.specs.Wholes.{wanted_of, end_of, finished_text, older_text, old_plan_text, old_finished_text}
 use Rattle.root_run.proofs.MadeLaws.{Stands, read-stands}
+use Rattle.root_run.proofs.OldLaws.{IsOlder, file-says, plan-mark, finished-mark, older-read, old-plan-shorter, old-end-shorter}
 
 -- ### What the marks say
 
--- a mark that a tree has, where what is there is the run's own
-kept-by : (x : Mark) (was : Option Node) (n : Node) (o : Option Node) → IsTrue (is_kept x) → MarkHas x was n o → (o ≡ None) ⊎ (o ≡ Some n)
-kept-by absent was n o e has = inl has
-kept-by first was n o e has = cc
-kept-by whole was n o e has = inr has
-kept-by any was n o e has = cc
-kept-by earlier was n o e has = absurd has
+-- what is there where a mark says that it is the run's own: nothing, this program's node, or an earlier one's
+pub data IsOwn (n : Node) (older o : Option Node) : Type 0 where
+  not_there : o ≡ None → IsOwn n older o
+  by_this : o ≡ Some n → IsOwn n older o
+  by_earlier : IsThere older o → IsOwn n older o
 
-absent-kept : (x : Mark) → x ≡ absent → IsTrue (is_kept x)
-absent-kept x e = rw e refl
-
-whole-kept : (x : Mark) → x ≡ whole → IsTrue (is_kept x)
-whole-kept x e = rw e refl
-
-own-kept : (x : Mark) → IsTrue (is_own x) → IsTrue (is_kept x)
-own-kept absent e = cc
-own-kept first e = cc
-own-kept whole e = refl
-own-kept any e = cc
-own-kept earlier e = refl
-
-plan-mark : (steps : List ℕ) (m : Marking) → HasShape steps m → IsTrue (is_kept m.plan)
-plan-mark steps m (shape.unplanned h) = absent-kept m.plan h.rest.plan
-plan-mark steps m (shape.underway h) = own-kept m.plan h.plan
-plan-mark steps m (shape.finished h) = h.plan
-plan-mark steps m (shape.old h) = h.plan
-
-finished-mark : (steps : List ℕ) (m : Marking) → HasShape steps m → IsTrue (is_kept (m.final 3))
-finished-mark steps m (shape.unplanned h) = absent-kept (m.final 3) (h.rest.final 3 (omega arith))
-finished-mark steps m (shape.underway h) = absent-kept (m.final 3) h.finished
-finished-mark steps m (shape.finished h) = whole-kept (m.final 3) (h.final 3 (omega arith))
-finished-mark steps m (shape.old h) = rw h.finished refl
+kept-by : (x : Mark) (was : Option Node) (n : Node) (older o : Option Node) → IsTrue (is_kept x) → MarkHas x was n older o → IsOwn n older o
+kept-by absent was n older o e has = not_there has
+kept-by first was n older o e has = cc
+kept-by whole was n older o e has = by_this has
+kept-by any was n older o e has = cc
+kept-by earlier was n older o e has = by_earlier has
 
 -- a plan, and a finished text, are there whole or not at all
-pub own-plan : (w : Wanted) (t : TreeMap) → IsPartway w t → (fin.get t (work_path w.work plan) ≡ None) ⊎ (fin.get t (work_path w.work plan) ≡ Some (w.node plan))
-own-plan w t p = kept-by p.marking.plan (fin.get w.start (work_path w.work plan)) (w.node plan) (fin.get t (work_path w.work plan)) (plan-mark w.steps p.marking p.shape) (p.has.named plan tt)
+pub own-plan : (w : Wanted) (t : TreeMap) → IsPartway w t → IsOwn (w.node plan) (w.older plan) (fin.get t (work_path w.work plan))
+own-plan w t p =
+    kept-by p.marking.plan (fin.get w.start (work_path w.work plan)) (w.node plan) (w.older plan) (fin.get t (work_path w.work plan)) (plan-mark w.steps p.marking p.shape) (p.has.named plan tt)
 
-pub own-finished : (w : Wanted) (t : TreeMap) → IsPartway w t → (fin.get t (work_path w.work (final 3)) ≡ None) ⊎ (fin.get t (work_path w.work (final 3)) ≡ Some (w.node (final 3)))
+pub own-finished : (w : Wanted) (t : TreeMap) → IsPartway w t → IsOwn (w.node (final 3)) (w.older (final 3)) (fin.get t (work_path w.work (final 3)))
 own-finished w t p =
-    kept-by (p.marking.final 3) (fin.get w.start (work_path w.work (final 3))) (w.node (final 3)) (fin.get t (work_path w.work (final 3)))
+    kept-by (p.marking.final 3) (fin.get w.start (work_path w.work (final 3))) (w.node (final 3)) (w.older (final 3)) (fin.get t (work_path w.work (final 3)))
     (finished-mark w.steps p.marking p.shape) (p.has.named (final 3) (omega arith))
 
 -- ### What is read there
@@ -83,55 +65,93 @@ one-value : {X : Type 0} (fields : X → List Field) (Fits : X → Type 0) (read
 one-value {X} fields Fits read r x y a b e =
     ap (λ (q : X × List ℕ). q.0) (ok_is (x, []) (y, []) (sym (r.again x [] a) ∙ ap (λ (t : List ℕ). read (t ++ [])) e ∙ r.again y [] b))
 
--- a plan of a run, and its end, fit the texts that are written
-pub written-plan : (p : PlanData) → IsPlan p → IsVersionedPlan (record { old = false; plan = p })
-written-plan p fits = record { plan = fits; one = λ e. absurd (cc e) }
-
-pub written-end : (p : PlanData) → IsPlan p → IsFinished (finished_of p)
-written-end p fits = record { key = fits.key; one = λ e. absurd (cc e); report = fits.report }
-
 none-file : (bytes : List ℕ) (mode : ℕ) → Some (node.File bytes mode) ≡ None → ⊥
 none-file bytes mode e = cc
 
 same-text : (a b : List ℕ) (m n : ℕ) → Some (node.File a m) ≡ Some (node.File b n) → a ≡ b
 same-text a b m n e = cc
 
-read-own : (o : Option Node) (a b : List ℕ) (m limit : ℕ) → (o ≡ None) ⊎ (o ≡ Some (text_file b)) → Stands o limit a m → a ≡ b
-read-own o a b m limit (inl e) s = absurd (none-file a m (sym s.there ∙ e))
-read-own o a b m limit (inr e) s = same-text a b m 420 (sym s.there ∙ e)
+-- the bytes of a plan of this run, and of its end, in a text of either version
+pub record IsOwnPlan (p : PlanData) (bytes : List ℕ) : Type 0 where
+  pub old : Bool
+  pub one : old ≡ true → length p.key.maps.pairs ≡ 1
+  pub text : bytes ≡ text_of (plan_text_fields (record { old = old; plan = p }))
+
+pub record IsOwnEnd (p : PlanData) (bytes : List ℕ) : Type 0 where
+  pub old : Bool
+  pub one : old ≡ true → length p.key.maps.pairs ≡ 1
+  pub text : bytes ≡ text_of (finished_fields (end_of old p))
+
+read-plan : (p : PlanData) (o : Option Node) (bytes : List ℕ) (mode limit : ℕ) → IsOwn (plan_node p) (older_text p (old_plan_text p)) o → Stands o limit bytes mode → IsOwnPlan p bytes
+read-plan p o bytes mode limit (not_there e) s = absurd (none-file bytes mode (sym s.there ∙ e))
+read-plan p o bytes mode limit (by_this e) s = record { old = false; one = λ never. absurd (cc never); text = same-text bytes (text_of (plan_fields p)) mode 420 (sym s.there ∙ e) }
+read-plan p o bytes mode limit (by_earlier is) s =
+    let x : IsOlder p (old_plan_text p) bytes = older-read p (old_plan_text p) bytes mode (sym is.same ∙ s.there) in
+    record { old = true; one = λ e. x.one; text = x.text_is }
+
+read-end : (p : PlanData) (o : Option Node) (bytes : List ℕ) (mode limit : ℕ) → IsOwn (text_file (finished_text p)) (older_text p (old_finished_text p)) o → Stands o limit bytes mode → IsOwnEnd p bytes
+read-end p o bytes mode limit (not_there e) s = absurd (none-file bytes mode (sym s.there ∙ e))
+read-end p o bytes mode limit (by_this e) s = record { old = false; one = λ never. absurd (cc never); text = same-text bytes (finished_text p) mode 420 (sym s.there ∙ e) }
+read-end p o bytes mode limit (by_earlier is) s =
+    let x : IsOlder p (old_finished_text p) bytes = older-read p (old_finished_text p) bytes mode (sym is.same ∙ s.there) in
+    record { old = true; one = λ e. x.one; text = x.text_is }
+
+-- such texts fit, and none is longer than the one that this program writes
+pub own-plan-fits : (p : PlanData) (bytes : List ℕ) → IsPlan p → (is : IsOwnPlan p bytes) → IsVersionedPlan (record { old = is.old; plan = p })
+own-plan-fits p bytes fits is = record { plan = fits; one = is.one }
+
+pub own-end-fits : (p : PlanData) (bytes : List ℕ) → IsPlan p → (is : IsOwnEnd p bytes) → IsFinished (end_of is.old p)
+own-end-fits p bytes fits is = record { key = fits.key; one = is.one; report = fits.report }
+
+pub at-most : (a b c : ℕ) → a ≤ b → b ≤ c → a ≤ c
+at-most a b c x y = omega (arith, x, y)
+
+plan-within : (p : PlanData) (old : Bool) → length (text_of (plan_fields p)) ≤ text_limit → length (text_of (plan_text_fields (record { old = old; plan = p }))) ≤ text_limit
+plan-within p true short = at-most (length (old_plan_text p)) (length (text_of (plan_fields p))) text_limit (old-plan-shorter p) short
+plan-within p false short = short
+
+end-within : (p : PlanData) (old : Bool) → length (finished_text p) ≤ text_limit → length (text_of (finished_fields (end_of old p))) ≤ text_limit
+end-within p true short = at-most (length (old_finished_text p)) (length (finished_text p)) text_limit (old-end-shorter p) short
+end-within p false short = short
+
+pub own-plan-within : (p : PlanData) (bytes : List ℕ) → IsOwnPlan p bytes → length (text_of (plan_fields p)) ≤ text_limit → length bytes ≤ text_limit
+own-plan-within p bytes is short = subst (λ (b : List ℕ). length b ≤ text_limit) (sym is.text) (plan-within p is.old short)
+
+pub own-end-within : (p : PlanData) (bytes : List ℕ) → IsOwnEnd p bytes → length (finished_text p) ≤ text_limit → length bytes ≤ text_limit
+own-end-within p bytes is short = subst (λ (b : List ℕ). length b ≤ text_limit) (sym is.text) (end-within p is.old short)
 
 module _ (start : TreeMap) (root work : List ℕ) (p : PlanData) (made : List (List Node)) (t : TreeMap) (partway : IsPartway (wanted_of start root work p made) t) where
-  -- the bytes of a file at the plan's path are the plan's text
-  pub plan-bytes : (bytes : List ℕ) (mode : ℕ) → stands_at t (work_path work plan) text_limit ≡ found.File bytes mode → bytes ≡ text_of (plan_fields p)
+  -- the bytes of a file at the plan's path are the plan's text, of either version
+  pub plan-bytes : (bytes : List ℕ) (mode : ℕ) → stands_at t (work_path work plan) text_limit ≡ found.File bytes mode → IsOwnPlan p bytes
   plan-bytes bytes mode e =
-      read-own (fin.get t (work_path work plan)) bytes (text_of (plan_fields p)) mode text_limit (own-plan (wanted_of start root work p made) t partway)
+      read-plan p (fin.get t (work_path work plan)) bytes mode text_limit (own-plan (wanted_of start root work p made) t partway)
       (read-stands t (work_path work plan) text_limit bytes mode e)
 
-  pub finished-bytes : (bytes : List ℕ) (mode : ℕ) → stands_at t (work_path work (final 3)) text_limit ≡ found.File bytes mode → bytes ≡ finished_text p
+  pub finished-bytes : (bytes : List ℕ) (mode : ℕ) → stands_at t (work_path work (final 3)) text_limit ≡ found.File bytes mode → IsOwnEnd p bytes
   finished-bytes bytes mode e =
-      read-own (fin.get t (work_path work (final 3))) bytes (finished_text p) mode text_limit (own-finished (wanted_of start root work p made) t partway)
+      read-end p (fin.get t (work_path work (final 3))) bytes mode text_limit (own-finished (wanted_of start root work p made) t partway)
       (read-stands t (work_path work (final 3)) text_limit bytes mode e)
 
   -- so what is read there is the plan, and the end of its run
   pub plan-read : (bytes : List ℕ) (mode : ℕ) (q : PlanData) → IsPlan p → stands_at t (work_path work plan) text_limit ≡ found.File bytes mode → IsPlanText bytes q → q ≡ p
   plan-read bytes mode q fits e text =
+      let is : IsOwnPlan p bytes = plan-bytes bytes mode e in
       ap (λ v. v.plan)
-      (one-value plan_text_fields IsVersionedPlan plan_at plan_reader (record { old = text.old; plan = q }) (record { old = false; plan = p }) (record { plan = text.plan; one = text.one }) (written-plan p fits)
-      (sym text.text ∙ plan-bytes bytes mode e))
+      (one-value plan_text_fields IsVersionedPlan plan_at plan_reader (record { old = text.old; plan = q }) (record { old = is.old; plan = p }) (record { plan = text.plan; one = text.one })
+      (own-plan-fits p bytes fits is) (sym text.text ∙ is.text))
 
-  pub finished-read : (bytes : List ℕ) (mode : ℕ) (d : FinishedData) → IsFinished (finished_of p) → stands_at t (work_path work (final 3)) text_limit ≡ found.File bytes mode
-      → IsFinishedText bytes d → d ≡ finished_of p
+  pub finished-read : (bytes : List ℕ) (mode : ℕ) (d : FinishedData) → IsPlan p → stands_at t (work_path work (final 3)) text_limit ≡ found.File bytes mode
+      → IsFinishedText bytes d → (d.report ≡ p.report) × (d.key ≡ p.key)
   finished-read bytes mode d fits e text =
-      one-value finished_fields IsFinished finished_at finished_reader d (finished_of p) text.finished fits (sym text.text ∙ finished-bytes bytes mode e)
+      let is : IsOwnEnd p bytes = finished-bytes bytes mode e in
+      let same : d ≡ end_of is.old p =
+      one-value finished_fields IsFinished finished_at finished_reader d (end_of is.old p) text.finished (own-end-fits p bytes fits is) (sym text.text ∙ is.text) in
+      (ap (λ (x : FinishedData). x.report) same, ap (λ (x : FinishedData). x.key) same)
 
-  -- and a text of this plan is never bad
-  pub plan-good : (bytes : List ℕ) (mode : ℕ) → IsPlan p → length (text_of (plan_fields p)) ≤ text_limit → stands_at t (work_path work plan) text_limit ≡ found.File bytes mode → IsPlanText bytes p
-  plan-good bytes mode fits short e = record { old = false; plan = fits; one = (written-plan p fits).one; text = plan-bytes bytes mode e; within = subst (λ (b : List ℕ). length b ≤ text_limit) (sym (plan-bytes bytes mode e)) short }
-
-  pub finished-good : (bytes : List ℕ) (mode : ℕ) → IsFinished (finished_of p) → length (finished_text p) ≤ text_limit
-      → stands_at t (work_path work (final 3)) text_limit ≡ found.File bytes mode → IsFinishedText bytes (finished_of p)
-  finished-good bytes mode fits short e =
-      record { finished = fits; text = finished-bytes bytes mode e; within = subst (λ (b : List ℕ). length b ≤ text_limit) (sym (finished-bytes bytes mode e)) short }
+  -- and it says whether an earlier program wrote it
+  pub finished-old : (bytes : List ℕ) (mode : ℕ) (d : FinishedData) → stands_at t (work_path work (final 3)) text_limit ≡ found.File bytes mode → IsFinishedText bytes d → d.old ≡ is_old_end t work
+  finished-old bytes mode d e text =
+      sym (file-says (fin.get t (work_path work (final 3))) bytes mode d (read-stands t (work_path work (final 3)) text_limit bytes mode e).there text.text)
 
 -- ### What a start opens
 
@@ -144,11 +164,11 @@ no-err o e h = cc
 same-plan : (p q : PlanData) → ok_of (opened.Resumed p) ≡ ok_of (opened.Resumed q) → p ≡ q
 same-plan p q e = cc
 
-same-report : (r d : List ℕ) → ok_of (opened.Finished r) ≡ ok_of (opened.Finished d) → r ≡ d
-same-report r d e = cc
+same-report : (r d : List ℕ) (a b : Bool) → ok_of (opened.Finished r a) ≡ ok_of (opened.Finished d b) → r ≡ d
+same-report r d a b e = cc
 
-not-resumed : (r : List ℕ) (q : PlanData) → ok_of (opened.Finished r) ≡ ok_of (opened.Resumed q) → ⊥
-not-resumed r q e = cc
+same-old : (r d : List ℕ) (a b : Bool) → ok_of (opened.Finished r a) ≡ ok_of (opened.Finished d b) → a ≡ b
+same-old r d a b e = cc
 
 module _ (start : TreeMap) (root work : List ℕ) (p : PlanData) (made : List (List Node)) (seen : Seen) (tells : seen.tells ≡ true) (fits : IsPlan p)
     (partway : IsPartway (wanted_of start root work p made) (map_now seen.past)) where
@@ -164,16 +184,25 @@ module _ (start : TreeMap) (root work : List ℕ) (p : PlanData) (made : List (L
   pub resumed-own : (key : RunKey) (q : PlanData) → PlanKept seen (work_path work plan) key (Ok (opened.Resumed q)) → (q ≡ p) × (p.key ≡ key)
   resumed-own key q kept = resumed-by key (ok_of (opened.Resumed q)) q refl kept
 
-  finished-by : (key : RunKey) (r : Result Opened JournalErr) (report : List ℕ) → r ≡ ok_of (opened.Finished report) → FinishedKept seen (work_path work (final 3)) key r
-      → (report ≡ p.report) × (p.key ≡ key)
-  finished-by key r report e (finished_kept.finished_read bytes x stands text same) =
-      let own : x ≡ finished_of p =
-      finished-read start root work p made (map_now seen.past) partway bytes stands.mode x (written-end p fits) (stands.is tells) text in
-      (sym (same-report x.report report e) ∙ ap (λ (y : FinishedData). y.report) own, ap (λ (y : FinishedData). y.key) (sym own) ∙ same)
-  finished-by key r report e (finished_kept.finished_not_there {e = x} h) = absurd (no-err (opened.Finished report) x e)
-  finished-by key r report e (finished_kept.finished_bad {e = x} bytes stands h) = absurd (no-err (opened.Finished report) x e)
-  finished-by key r report e (finished_kept.finished_other {e = x} bytes y stands text h) = absurd (no-err (opened.Finished report) x e)
+  -- the end of this run, as it was read
+  pub record IsEndRead (key : RunKey) (report : List ℕ) (old : Bool) : Type 0 where
+    pub report_is : report ≡ p.report
+    pub key_is : p.key ≡ key
+    pub old_is : old ≡ is_old_end (map_now seen.past) work
+
+  finished-by : (key : RunKey) (r : Result Opened JournalErr) (report : List ℕ) (old : Bool) → r ≡ ok_of (opened.Finished report old) → FinishedKept seen (work_path work (final 3)) key r
+      → IsEndRead key report old
+  finished-by key r report old e (finished_kept.finished_read bytes x stands text same) =
+      let is = finished-read start root work p made (map_now seen.past) partway bytes stands.mode x fits (stands.is tells) text in
+      record {
+        report_is = sym (same-report x.report report x.old old e) ∙ is.0;
+        key_is = sym is.1 ∙ same;
+        old_is = sym (same-old x.report report x.old old e) ∙ finished-old start root work p made (map_now seen.past) partway bytes stands.mode x (stands.is tells) text;
+      }
+  finished-by key r report old e (finished_kept.finished_not_there {e = x} h) = absurd (no-err (opened.Finished report old) x e)
+  finished-by key r report old e (finished_kept.finished_bad {e = x} bytes stands h) = absurd (no-err (opened.Finished report old) x e)
+  finished-by key r report old e (finished_kept.finished_other {e = x} bytes y stands text h) = absurd (no-err (opened.Finished report old) x e)
 
   -- and one that finds the finished text answers the report of the run
-  pub finished-own : (key : RunKey) (report : List ℕ) → FinishedKept seen (work_path work (final 3)) key (Ok (opened.Finished report)) → (report ≡ p.report) × (p.key ≡ key)
-  finished-own key report kept = finished-by key (ok_of (opened.Finished report)) report refl kept
+  pub finished-own : (key : RunKey) (report : List ℕ) (old : Bool) → FinishedKept seen (work_path work (final 3)) key (Ok (opened.Finished report old)) → IsEndRead key report old
+  finished-own key report old kept = finished-by key (ok_of (opened.Finished report old)) report old refl kept

@@ -1,6 +1,6 @@
 -- The ways into a run, whatever it makes: over a tree that isn't planned, one that has a plan, and one that is finished. The core that a start
 -- begins with agrees with the tree, at every moment of the run a stop leaves it partway, and in the end it is done.
-use Rattle.std.proofs.Common.{◌≡◌, ◌≢◌, ℕ, Bool, true, false, List, [], ◌∷◌, refl, sym, ap, subst, ◌∙◌, Result, Ok}
+use Rattle.std.proofs.Common.{◌≡◌, ◌≢◌, ℕ, Bool, true, false, if◌then◌else◌, List, [], ◌∷◌, refl, sym, ap, subst, ◌∙◌, Result, Ok}
 use Rattle.std.specs.Prelude.{Option, Some, None, is_some, IsTrue, OnOk}
 use Rattle.std.specs.FinMap as fin
 use Rattle.file_tree.specs.declared.node.Node.{Node}
@@ -8,9 +8,9 @@ use Rattle.file_tree.specs.Trees.{TreeMap, is_below}
 use Rattle.file_tree.specs.Seen.{Seen, Past, Happened, map_now}
 use Rattle.file_tree.specs.Images.{State, Images, Always, LeavesOnly, state_of, state_after, settled_state}
 use Rattle.journal_core.specs.Names.{Name, IsName, IsStep, plan_new, plan, temp, commit, fresh, final, target}
-use Rattle.journal_core.specs.Table.{CoreState, closed_core, new_core, resumed_core}
+use Rattle.journal_core.specs.Table.{CoreState, closed_core, new_core, old_core, resumed_core}
 use Rattle.journal_core.specs.Starts.{shown_core, shown_states}
-use Rattle.journal_core.specs.Marks.{Marking, mark, absent, first, is_loose}
+use Rattle.journal_core.specs.Marks.{Marking, mark, absent, first, is_loose, is_earlier}
 use Rattle.journal_core.specs.Shapes.{HasShape}
 use Rattle.journal_core.specs.Shapes.{HasShape as shape}
 use Rattle.work_texts.specs.declared.journal_err.JournalErr.{JournalErr}
@@ -40,28 +40,33 @@ leaves_map old new f l = record { rest = l.rest; first = l.first; log = l.log; e
 
 -- ### The core that is shown
 
-pub shown_closed : (steps work : List ℕ) (paths : List (List ℕ)) → has_path paths (work_path work (final 3)) ≡ true → shown_core steps (presence work paths) ≡ closed_core
-unfolding presence
-shown_closed steps work paths there = rw there refl
+-- the core of a run that is over, by whether an earlier program wrote the finished text
+abbrev pub over_core : Bool → CoreState
+over_core old = if old then old_core else closed_core
 
-pub shown_new : (steps work : List ℕ) (paths : List (List ℕ)) → has_path paths (work_path work (final 3)) ≡ false → has_path paths (work_path work plan) ≡ false
-    → shown_core steps (presence work paths) ≡ new_core steps
+pub shown_over : (old : Bool) (steps work : List ℕ) (paths : List (List ℕ)) → has_path paths (work_path work (final 3)) ≡ true → shown_core steps (presence old work paths) ≡ over_core old
 unfolding presence
-shown_new steps work paths none other = rw (none, other) refl
+shown_over true steps work paths there = rw there refl
+shown_over false steps work paths there = rw there refl
 
-pub shown_resumed : (steps work : List ℕ) (paths : List (List ℕ)) → has_path paths (work_path work (final 3)) ≡ false → has_path paths (work_path work plan) ≡ true
-    → shown_core steps (presence work paths) ≡ resumed_core steps (shown_states steps (presence work paths))
+pub shown_new : (old : Bool) (steps work : List ℕ) (paths : List (List ℕ)) → has_path paths (work_path work (final 3)) ≡ false → has_path paths (work_path work plan) ≡ false
+    → shown_core steps (presence old work paths) ≡ new_core steps
 unfolding presence
-shown_resumed steps work paths none there = rw (none, there) refl
+shown_new old steps work paths none other = rw (none, other) refl
+
+pub shown_resumed : (old : Bool) (steps work : List ℕ) (paths : List (List ℕ)) → has_path paths (work_path work (final 3)) ≡ false → has_path paths (work_path work plan) ≡ true
+    → shown_core steps (presence old work paths) ≡ resumed_core steps (shown_states steps (presence false work paths))
+unfolding presence
+shown_resumed old steps work paths none there = rw (none, there) refl
 
 -- ### A tree that isn't planned yet
 
 -- what is there has a mark that says so
-there-has : (b : Bool) (was : Option Node) (n : Node) (o : Option Node) → is_some o ≡ b → MarkHas (there_mark b) was n o
-there-has true was n None e = cc
-there-has true was n (Some m) e = λ x. cc
-there-has false was n None e = refl
-there-has false was n (Some m) e = cc
+there-has : (b : Bool) (was : Option Node) (n : Node) (older o : Option Node) → is_some o ≡ b → MarkHas (there_mark b) was n older o
+there-has true was n older None e = cc
+there-has true was n older (Some m) e = λ x. cc
+there-has false was n older None e = refl
+there-has false was n older (Some m) e = cc
 
 loose-there : (b : Bool) → IsTrue (is_loose (there_mark b))
 loose-there true = refl
@@ -107,8 +112,8 @@ module _ (w : Wanted) (given : IsGiven w w.work) where
     gone n is other below = u.others (path_of w n) (apart-new n is other) ∙ given.is_work.clean (path_of w n) below
 
     named-new : (n : Name) → IsName w.steps n
-        → MarkHas (mark (new_marking (is_some (fin.get t (work_path w.work plan_new)))) n) (fin.get w.start (path_of w n)) (w.node n) (fin.get t (path_of w n))
-    named-new plan_new is = there-has (is_some (fin.get t (work_path w.work plan_new))) _ _ (fin.get t (work_path w.work plan_new)) refl
+        → MarkHas (mark (new_marking (is_some (fin.get t (work_path w.work plan_new)))) n) (fin.get w.start (path_of w n)) (w.node n) (w.older n) (fin.get t (path_of w n))
+    named-new plan_new is = there-has (is_some (fin.get t (work_path w.work plan_new))) _ _ _ (fin.get t (work_path w.work plan_new)) refl
     named-new plan is = gone plan is refl (is_work_path w.work plan)
     named-new (temp j k) is = gone (temp j k) is refl (is_work_path w.work (temp j k))
     named-new (commit j) is = gone (commit j) is refl (is_work_path w.work (commit j))
@@ -117,7 +122,7 @@ module _ (w : Wanted) (given : IsGiven w w.work) where
     named-new (target j k) is = u.others (path_of w (target j k)) (apart-new (target j k) is refl)
 
     -- it is partway by each plan
-    pub new-partway : IsPartway w t
+    abbrev new-partway : IsPartway w t
     new-partway = record {
       marking = new_marking (is_some (fin.get t (work_path w.work plan_new)));
       shape = new-shape w.steps (is_some (fin.get t (work_path w.work plan_new)));
@@ -126,30 +131,32 @@ module _ (w : Wanted) (given : IsGiven w w.work) where
 
   -- ### The core of a start agrees with the tree
 
-  pub shown-keeps : (old : Seen) (paths : List (List ℕ)) → IsPartway w (map_now old.past) → state_of old.past ≡ settled_state (map_now old.past)
-      → ArePresent w (map_now old.past) paths → Keeps w (shown_core w.steps (presence w.work paths)) (state_of old.past)
-  shown-keeps old paths partway settled present =
-      subst (Keeps w (shown_core w.steps (presence w.work paths))) (sym settled) (present_keeps w given.apart (map_now old.past) partway paths present)
+  pub shown-keeps : (seen : Seen) (paths : List (List ℕ)) (partway : IsPartway w (map_now seen.past)) (old : Bool) → is_earlier (partway.marking.final 3) ≡ old
+      → state_of seen.past ≡ settled_state (map_now seen.past) → ArePresent w (map_now seen.past) paths → Keeps w (shown_core w.steps (presence old w.work paths)) (state_of seen.past)
+  shown-keeps seen paths partway old same settled present =
+      subst (Keeps w (shown_core w.steps (presence old w.work paths))) (sym settled) (present_keeps w given.apart (map_now seen.past) partway paths present old same)
 
-  pub new-keeps : (old : Seen) (paths : List (List ℕ)) → IsUnstarted w.start w.work (map_now old.past) → state_of old.past ≡ settled_state (map_now old.past)
-      → ArePresent w (map_now old.past) paths → has_path paths (work_path w.work (final 3)) ≡ false → has_path paths (work_path w.work plan) ≡ false
-      → Keeps w (new_core w.steps) (state_of old.past)
-  new-keeps old paths u settled present none other =
-      subst (λ (c : CoreState). Keeps w c (state_of old.past)) (shown_new w.steps w.work paths none other)
-      (shown-keeps old paths (new-partway (map_now old.past) u) settled present)
+  pub new-keeps : (seen : Seen) (paths : List (List ℕ)) → IsUnstarted w.start w.work (map_now seen.past) → state_of seen.past ≡ settled_state (map_now seen.past)
+      → ArePresent w (map_now seen.past) paths → has_path paths (work_path w.work (final 3)) ≡ false → has_path paths (work_path w.work plan) ≡ false
+      → Keeps w (new_core w.steps) (state_of seen.past)
+  new-keeps seen paths u settled present none other =
+      subst (λ (c : CoreState). Keeps w c (state_of seen.past)) (shown_new false w.steps w.work paths none other)
+      (shown-keeps seen paths (new-partway (map_now seen.past) u) false refl settled present)
 
-  pub resumed-keeps : (old : Seen) (paths : List (List ℕ)) → IsPartway w (map_now old.past) → state_of old.past ≡ settled_state (map_now old.past)
-      → ArePresent w (map_now old.past) paths → has_path paths (work_path w.work (final 3)) ≡ false → has_path paths (work_path w.work plan) ≡ true
-      → Keeps w (resumed_core w.steps (shown_states w.steps (presence w.work paths))) (state_of old.past)
-  resumed-keeps old paths partway settled present none there =
-      subst (λ (c : CoreState). Keeps w c (state_of old.past)) (shown_resumed w.steps w.work paths none there)
-      (shown-keeps old paths partway settled present)
+  pub resumed-keeps : (seen : Seen) (paths : List (List ℕ)) → IsPartway w (map_now seen.past) → state_of seen.past ≡ settled_state (map_now seen.past)
+      → ArePresent w (map_now seen.past) paths → has_path paths (work_path w.work (final 3)) ≡ false → has_path paths (work_path w.work plan) ≡ true
+      → Keeps w (resumed_core w.steps (shown_states w.steps (presence false w.work paths))) (state_of seen.past)
+  resumed-keeps seen paths partway settled present none there =
+      let old : Bool = is_earlier (partway.marking.final 3) in
+      subst (λ (c : CoreState). Keeps w c (state_of seen.past)) (shown_resumed old w.steps w.work paths none there)
+      (shown-keeps seen paths partway old refl settled present)
 
-  pub finished-keeps : (old : Seen) (paths : List (List ℕ)) → IsPartway w (map_now old.past) → state_of old.past ≡ settled_state (map_now old.past)
-      → ArePresent w (map_now old.past) paths → has_path paths (work_path w.work (final 3)) ≡ true → Keeps w closed_core (state_of old.past)
-  finished-keeps old paths partway settled present there =
-      subst (λ (c : CoreState). Keeps w c (state_of old.past)) (shown_closed w.steps w.work paths there)
-      (shown-keeps old paths partway settled present)
+  pub over-keeps : (seen : Seen) (paths : List (List ℕ)) (partway : IsPartway w (map_now seen.past)) (old : Bool) → is_earlier (partway.marking.final 3) ≡ old
+      → state_of seen.past ≡ settled_state (map_now seen.past) → ArePresent w (map_now seen.past) paths → has_path paths (work_path w.work (final 3)) ≡ true
+      → Keeps w (over_core old) (state_of seen.past)
+  over-keeps seen paths partway old same settled present there =
+      subst (λ (c : CoreState). Keeps w c (state_of seen.past)) (shown_over old w.steps w.work paths there)
+      (shown-keeps seen paths partway old same settled present)
 
 -- ### What is there by a plan
 

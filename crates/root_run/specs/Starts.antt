@@ -7,17 +7,19 @@ use Rattle.file_tree.specs.Causes.{Rose}
 use Rattle.file_tree.specs.Images.{state_of}
 use Rattle.file_tree.specs.Seen.{Seen, adds, now_of}
 use Rattle.job_types.specs.Settings.{Settings}
+use Rattle.journal_core.specs.Names.{fresh}
 use Rattle.journal_core.specs.Starts.{shown_states}
-use Rattle.journal_core.specs.Table.{CoreState, closed_core, new_core, resumed_core}
+use Rattle.journal_core.specs.Table.{CoreState, closed_core, new_core, old_core, resumed_core}
 use Rattle.work_texts.specs.declared.journal_err.JournalErr.{JournalErr}
 use Rattle.work_texts.specs.declared.journal_err.JournalErr.TheVariants as journal
+use Rattle.work_texts.specs.declared.key.RunKey.{RunKey}
 use Rattle.work_texts.specs.declared.plan.PlanData.{PlanData}
-use Rattle.work_texts.specs.Fields.{text_of, plan_fields}
+use Rattle.work_texts.specs.Fields.{text_of, plan_fields, finished_fields}
 use Rattle.work_journal.specs.declared.opening.Opened.{Opened}
 use Rattle.work_journal.specs.declared.opening.Opened.TheVariants as opened
 use Rattle.work_journal.specs.Blames.{RunBlames, is_mild_run}
 use Rattle.work_journal.specs.Clearing.{IsCleared}
-use Rattle.work_journal.specs.Ending.{end_nodes}
+use Rattle.work_journal.specs.Ending.{end_nodes, text_file}
 use Rattle.work_journal.specs.Finishing.{FinishRan, IsRun, plan_node}
 use Rattle.work_journal.specs.Keeps.{Keeps}
 use Rattle.work_journal.specs.Opening.{Opens}
@@ -98,7 +100,7 @@ pub data FolderEnds (root : List ℕ) (s : Settings) (paths : List (List ℕ)) (
 -- the core of a start by a plan: of one that was just made, and of one that was there
 abbrev pub core_from : Bool → List ℕ → List (List ℕ) → List ℕ → CoreState
 core_from true work paths steps = new_core steps
-core_from false work paths steps = resumed_core steps (shown_states steps (presence work paths))
+core_from false work paths steps = resumed_core steps (shown_states steps (presence false work paths))
 
 -- the texts of a plan's run
 pub record AreRunTexts (p : PlanData) (plan finished report : List ℕ) : Type 0 where
@@ -111,17 +113,28 @@ abbrev pub report_of : Result (Unit {0}) JournalErr → List ℕ → Result (Lis
 report_of (Ok u) report = Ok report
 report_of (Err e) report = Err (run.Journal e)
 
--- the work folder of a finished run was cleared
-pub record ClearRan (work : List ℕ) (old new : Seen) (r : Result (Unit {0}) JournalErr) : Type 0 where
-  pub ran : FinishRan (InWork work) 1 work (λ w. ⊤) closed_core old new r
+-- the work folder of a finished run was cleared by a journal, from this core on
+pub record ClearRan (work : List ℕ) (may : Wanted → Type 0) (settles : ℕ) (c : CoreState) (old new : Seen) (r : Result (Unit {0}) JournalErr) : Type 0 where
+  pub ran : FinishRan (InWork work) settles work may c old new r
   pub cleared : OnOk r (IsCleared work new)
   pub mild : IfErr r (λ e. IsTrue (is_mild_run e))
 
--- and that is the answer
-pub record ClearEnded (work report : List ℕ) (old new : Seen) (result : Result (List ℕ) RunErr) : Type 0 where
-  pub journal_end : Result (Unit {0}) JournalErr
-  pub ran : ClearRan work old new journal_end
-  pub answer : result ≡ report_of journal_end report
+-- the text that tells the end of a run of these words
+abbrev pub end_text : RunKey → List ℕ → List ℕ
+end_text key report = text_of (finished_fields (record { old = false; key = key; report = report }))
+
+-- what a journal is to put anew of a run that an earlier program finished
+abbrev pub IsEndRun : RunKey → List ℕ → Wanted → Type 0
+IsEndRun key report w = w.node (fresh 3) ≡ text_file (end_text key report)
+
+-- a finished run ends so, by whether an earlier program finished it: then its finished text is put anew first, if there is memory
+-- for that text
+pub data ClearEnded (work : List ℕ) (key : RunKey) (report : List ℕ) (old new : Seen) (result : Result (List ℕ) RunErr) : Bool → Type 0 where
+  no_text : new ≡ old → result ≡ Err (run.Journal journal.NoMemory) → ClearEnded work key report old new result true
+  renewed : (r : Result (Unit {0}) JournalErr) → ClearRan work (IsEndRun key report) 2 old_core old new r → result ≡ report_of r report
+      → ClearEnded work key report old new result true
+  cleared : (r : Result (Unit {0}) JournalErr) → ClearRan work (λ w. ⊤) 1 closed_core old new r → result ≡ report_of r report
+      → ClearEnded work key report old new result false
 
 -- what a journal is to put of a plan
 abbrev pub IsPlanRun : List ℕ → (v : JudgeView) → PlanData → Wanted → Type 0
@@ -151,15 +164,15 @@ pub data PlanWent (root work : List ℕ) (v : JudgeView) (edit_fails : List ℕ 
 abbrev pub FewJobs : Opened → Type 0
 FewJobs opened.Empty = ⊤
 FewJobs (opened.Resumed p) = length p.jobs < 2 ^ 32
-FewJobs (opened.Finished report) = ⊤
+FewJobs (opened.Finished report old) = ⊤
 
 -- ### A start
 
 -- what a start did once it knew the paths of the root and what its work folder holds
 pub data OpenedWent (root work : List ℕ) (s : Settings) (v : JudgeView) (fails : List ℕ → List ℕ → Refusal → Type 0) (edit_fails : List ℕ → Refusal → Type 0)
     (split_fails : List ℕ → List ℕ → Refusal → Type 0) (in_flight : ℕ) (paths : List (List ℕ)) (old new : Seen) (result : Result (List ℕ) RunErr) : Opened → Type 0 where
-  finished : {report : List ℕ} → ClearEnded work report old new result
-      → OpenedWent root work s v fails edit_fails split_fails in_flight paths old new result (opened.Finished report)
+  finished : {report : List ℕ} {earlier : Bool} → ClearEnded work (key_of s) report old new result earlier
+      → OpenedWent root work s v fails edit_fails split_fails in_flight paths old new result (opened.Finished report earlier)
   resumed : {p : PlanData}
       → PlanWent root work v edit_fails split_fails p in_flight (core_from false work paths (steps_of p)) old new result
       → OpenedWent root work s v fails edit_fails split_fails in_flight paths old new result (opened.Resumed p)

@@ -1,5 +1,5 @@
 -- What a run over a build root is to make: of its plan and of the nodes of its jobs, the node of each name of the run.
-use Rattle.std.specs.Prelude.{◌≡◌, ◌≤◌, ◌<◌, ℕ, List, [], ◌∷◌, length, get_or, map, Some, None, false, IsTrue, Contains}
+use Rattle.std.specs.Prelude.{◌≡◌, ◌≤◌, ◌<◌, ◌==◌, ℕ, Bool, true, false, if◌then◌else◌, List, [], ◌∷◌, length, get_or, map, Option, Some, None, IsTrue, Contains}
 use Rattle.std.specs.FinMap as fin
 use Rattle.dw_base.specs.Layout.{file_limit}
 use Rattle.dw_base.specs.declared.fault.Refusal.{Refusal}
@@ -11,10 +11,10 @@ use Rattle.journal_core.specs.Names.{Name, plan_new, plan, temp, commit, fresh, 
 use Rattle.work_texts.specs.declared.plan.JobLine.{JobLine}
 use Rattle.work_texts.specs.declared.plan.PlanData.{PlanData}
 use Rattle.work_texts.specs.declared.plan.FinishedData.{FinishedData}
-use Rattle.work_texts.specs.Fields.{text_of, finished_fields}
+use Rattle.work_texts.specs.Fields.{text_of, plan_text_fields, finished_fields}
 use Rattle.work_texts.specs.Rules.{is_job_path}
 use Rattle.work_journal.specs.Wanted.{Wanted}
-use Rattle.work_journal.specs.Ending.{end_nodes}
+use Rattle.work_journal.specs.Ending.{end_nodes, text_file}
 use Rattle.work_journal.specs.Finishing.{plan_node}
 use Rattle.root_plan.specs.Roots.{in_root, below_root}
 use Rattle.root_plan.specs.Targets.{targets_of}
@@ -35,11 +35,26 @@ pub record IsClean (start : TreeMap) (root work : List ℕ) : Type 0 where
 abbrev pub lists_of : PlanData → List (List ℕ)
 lists_of p = source_list p.sources ∷ debug_file_list p.jobs ∷ link_list p.jobs ∷ []
 
+-- that text's value, by an earlier program or by this one
+abbrev pub end_of : Bool → PlanData → FinishedData
+end_of old p = record { old = old; key = p.key; report = p.report }
+
 abbrev pub finished_of : PlanData → FinishedData
-finished_of p = record { old = false; key = p.key; report = p.report }
+finished_of p = end_of false p
 
 abbrev pub finished_text : PlanData → List ℕ
 finished_text p = text_of (finished_fields (finished_of p))
+
+-- a plan whose words an earlier program could take, so with one pair of a map
+abbrev pub is_one : PlanData → Bool
+is_one p = length p.key.maps.pairs == 1
+
+-- the plan, and the text that tells its end, as an earlier program wrote them
+abbrev pub old_plan_text : PlanData → List ℕ
+old_plan_text p = text_of (plan_text_fields (record { old = true; plan = p }))
+
+abbrev pub old_finished_text : PlanData → List ℕ
+old_finished_text p = text_of (finished_fields (end_of true p))
 
 -- ### Jobs
 
@@ -79,6 +94,19 @@ node_of p made (fresh i) = get_or (end_nodes (lists_of p) (finished_text p)) i n
 node_of p made (final i) = get_or (end_nodes (lists_of p) (finished_text p)) i no_node
 node_of p made (target j k) = get_or (nodes_at made j) k no_node
 
+-- and as an earlier program gives it, where it could be one's run
+abbrev pub older_text : PlanData → List ℕ → Option Node
+older_text p text = if is_one p then Some (text_file text) else None
+
+abbrev pub older_of : PlanData → Name → Option Node
+older_of p plan_new = None
+older_of p plan = older_text p (old_plan_text p)
+older_of p (temp j k) = None
+older_of p (commit j) = None
+older_of p (fresh i) = None
+older_of p (final i) = if i == 3 then older_text p (old_finished_text p) else None
+older_of p (target j k) = None
+
 abbrev pub steps_of : PlanData → List ℕ
 steps_of p = map (λ job. length (targets_of job)) p.jobs
 
@@ -89,5 +117,6 @@ wanted_of start root work p made = record {
   steps = steps_of p;
   output = λ j k. in_root root (get_or (targets_of (job_at p.jobs j)) k []);
   node = node_of p made;
+  older = older_of p;
   start = start;
 }

@@ -51,7 +51,7 @@ fn go_on<T: Tree, J: Judge + Drop>(
     } = found;
     let work = work.as_str();
     match opened {
-        Opened::Finished { report } => finished_run(alloc, tree, work, report),
+        Opened::Finished { report, old } => finished_run(alloc, tree, work, options, report, old),
         Opened::Resumed(plan) => run_plan(
             alloc, tree, root, work, &present, false, plan, judge, jobs,
         ),

@@ -2,34 +2,78 @@
 //!
 //! This layer promises: the tree is changed by a journal alone.
 //! Read first: `specs/Starts.antt`.
-ghost use Rattle.std.specs.Prelude.{◌≡◌, ◌∷◌, [], ◌<◌, ◌≤◌, ◌^◌, true, false, map, length, IfOk};
+ghost use Rattle.std.specs.Prelude.{◌≡◌, ◌∷◌, [], ◌<◌, ◌≤◌, ◌^◌, true, false, map, length, IfErr, IfOk, IsTrue, OnOk, ⊤};
 ghost use Rattle.std.specs.String.{string_bytes};
+ghost use Rattle.journal_core.specs.declared.event.Phase.TheVariants.{Closed, Renewing};
 ghost use Rattle.journal_core.specs.Cores.{core_of};
+ghost use Rattle.journal_core.specs.Names.{fresh};
+ghost use Rattle.journal_core.specs.Table.{closed_core, old_core};
+ghost use Rattle.work_journal.specs.Blames.{is_mild_run};
+ghost use Rattle.work_journal.specs.Clearing.{IsCleared};
+ghost use Rattle.work_journal.specs.Ending.{text_file};
 ghost use Rattle.work_journal.specs.Finishing.{IsStart};
+ghost use Rattle.work_journal.specs.Runs.{Came};
+ghost use Rattle.work_journal.specs.Spares.{InWork};
 ghost use Rattle.work_journal.specs.declared.opening.Opened.TheVariants as opened;
 ghost use Rattle.work_texts.specs.Lists.{bytes_of};
 ghost use Rattle.root_plan.specs.Makers.{plan_view};
+ghost use Rattle.root_plan.specs.Plans.{key_of};
+ghost use Rattle.work_texts.specs.declared.journal_err.JournalErr.TheVariants as journal;
 ghost use Rattle.root_run.specs.Wholes.{steps_of, lists_of};
-ghost use Rattle.root_run.specs.Starts.{AreRunTexts, ClearEnded, ClearRan, OpenedWent, PlanWent, core_from, report_of};
+ghost use Rattle.root_run.specs.Starts.{AreRunTexts, ClearEnded, ClearRan, OpenedWent, PlanWent, core_from, end_text, report_of};
 
 use crate::run_err::RunErr;
 use dw_base::NoMemory;
 use file_tree::{Blob, Tree};
 use job_types::Options;
 use journal_core::Core;
-use root_plan::{Judge, RootMaker, make_plan};
+use root_plan::{Judge, RootMaker, make_plan, run_key};
 use std::alloc::{AllocError, Global};
-use work_journal::{Desk, JournalErr, Maker, Opened, clear, finish, shown, start_core};
+use work_journal::{Desk, JournalErr, Maker, Opened, clear, finish, renew, shown, start_core};
 use work_texts::{PlanData, write_finished, write_plan};
 
 /// Clears the work folder of a run that is over.
 fn clear_finished<T: Tree>(alloc: Global, tree: &mut T, work: &str) -> Result<(), JournalErr>
-    ensures ran { ClearRan work.now (T.seen tree.old) (T.seen tree.new) result }
+    ensures ran { ClearRan work.now (λ w. ⊤) 1 closed_core (T.seen tree.old) (T.seen tree.new) result }
 {
     let mut desk = Desk::new(tree, Core::closed(alloc));
     let cleared = clear(alloc, &mut desk, work);
     let _tree = desk.into_tree();
     cleared
+}
+
+/// Puts the finished text of a run anew, and clears its work folder.
+fn renew_at<T: Tree>(
+    alloc: Global,
+    desk: &mut Desk<T>,
+    work: &str,
+    text: &[u8],
+) -> Result<(), JournalErr>
+    requires phase { (core_of desk.old.core).phase ≡ Renewing false false }
+    ensures same_tree { desk.new.tree.ghost_name ≡ desk.old.tree.ghost_name }
+    ensures closed { OnOk result ((core_of desk.new.core).phase ≡ Closed) }
+    ensures mild { IfErr result (λ e. IsTrue (is_mild_run e)) }
+    ensures cleared { OnOk result (IsCleared work.now (T.seen desk.new.tree.now)) }
+    ensures came { Came journal.Tree (InWork work.now) 2 work.now (λ w. w.node (fresh 3) ≡ text_file text.now) (core_of desk.old.core) (T.seen desk.old.tree.now) (core_of desk.new.core) (T.seen desk.new.tree.now) result }
+{
+    renew(alloc, desk, work, text)?;
+    clear(alloc, desk, work)?;
+    Ok(())
+}
+
+/// Does that for a run that an earlier program finished.
+fn renew_finished<T: Tree>(
+    alloc: Global,
+    tree: &mut T,
+    work: &str,
+    text: &[u8],
+) -> Result<(), JournalErr>
+    ensures ran { ClearRan work.now (λ w. w.node (fresh 3) ≡ text_file text.now) 2 old_core (T.seen tree.old) (T.seen tree.new) result }
+{
+    let mut desk = Desk::new(tree, Core::old(alloc));
+    let renewed = renew_at(alloc, &mut desk, work, text);
+    let _tree = desk.into_tree();
+    renewed
 }
 
 /// The answer of a run with this report whose journal ended so.
@@ -159,15 +203,43 @@ pub(crate) fn new_run<T: Tree, J: Judge + Drop>(
     run_plan(alloc, tree, root, work, present, true, plan, judge, jobs)
 }
 
+/// The text that tells the end of a run of these words, with this report.
+fn end_of(alloc: Global, options: &Options, report: &Blob) -> Result<Vec<u8>, NoMemory>
+    ensures text { IfOk result (λ text. text.items ≡ end_text (key_of options.now) report.now) }
+{
+    let key = run_key(alloc, options)?;
+    write_finished(alloc, &key, report.as_slice())
+}
+
+/// Ends a run that an earlier program finished, with its report: its finished text is put anew first.
+fn renewed_run<T: Tree>(
+    alloc: Global,
+    tree: &mut T,
+    work: &str,
+    options: &Options,
+    report: Blob,
+) -> Result<Blob, RunErr>
+    ensures ended { ClearEnded work.now (key_of options.now) report (T.seen tree.old) (T.seen tree.new) result true }
+{
+    let text = end_of(alloc, options, &report)?;
+    let renewed = renew_finished(alloc, tree, work, &text);
+    report_end(renewed, report)
+}
+
 /// Ends a run that is over, with its report.
 pub(crate) fn finished_run<T: Tree>(
     alloc: Global,
     tree: &mut T,
     work: &str,
+    options: &Options,
     report: Blob,
+    old: bool,
 ) -> Result<Blob, RunErr>
-    ensures ended { ClearEnded work.now report (T.seen tree.old) (T.seen tree.new) result }
+    ensures ended { ClearEnded work.now (key_of options.now) report (T.seen tree.old) (T.seen tree.new) result old }
 {
+    if old {
+        return renewed_run(alloc, tree, work, options, report);
+    }
     let cleared = clear_finished(alloc, tree, work);
     report_end(cleared, report)
 }

@@ -7,6 +7,8 @@
 
 mod ends;
 #[cfg(test)]
+mod renewals;
+#[cfg(test)]
 mod roots;
 #[cfg(test)]
 mod runs;

@@ -159,6 +159,32 @@ pub(crate) fn tree_of(alloc: Global, table: &[(&'static str, Is)]) -> Result<Mem
     Ok(MemTree::new(alloc, nodes)?)
 }
 
+/// The finished text of the small root, as version 1 wrote it.
+const OLD_END: &[u8] =
+    b"dbgfinished 1\0/build/p\0/usr/src/debug/p\x000\0\x000\x0010\0split 3, edited 1, left 1, skipped 0, links 4, sources 3\n\0";
+
+/// What stands at a path of the small root once version 1 ended its run.
+fn by_version_1(path: &str, is: Is) -> Is {
+    if path == "r/.dbgwork/finished" {
+        return Is::File(0o644, OLD_END);
+    }
+    is
+}
+
+/// The small root as version 1 left it, with all this of its work folder that isn't cleared.
+pub(crate) fn old_tree(alloc: Global, left: &[(&'static str, Is)]) -> Result<MemTree, Fail> {
+    let mut nodes = Vec::new(alloc);
+    for (path, is) in SMALL.after {
+        let name = String::from_str(alloc, path)?;
+        nodes.push((name, node_of(alloc, by_version_1(path, *is))?))?;
+    }
+    for (path, is) in left {
+        let name = String::from_str(alloc, path)?;
+        nodes.push((name, node_of(alloc, *is)?))?;
+    }
+    Ok(MemTree::new(alloc, nodes)?)
+}
+
 /// Whether a node stands so.
 fn stands(node: &Node, is: Is) -> bool {
     match (node, is) {

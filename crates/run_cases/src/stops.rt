@@ -8,13 +8,13 @@ use std::test::Fail;
 
 /// A start that is stopped.
 #[derive(Clone, Copy, Debug)]
-struct Stop {
+pub(crate) struct Stop {
     /// How many jobs it has in flight.
-    jobs: u8,
+    pub(crate) jobs: u8,
     /// After how many calls it is stopped.
-    calls: usize,
+    pub(crate) calls: usize,
     /// How many of the changes that aren't stored are kept, all where there are fewer.
-    kept: u64,
+    pub(crate) kept: u64,
 }
 
 /// Whether a start with so many jobs in flight ends as a tree fault.
@@ -33,7 +33,12 @@ fn calls_of(rt: &impl Abort, alloc: Global, tree: MemTree, jobs: u8) -> Result<u
 }
 
 /// What a start that is stopped leaves of a tree: each file that isn't stored holds `x`.
-fn left_by(rt: &impl Abort, alloc: Global, tree: MemTree, stop: Stop) -> Result<MemTree, Fail> {
+pub(crate) fn left_by(
+    rt: &impl Abort,
+    alloc: Global,
+    tree: MemTree,
+    stop: Stop,
+) -> Result<MemTree, Fail> {
     let mut tree = tree;
     tree.stop_after(stop.calls as u64);
     assert!(rt; faults(alloc, &mut tree, stop.jobs)?, "{stop:?}");
@@ -46,7 +51,7 @@ fn begun_by(rt: &impl Abort, alloc: Global, stop: Stop) -> Result<MemTree, Fail>
 }
 
 /// How many changes the calls make behind the last settle among them.
-fn unstored(calls: &[Call]) -> u64 {
+pub(crate) fn unstored(calls: &[Call]) -> u64 {
     calls
         .iter()
         .rev()

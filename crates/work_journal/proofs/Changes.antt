@@ -70,10 +70,10 @@ some_not : (h : Node) → Some h ≢ None
 some_not h e = cc
 
 -- one name is set
-pub has_set : (w : Wanted) → IsApart w → (m : Marking) (t u : TreeMap) (n : Name) (x : Mark) → IsName w.steps n → Has w m t → MarkHas x (fin.get w.start (path_of w n)) (w.node n) (fin.get u (path_of w n)) → ((q : List ℕ) → q ≢ path_of w n → fin.get u q ≡ fin.get t q) → Has w (marked m n x) u
+pub has_set : (w : Wanted) → IsApart w → (m : Marking) (t u : TreeMap) (n : Name) (x : Mark) → IsName w.steps n → Has w m t → MarkHas x (fin.get w.start (path_of w n)) (w.node n) (w.older n) (fin.get u (path_of w n)) → ((q : List ℕ) → q ≢ path_of w n → fin.get u q ≡ fin.get t q) → Has w (marked m n x) u
 has_set w apart m t u n x is h here others = record {
   named = λ b isb. elim (same_path (path_of w b) (path_of w n)) [
-    | inl e ↦ (let same : b ≡ n = apart.apart b n isb is e in subst (λ (y : Name). MarkHas (mark (marked m n x) y) (fin.get w.start (path_of w y)) (w.node y) (fin.get u (path_of w y))) (sym same) (rw (mark_here m n x) here))
+    | inl e ↦ (let same : b ≡ n = apart.apart b n isb is e in subst (λ (y : Name). MarkHas (mark (marked m n x) y) (fin.get w.start (path_of w y)) (w.node y) (w.older y) (fin.get u (path_of w y))) (sym same) (rw (mark_here m n x) here))
     | inr f ↦ (let ne : path_of w b ≢ path_of w n = not_same _ _ f in rw (mark_other m n b x (λ e. ne (ap (λ (y : Name). path_of w y) e)), others (path_of w b) ne) (h.named b isb))
   ];
   others = λ q out. others q (out n is) ∙ h.others q out;

@@ -1,7 +1,7 @@
 -- The four texts of the end, one after the other.
 use Rattle.std.proofs.Common.{◌≡◌, ◌≢◌, ℕ, suc, ◌<◌, true, false, refl, sym, ◌∙◌, ap, subst, arith, IsTrue, eq-eqb, ne_eqb, lt-ltb}
-use Rattle.journal_core.specs.declared.event.Event.TheVariants.{Finish, Close, Settle}
-use Rattle.journal_core.specs.declared.event.Phase.TheVariants.{Finishing, Closing, Closed}
+use Rattle.journal_core.specs.declared.event.Event.TheVariants.{Finish, Close, Settle, Renew, Replace}
+use Rattle.journal_core.specs.declared.event.Phase.TheVariants.{Finishing, Closing, Closed, Renewing}
 use Rattle.journal_core.specs.Table.{CoreState, allows, after, in_phase, closed_next}
 use Rattle.work_journal.specs.Ending.{IsPutting, none_put, some_put, IsRenaming, none_renamed, some_renamed, IsEnding}
 
@@ -42,3 +42,14 @@ renaming_next c d e k next at l so is = subst (λ (x : ℕ). IsRenaming c e x) (
 pub renaming_ends : (c d : CoreState) (k : ℕ) → k ≡ 4 → IsRenaming c d k → d ≡ in_phase c Closed
 renaming_ends c d k all (none_renamed is) = absurd (omega (arith, all))
 renaming_ends c d k all (some_renamed n l is) = let e : n ≡ 3 = omega (arith, all) in is ∙ ap (λ (x : ℕ). in_phase c (closed_next x)) e
+
+-- ### The finished text of an earlier program
+
+pub renew_allowed : (c : CoreState) → c.phase ≡ Renewing false false → IsTrue (allows c Renew)
+renew_allowed c e = rw e refl
+
+-- once the new one is settled it may be renamed
+pub replace_allowed : (c d e : CoreState) → d ≡ after c Renew → e ≡ after d Settle → IsTrue (allows e Replace)
+replace_allowed c d e is next =
+    let phase : e.phase ≡ Renewing true true = ap (λ (x : CoreState). x.phase) (next ∙ ap (λ (x : CoreState). after x Settle) is) in
+    rw phase refl

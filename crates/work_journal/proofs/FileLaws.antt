@@ -27,12 +27,12 @@ use Rattle.work_journal.specs.Jobs.{AreNodes, MayStage}
 use Rattle.dw_base.specs.Layout.{file_limit}
 use Rattle.work_journal.specs.Files.{FileStands, IsSource, is_output, is_apart, IsFile, IsWanted}
 
-first_has : (x : Mark) (was : Option Node) (n : Node) (is : Option Node) → x ≡ first → MarkHas x was n is → is ≡ was
-first_has absent was n is e h = let d : absent ≡ first = e in cc
-first_has first was n is e h = h
-first_has whole was n is e h = let d : whole ≡ first = e in cc
-first_has any was n is e h = let d : any ≡ first = e in cc
-first_has earlier was n is e h = absurd h
+first_has : (x : Mark) (was : Option Node) (n : Node) (old is : Option Node) → x ≡ first → MarkHas x was n old is → is ≡ was
+first_has absent was n old is e h = let d : absent ≡ first = e in cc
+first_has first was n old is e h = h
+first_has whole was n old is e h = let d : whole ≡ first = e in cc
+first_has any was n old is e h = let d : any ≡ first = e in cc
+first_has earlier was n old is e h = let d : earlier ≡ first = e in cc
 
 -- where a job isn't committed, its file is as it was
 pub source_same : (w : Wanted) (c : CoreState) (s : State) (j : ℕ) (path : List ℕ) → Keeps w c s → IsTrue (is_uncommitted (job_state c j)) → IsSource w j path
@@ -40,7 +40,7 @@ pub source_same : (w : Wanted) (c : CoreState) (s : State) (j : ℕ) (path : Lis
 source_same w c s j path k free (is_output i st e) =
     let m = k.exact.marking in
     let old : m.target j i ≡ first = uncommitted_old is_whole w.steps c m j i k.exact.shows st free in
-    let here : fin.get s.now (w.output j i) ≡ fin.get w.start (w.output j i) = first_has (m.target j i) _ _ _ old (k.exact.has.named (target j i) st) in
+    let here : fin.get s.now (w.output j i) ≡ fin.get w.start (w.output j i) = first_has (m.target j i) _ _ _ _ old (k.exact.has.named (target j i) st) in
     subst (λ (q : List ℕ). fin.get s.now q ≡ fin.get w.start q) e here
 source_same w c s j path k free (is_apart other) = k.exact.has.others path other
 

@@ -1,5 +1,5 @@
 -- A run from a start to its end, call by call.
-use Rattle.std.proofs.Common.{◌≡◌, ◌≢◌, ◌⊎◌, inl, inr, ℕ, suc, zero, ◌+◌, ◌≤◌, ◌<◌, Bool, true, false, List, [], ◌∷◌, ◌||◌, length, get_or, map, refl, sym, ◌∙◌, ap, subst, arith, IsTrue}
+use Rattle.std.proofs.Common.{◌≡◌, ◌≢◌, ◌⊎◌, inl, inr, ℕ, suc, zero, ◌+◌, ◌≤◌, ◌<◌, Bool, true, false, List, [], ◌∷◌, ◌||◌, if◌then◌else◌, length, get_or, map, refl, sym, ◌∙◌, ap, subst, arith, IsTrue}
 use Rattle.std.specs.Prelude.{Result, Ok, Err, OnOk, IfErr, IsOk, IsErr, IsErrOf, IsErrAnd, replicate}
 use Rattle.std.proofs.lemmas.Result.{err_from_is_err_and}
 use Rattle.std.specs.Str.{bytes_eq}
@@ -15,10 +15,10 @@ use Rattle.file_tree.specs.Images.{state_of}
 use Rattle.file_tree.proofs.ImageLaws.{state_now}
 use Rattle.journal_core.specs.declared.event.JobState.{JobState}
 use Rattle.journal_core.specs.declared.event.JobState.TheVariants.{Fresh, Done}
-use Rattle.journal_core.specs.declared.event.Phase.TheVariants.{Empty, Running, Closed}
+use Rattle.journal_core.specs.declared.event.Phase.TheVariants.{Empty, Running, Closed, Renewing}
 use Rattle.journal_core.specs.declared.event.Event.TheVariants.{Settle}
 use Rattle.journal_core.specs.Names.{final}
-use Rattle.journal_core.specs.Table.{CoreState, all_done, new_core, settled_job, after}
+use Rattle.journal_core.specs.Table.{CoreState, all_done, new_core, closed_core, old_core, settled_job, after}
 use Rattle.journal_core.proofs.Rows.{settled_at}
 use Rattle.work_texts.specs.declared.journal_err.JournalErr.{JournalErr}
 use Rattle.work_texts.specs.declared.journal_err.JournalErr.TheVariants as run
@@ -32,7 +32,7 @@ use Rattle.work_journal.specs.Rounds.{is_found, IsBegun, AreDone}
 use Rattle.work_journal.specs.Runs.{Goes, Came}
 use Rattle.work_journal.specs.Settling.{Keeping}
 use Rattle.work_journal.specs.Blames.{run_fault, RunBlames, is_mild_run}
-use Rattle.work_journal.specs.Finishing.{IsStart, is_new, is_begun, is_over, IsPlanned, has_begun, has_ended, AreJobs, IsRun, end_paths, FinishRan}
+use Rattle.work_journal.specs.Finishing.{IsStart, is_new, is_begun, is_over, is_renewing, IsPlanned, has_begun, has_ended, AreJobs, AreTold, IsRun, end_paths, FinishRan}
 use Rattle.work_journal.proofs.GoesLaws.{came_failed, came_still, came_given}
 use Rattle.work_journal.proofs.RestartLaws.{end_whole}
 
@@ -168,11 +168,17 @@ pub start_new : (v : MakerView) (c : CoreState) → IsStart v c → c.phase ≡ 
 start_new v c (is_new e) h = e
 start_new v c (is_begun b) h = let d : Running ≡ Empty = sym b.under.running ∙ h in cc
 start_new v c (is_over e) h = let d : Closed ≡ Empty = sym e ∙ h in cc
+start_new v c (is_renewing e) h = let d : Renewing false false ≡ Empty = sym (ap (λ (x : CoreState). x.phase) e) ∙ h in cc
 
-pub start_planned : (v : MakerView) (c : CoreState) → IsStart v c → c.phase ≢ Empty → IsPlanned v c
-start_planned v c (is_new e) h = absurd (h (ap (λ (x : CoreState). x.phase) e))
-start_planned v c (is_begun b) h = has_begun b
-start_planned v c (is_over e) h = has_ended e
+pub start_planned : (v : MakerView) (c : CoreState) → IsStart v c → c.phase ≢ Empty → c.phase ≢ Renewing false false → IsPlanned v c
+start_planned v c (is_new e) h own = absurd (h (ap (λ (x : CoreState). x.phase) e))
+start_planned v c (is_begun b) h own = has_begun b
+start_planned v c (is_over e) h own = has_ended e
+start_planned v c (is_renewing e) h own = absurd (own (ap (λ (x : CoreState). x.phase) e))
+
+pub ended_start : (v : MakerView) (c : CoreState) (old : Bool) → c ≡ (if old then old_core else closed_core) → IsStart v c
+ended_start v c true e = is_renewing e
+ended_start v c false e = is_over (ap (λ (x : CoreState). x.phase) e)
 
 pub planned_begun : (v : MakerView) (c : CoreState) → IsPlanned v c → c.phase ≢ Closed → IsBegun v c
 planned_begun v c (has_begun b) h = b
@@ -246,6 +252,9 @@ finish_whole {hits = hits} {n = n} work may c lent d old begun mid new r core se
     finish_ran work may c d old mid new r closed same (subst (λ (s : Seen). Came run.Tree hits n work may c s d mid r) seen (subst (λ (x : CoreState). Came run.Tree hits n work may x begun d mid r) core a))
 
 -- ### The texts of the end, as they were given and as they were made
+
+pub told_of : (w : Wanted) (v : MakerView) (makes : Makes) (plan : Node) (texts : List Node) → IsRun w v makes plan texts → AreTold w plan texts
+told_of w v makes plan texts is = record { puts = is.puts; ends = is.jobs.ends }
 
 pub jobs_by : (w : Wanted) (v : MakerView) (makes : Makes) (given made : List Node) → made ≡ given → AreJobs w v makes given → AreJobs w v makes made
 jobs_by w v makes given made is a = subst (λ (ns : List Node). AreJobs w v makes ns) (sym is) a

@@ -19,19 +19,19 @@ use Rattle.work_journal.specs.Wanted.{MarkHas, IsPartway}
 use Rattle.work_journal.specs.Keeps.{Agrees}
 use Rattle.work_journal.specs.Laws.{EveryEndWhole, EveryStartKeeps}
 
-whole_has : (x : Mark) (was : Option Node) (n : Node) (is : Option Node) → x ≡ whole → MarkHas x was n is → is ≡ Some n
-whole_has absent was n is e h = let d : absent ≡ whole = e in cc
-whole_has first was n is e h = let d : first ≡ whole = e in cc
-whole_has whole was n is e h = h
-whole_has any was n is e h = let d : any ≡ whole = e in cc
-whole_has earlier was n is e h = absurd h
+whole_has : (x : Mark) (was : Option Node) (n : Node) (old is : Option Node) → x ≡ whole → MarkHas x was n old is → is ≡ Some n
+whole_has absent was n old is e h = let d : absent ≡ whole = e in cc
+whole_has first was n old is e h = let d : first ≡ whole = e in cc
+whole_has whole was n old is e h = h
+whole_has any was n old is e h = let d : any ≡ whole = e in cc
+whole_has earlier was n old is e h = let d : earlier ≡ whole = e in cc
 
-absent_has : (x : Mark) (was : Option Node) (n : Node) (is : Option Node) → x ≡ absent → MarkHas x was n is → is ≡ None
-absent_has absent was n is e h = h
-absent_has first was n is e h = let d : first ≡ absent = e in cc
-absent_has whole was n is e h = let d : whole ≡ absent = e in cc
-absent_has any was n is e h = let d : any ≡ absent = e in cc
-absent_has earlier was n is e h = absurd h
+absent_has : (x : Mark) (was : Option Node) (n : Node) (old is : Option Node) → x ≡ absent → MarkHas x was n old is → is ≡ None
+absent_has absent was n old is e h = h
+absent_has first was n old is e h = let d : first ≡ absent = e in cc
+absent_has whole was n old is e h = let d : whole ≡ absent = e in cc
+absent_has any was n old is e h = let d : any ≡ absent = e in cc
+absent_has earlier was n old is e h = let d : earlier ≡ absent = e in cc
 
 finished : (p : Mark → Bool) (steps : List ℕ) (c : CoreState) (m : Marking) → c.phase ≡ Closed → Shows p steps c m → IsFinished steps m
 finished p steps c m e (empty h l) = let d : Empty ≡ Closed = e in cc
@@ -48,9 +48,9 @@ end_whole w c s k e =
     let has = k.exact.has in
     let h = finished is_whole w.steps c k.exact.marking e k.exact.shows in
     record {
-      outputs = λ j i st. whole_has _ _ _ _ (h.target j i st) (has.named (target j i) st);
-      texts = λ i l. whole_has _ _ _ _ (h.final i l) (has.named (final i) l);
-      temps = λ j i st. absent_has _ _ _ _ (h.temp j i st) (has.named (temp j i) st);
+      outputs = λ j i st. whole_has _ _ _ _ _ (h.target j i st) (has.named (target j i) st);
+      texts = λ i l. whole_has _ _ _ _ _ (h.final i l) (has.named (final i) l);
+      temps = λ j i st. absent_has _ _ _ _ _ (h.temp j i st) (has.named (temp j i) st);
       others = has.others;
     }
 

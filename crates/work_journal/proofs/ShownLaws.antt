@@ -116,10 +116,10 @@ shown_more work paths all steps more states others job next n s at a is of m o =
 steps_same : (work : List ℕ) (paths : List (List ℕ)) (all steps : List ℕ) (states : List JobState) → AreShown work paths all steps states (length all) → steps ≡ all
 steps_same work paths all steps states a = ext_get_or 0 steps all a.same_steps (λ i l. a.steps_are i (let e = a.same_steps in omega (arith, e)))
 
-states_same : (work : List ℕ) (paths : List (List ℕ)) (all steps : List ℕ) (states : List JobState) → AreShown work paths all steps states (length all) → states ≡ shown_states all (presence work paths)
+states_same : (work : List ℕ) (paths : List (List ℕ)) (all steps : List ℕ) (states : List JobState) → AreShown work paths all steps states (length all) → states ≡ shown_states all (presence false work paths)
 unfolding presence
-states_same work paths all steps states a = ext_get_or Done states (shown_states all (presence work paths)) (a.same_states ∙ sym (length_shown all (presence work paths)))
-    (λ i l. let inside : i < length all = (let e = a.same_states in omega (arith, e)) in a.states_are i inside ∙ sym (shown_at all (presence work paths) i inside))
+states_same work paths all steps states a = ext_get_or Done states (shown_states all (presence false work paths)) (a.same_states ∙ sym (length_shown all (presence false work paths)))
+    (λ i l. let inside : i < length all = (let e = a.same_states in omega (arith, e)) in a.states_are i inside ∙ sym (shown_at all (presence false work paths) i inside))
 
 pub shown_fit : (work : List ℕ) (paths : List (List ℕ)) (v : MakerView) (makes : Makes) (steps : List ℕ) (states : List JobState) → IsMaker v makes → AreShown work paths v.steps steps states (length v.steps) → AreFit steps states
 shown_fit work paths v makes steps states maker a = record {
@@ -130,7 +130,7 @@ shown_fit work paths v makes steps states maker a = record {
       (subst (λ (s : JobState). IsTrue (fits (get_or v.steps j 0) s)) (sym (a.states_are j inside)) (state_fits (get_or v.steps j 0) _ _ (maker.some j inside)));
 }
 
-pub shown_core_is : (work : List ℕ) (paths : List (List ℕ)) (all steps : List ℕ) (states : List JobState) (c : CoreState) → AreShown work paths all steps states (length all) → c ≡ resumed_core steps states → c ≡ resumed_core all (shown_states all (presence work paths))
+pub shown_core_is : (work : List ℕ) (paths : List (List ℕ)) (all steps : List ℕ) (states : List JobState) (c : CoreState) → AreShown work paths all steps states (length all) → c ≡ resumed_core steps states → c ≡ resumed_core all (shown_states all (presence false work paths))
 shown_core_is work paths all steps states c a is = is ∙ ap (λ (l : List ℕ). resumed_core l states) (steps_same work paths all steps states a) ∙ ap (λ (l : List JobState). resumed_core all l) (states_same work paths all steps states a)
 
 pub shown_begun : (work : List ℕ) (paths : List (List ℕ)) (v : MakerView) (steps : List ℕ) (states : List JobState) (c : CoreState) → AreShown work paths v.steps steps states (length v.steps) → c ≡ resumed_core steps states → IsBegun v c

@@ -54,20 +54,20 @@ taken_absent q p x e = elim (cases_Bool (is_eq (slice_cmp nat_cmp p q))) [
 ]
 
 -- what stands at a name
-taken_has : (t : TreeMap) (q p : List ℕ) (x : Mark) (was : Option Node) (node : Node) → MarkHas x was node (fin.get t p) → MarkHas (taken_mark q p x) was node (fin.get (fin.remove t q) p)
-taken_has t q p x was node h = elim (same_path p q) [
-  | inl e ↦ subst (λ (y : List ℕ). MarkHas (taken_mark q y x) was node (fin.get (fin.remove t q) y)) (sym e) (rw (here q) (get_taken t q))
+taken_has : (t : TreeMap) (q p : List ℕ) (x : Mark) (was : Option Node) (node : Node) (old : Option Node) → MarkHas x was node old (fin.get t p) → MarkHas (taken_mark q p x) was node old (fin.get (fin.remove t q) p)
+taken_has t q p x was node old h = elim (same_path p q) [
+  | inl e ↦ subst (λ (y : List ℕ). MarkHas (taken_mark q y x) was node old (fin.get (fin.remove t q) y)) (sym e) (rw (here q) (get_taken t q))
   | inr f ↦ rw (f, get_taken_other t q p (not_same p q f)) h
 ]
   where
     here : (y : List ℕ) → is_eq (slice_cmp nat_cmp y y) ≡ true
     here y = elim (same_path y y) [ inl e ↦ here_eq y | inr f ↦ absurd (not_same y y f refl) ]
 
-other_has : (t : TreeMap) (q p : List ℕ) (x : Mark) (was : Option Node) (node : Node) → p ≢ q → MarkHas x was node (fin.get t p) → MarkHas x was node (fin.get (fin.remove t q) p)
-other_has t q p x was node ne h = rw (get_taken_other t q p ne) h
+other_has : (t : TreeMap) (q p : List ℕ) (x : Mark) (was : Option Node) (node : Node) (old : Option Node) → p ≢ q → MarkHas x was node old (fin.get t p) → MarkHas x was node old (fin.get (fin.remove t q) p)
+other_has t q p x was node old ne h = rw (get_taken_other t q p ne) h
 
-gone_has : (t : TreeMap) (q p : List ℕ) (x : Mark) (was : Option Node) (node : Node) → x ≡ absent → MarkHas x was node (fin.get t p) → MarkHas x was node (fin.get (fin.remove t q) p)
-gone_has t q p x was node e h = rw e (elim (same_path p q) [
+gone_has : (t : TreeMap) (q p : List ℕ) (x : Mark) (was : Option Node) (node : Node) (old : Option Node) → x ≡ absent → MarkHas x was node old (fin.get t p) → MarkHas x was node old (fin.get (fin.remove t q) p)
+gone_has t q p x was node old e h = rw e (elim (same_path p q) [
   | inl s ↦ subst (λ (y : List ℕ). fin.get (fin.remove t q) y ≡ None) (sym s) (get_taken t q)
   | inr f ↦ get_taken_other t q p (not_same p q f) ∙ (rw e at h)
 ])
@@ -83,17 +83,17 @@ pub record Clean (w : Wanted) (m : Marking) (q : List ℕ) : Type 0 where
 has_swept : (w : Wanted) (m : Marking) (t : TreeMap) (q : List ℕ) → Clean w m q → Has w m t → Has w (swept w m q) (fin.remove t q)
 has_swept w m t q clean h = record { named = named; others = others }
   where
-    named : (n : Name) → IsName w.steps n → MarkHas (mark (swept w m q) n) (fin.get w.start (path_of w n)) (w.node n) (fin.get (fin.remove t q) (path_of w n))
-    named plan_new is = taken_has t q (path_of w plan_new) m.plan_new _ _ (h.named plan_new is)
-    named plan is = taken_has t q (path_of w plan) m.plan _ _ (h.named plan is)
-    named (temp j k) is = gone_has t q (path_of w (temp j k)) (m.temp j k) _ _ (clean.temps j k is) (h.named (temp j k) is)
-    named (commit j) is = taken_has t q (path_of w (commit j)) (m.commit j) _ _ (h.named (commit j) is)
-    named (fresh i) is = gone_has t q (path_of w (fresh i)) (m.fresh i) _ _ (clean.news i is) (h.named (fresh i) is)
+    named : (n : Name) → IsName w.steps n → MarkHas (mark (swept w m q) n) (fin.get w.start (path_of w n)) (w.node n) (w.older n) (fin.get (fin.remove t q) (path_of w n))
+    named plan_new is = taken_has t q (path_of w plan_new) m.plan_new _ _ _ (h.named plan_new is)
+    named plan is = taken_has t q (path_of w plan) m.plan _ _ _ (h.named plan is)
+    named (temp j k) is = gone_has t q (path_of w (temp j k)) (m.temp j k) _ _ _ (clean.temps j k is) (h.named (temp j k) is)
+    named (commit j) is = taken_has t q (path_of w (commit j)) (m.commit j) _ _ _ (h.named (commit j) is)
+    named (fresh i) is = gone_has t q (path_of w (fresh i)) (m.fresh i) _ _ _ (clean.news i is) (h.named (fresh i) is)
     named (final i) is = elim (clean.ends i is) [
-      | inl e ↦ gone_has t q (path_of w (final i)) (m.final i) _ _ e (h.named (final i) is)
-      | inr ne ↦ other_has t q (path_of w (final i)) (m.final i) _ _ ne (h.named (final i) is)
+      | inl e ↦ gone_has t q (path_of w (final i)) (m.final i) _ _ _ e (h.named (final i) is)
+      | inr ne ↦ other_has t q (path_of w (final i)) (m.final i) _ _ _ ne (h.named (final i) is)
     ]
-    named (target j k) is = other_has t q (path_of w (target j k)) (m.target j k) _ _ (clean.targets j k is) (h.named (target j k) is)
+    named (target j k) is = other_has t q (path_of w (target j k)) (m.target j k) _ _ _ (clean.targets j k is) (h.named (target j k) is)
 
     others : (p : List ℕ) → ((n : Name) → IsName w.steps n → p ≢ path_of w n) → fin.get (fin.remove t q) p ≡ fin.get w.start p
     others p out = elim (same_path p q) [

@@ -3,7 +3,7 @@ use Rattle.std.specs.Prelude.{◌≡◌, ◌∷◌, [], ℕ, List, true, Result,
 use Rattle.file_tree.specs.declared.node.Node.{Node}
 use Rattle.journal_core.specs.declared.event.Phase.TheVariants.{Closed}
 use Rattle.journal_core.specs.Names.{plan_new, final}
-use Rattle.journal_core.specs.Table.{CoreState, new_core}
+use Rattle.journal_core.specs.Table.{CoreState, new_core, old_core}
 use Rattle.work_journal.specs.Views.{MakerView, Makes}
 use Rattle.work_journal.specs.Work.{work_path}
 use Rattle.work_journal.specs.Wanted.{Wanted}
@@ -20,11 +20,12 @@ use Rattle.work_journal.specs.Laws.{IsEnded}
 use Rattle.work_journal.specs.Runs.{Came, IsGiven}
 use Rattle.work_journal.specs.Rounds.{IsBegun}
 
--- the core of a start: before there is a plan, under a plan, or at the end
+-- the core of a start: before there is a plan, under a plan, at the end, or at one that an earlier program wrote
 pub data IsStart (v : MakerView) (c : CoreState) : Type 0 where
   is_new : c ≡ new_core v.steps → IsStart v c
   is_begun : IsBegun v c → IsStart v c
   is_over : c.phase ≡ Closed → IsStart v c
+  is_renewing : c ≡ old_core → IsStart v c
 
 -- and of one whose plan is there
 pub data IsPlanned (v : MakerView) (c : CoreState) : Type 0 where
@@ -39,6 +40,11 @@ pub record AreJobs (w : Wanted) (v : MakerView) (makes : Makes) (texts : List No
 -- the text of a plan as a file
 abbrev pub plan_node : PlanData → Node
 plan_node plan = text_file (text_of (plan_fields plan))
+
+-- the plan, and the texts of the end
+pub record AreTold (w : Wanted) (plan : Node) (texts : List Node) : Type 0 where
+  pub puts : w.node plan_new ≡ plan
+  pub ends : AreTexts w texts
 
 -- and the plan
 pub record IsRun (w : Wanted) (v : MakerView) (makes : Makes) (plan : Node) (texts : List Node) : Type 0 where

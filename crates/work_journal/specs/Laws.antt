@@ -1,5 +1,5 @@
 -- The laws that tie the core to a tree: each call keeps the relation, and a call that failed leaves the run partway.
-use Rattle.std.specs.Prelude.{◌≡◌, ◌≢◌, ℕ, ◌<◌, ◌≤◌, ◌^◌, List, length, Some, None, Result, Ok, is_some}
+use Rattle.std.specs.Prelude.{◌≡◌, ◌≢◌, ℕ, Bool, ◌<◌, ◌≤◌, ◌^◌, List, length, Some, None, Result, Ok, is_some}
 use Rattle.std.specs.FinMap as fin
 use Rattle.file_tree.specs.declared.call.Call.{Call}
 use Rattle.file_tree.specs.Trees.{TreeMap}
@@ -9,12 +9,13 @@ use Rattle.file_tree.specs.Moments.{LooksOnly}
 use Rattle.journal_core.specs.declared.event.Phase.TheVariants.{Closed}
 use Rattle.journal_core.specs.Names.{Name, IsStep, IsName, IsWorkName, temp, final, target}
 use Rattle.journal_core.specs.Table.{CoreState}
+use Rattle.journal_core.specs.Marks.{is_earlier}
 use Rattle.journal_core.specs.Starts.{shown_core}
 use Rattle.work_journal.specs.Work.{work_path, has_path, presence}
 use Rattle.work_texts.specs.declared.key.RunKey.{RunKey}
 use Rattle.work_journal.specs.declared.opening.Opened.{Opened}
 use Rattle.work_journal.specs.Opening.{Opens}
-use Rattle.work_journal.specs.Beginning.{core_by}
+use Rattle.work_journal.specs.Beginning.{core_by, is_old}
 use Rattle.work_journal.specs.Wanted.{Wanted, path_of, IsApart, IsWork, IsPartway}
 use Rattle.work_journal.specs.Keeps.{Does, Broke, Keeps, Kept}
 use Rattle.work_journal.specs.Runs.{Runs, Ran}
@@ -72,15 +73,16 @@ EveryStartKeeps = (w : Wanted) → IsApart w → (t : TreeMap) (p : IsPartway w 
 pub record ArePresent (w : Wanted) (t : TreeMap) (paths : List (List ℕ)) : Type 0 where
   pub named : (x : Name) → IsWorkName w.steps x → has_path paths (work_path w.work x) ≡ is_some (fin.get t (work_path w.work x))
 
--- the core that they show agrees with a tree that a stop left partway, once it is stored
+-- the core that they show agrees with a tree that a stop left partway, once it is stored; where its finished text is an earlier
+-- program's the core is that of one
 abbrev pub EveryPresentKeeps : Type 0
-EveryPresentKeeps = (w : Wanted) → IsApart w → (t : TreeMap) → IsPartway w t → (paths : List (List ℕ)) → ArePresent w t paths
-    → Keeps w (shown_core w.steps (presence w.work paths)) (settled_state t)
+EveryPresentKeeps = (w : Wanted) → IsApart w → (t : TreeMap) (p : IsPartway w t) → (paths : List (List ℕ)) → ArePresent w t paths
+    → (old : Bool) → is_earlier (p.marking.final 3) ≡ old → Keeps w (shown_core w.steps (presence old w.work paths)) (settled_state t)
 
 -- and it is the one that a start begins with, by what its work folder holds
 abbrev pub EveryOpenedShown : Type 0
 EveryOpenedShown = (steps work : List ℕ) (paths : List (List ℕ)) (key : RunKey) (seen : Seen) (o : Opened)
-    → Opens work paths key seen (Ok o) → core_by o work paths steps ≡ shown_core steps (presence work paths)
+    → Opens work paths key seen (Ok o) → core_by o work paths steps ≡ shown_core steps (presence (is_old o) work paths)
 
 -- ### One core alone
 

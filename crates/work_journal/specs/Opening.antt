@@ -64,7 +64,7 @@ pub data PlanKept (seen : Seen) (path : List ℕ) (key : RunKey) : Result Opened
 
 -- and of the text `finished`
 pub data FinishedKept (seen : Seen) (path : List ℕ) (key : RunKey) : Result Opened JournalErr → Type 0 where
-  finished_read : (bytes : List ℕ) (d : FinishedData) → TextStands seen path bytes → IsFinishedText bytes d → d.key ≡ key → FinishedKept seen path key (Ok (opened.Finished d.report))
+  finished_read : (bytes : List ℕ) (d : FinishedData) → TextStands seen path bytes → IsFinishedText bytes d → d.key ≡ key → FinishedKept seen path key (Ok (opened.Finished d.report d.old))
   finished_not_there : {e : JournalErr} → TextBlames seen path file.Finished e → FinishedKept seen path key (Err e)
   finished_bad : {e : JournalErr} (bytes : List ℕ) → TextStands seen path bytes → FinishedBlames bytes e → FinishedKept seen path key (Err e)
   finished_other : {e : JournalErr} (bytes : List ℕ) (d : FinishedData) → TextStands seen path bytes → IsFinishedText bytes d → KeyBlames d.key key e → FinishedKept seen path key (Err e)

@@ -8,13 +8,14 @@ use Rattle.journal_core.specs.Marks.{Mark, Marking, mark, absent, first, whole, 
 use Rattle.journal_core.specs.Shapes.{HasShape}
 use Rattle.work_journal.specs.Work.{work_path}
 
--- the work folder, the number of steps of each job, the path of each output, the whole node of each name,
--- and the tree before the run
+-- the work folder, the number of steps of each job, the path of each output, the whole node of each name, the node that an earlier
+-- program gives it where it can say what is wanted, and the tree before the run
 pub record Wanted : Type 0 where
   pub work : List ℕ
   pub steps : List ℕ
   pub output : ℕ → ℕ → List ℕ
   pub node : Name → Node
+  pub older : Name → Option Node
   pub start : TreeMap
 
 -- the path of a name of the run
@@ -27,17 +28,23 @@ path_of w (fresh part) = work_path w.work (fresh part)
 path_of w (final part) = work_path w.work (final part)
 path_of w (target job step) = w.output job step
 
--- what stands at a name of this mark, where this node stood before the run and that one is wanted; no earlier program's texts are read
-abbrev pub MarkHas : Mark → Option Node → Node → Option Node → Type 0
-MarkHas absent was node is = is ≡ None
-MarkHas first was node is = is ≡ was
-MarkHas whole was node is = is ≡ Some node
-MarkHas any was node is = is ≢ None
-MarkHas earlier was node is = ⊥
+-- there is something, and it is this
+pub record IsThere (node is : Option Node) : Type 0 where
+  pub same : is ≡ node
+  pub some : is ≢ None
+
+-- what stands at a name of this mark, where this node stood before the run, that one is wanted, and an earlier program gives it the
+-- third
+abbrev pub MarkHas : Mark → Option Node → Node → Option Node → Option Node → Type 0
+MarkHas absent was node old is = is ≡ None
+MarkHas first was node old is = is ≡ was
+MarkHas whole was node old is = is ≡ Some node
+MarkHas any was node old is = is ≢ None
+MarkHas earlier was node old is = IsThere old is
 
 -- the tree shows the marking, and all else is as before the run
 pub record Has (w : Wanted) (m : Marking) (t : TreeMap) : Type 0 where
-  pub named : (n : Name) → IsName w.steps n → MarkHas (mark m n) (fin.get w.start (path_of w n)) (w.node n) (fin.get t (path_of w n))
+  pub named : (n : Name) → IsName w.steps n → MarkHas (mark m n) (fin.get w.start (path_of w n)) (w.node n) (w.older n) (fin.get t (path_of w n))
   pub others : (q : List ℕ) → ((n : Name) → IsName w.steps n → q ≢ path_of w n) → fin.get t q ≡ fin.get w.start q
 
 -- a tree partway through the run

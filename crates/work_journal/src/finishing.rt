@@ -3,12 +3,12 @@
 //! This layer promises: whatever core a start begins with, at `Ok` the run is over, and for the files that
 //! the maker wants all outputs and texts are there; whatever is answered, every stop leaves the run partway.
 //! Read first: `specs/Finishing.antt`, `specs/Blames.antt`, `specs/Runs.antt`.
-ghost use Rattle.std.specs.Prelude.{◌≡◌, ◌≤◌, ◌<◌, ◌+◌, true, IfErr, OnOk, IsTrue, length, map, List, ℕ, ⊤};
+ghost use Rattle.std.specs.Prelude.{◌≡◌, ◌≢◌, ◌≤◌, ◌<◌, ◌+◌, true, false, IfErr, OnOk, IsTrue, length, map, List, ℕ, ⊤};
 ghost use Rattle.dw_base.specs.declared.fault.Refusal.{Refusal};
 ghost use Rattle.file_tree.specs.declared.node.Node.{Node};
 ghost use Rattle.file_tree.specs.Images.{state_of};
 ghost use Rattle.std.specs.String.{string_bytes};
-ghost use Rattle.journal_core.specs.declared.event.Phase.TheVariants.{Empty, Closed};
+ghost use Rattle.journal_core.specs.declared.event.Phase.TheVariants.{Empty, Closed, Renewing};
 ghost use Rattle.journal_core.specs.Cores.{core_of};
 ghost use Rattle.journal_core.specs.Names.{plan_new};
 ghost use Rattle.work_texts.specs.Lists.{bytes_of};
@@ -17,7 +17,7 @@ ghost use Rattle.work_journal.specs.Blames.{RunBlames, is_mild_run};
 ghost use Rattle.work_journal.specs.Clearing.{AreAll, IsCleared};
 ghost use Rattle.work_journal.specs.Settling.{HasPlanAlone, BeganAlone};
 ghost use Rattle.work_journal.specs.Ending.{end_nodes, text_file};
-ghost use Rattle.work_journal.specs.Finishing.{IsStart, IsPlanned, AreJobs, IsRun, FinishRan};
+ghost use Rattle.work_journal.specs.Finishing.{IsStart, IsPlanned, AreJobs, AreTold, IsRun, FinishRan};
 ghost use Rattle.work_journal.specs.Keeps.{Keeps};
 ghost use Rattle.work_journal.specs.Planned.{ArePlanned, AreSourcesApart};
 ghost use Rattle.work_journal.specs.Rounds.{IsBegun, rounds_of};
@@ -31,6 +31,7 @@ use crate::desk::Desk;
 use crate::job_err::stopped;
 use crate::maker::Maker;
 use crate::planning::put_node;
+use crate::renewing::put_node_over;
 use crate::running::run_jobs;
 use crate::steps::text_node;
 use file_tree::{Node, Tree};
@@ -109,6 +110,7 @@ fn plan_first<T: Tree, M: Maker>(
     plan: Node,
 ) -> Result<(), JournalErr>
     requires start { IsStart (M.view maker.now) (core_of desk.old.core) }
+    requires own { (core_of desk.old.core).phase ≢ Renewing false false }
     ensures same_tree { desk.new.tree.ghost_name ≡ desk.old.tree.ghost_name }
     ensures planned { OnOk result (IsPlanned (M.view maker.now) (core_of desk.new.core)) }
     ensures alone { (core_of desk.old.core).phase ≡ Empty → OnOk result (AreAll work.now (map string_bytes present.now) (T.seen desk.old.tree.now) → HasPlanAlone work.now plan (T.seen desk.new.tree.now)) }
@@ -122,6 +124,35 @@ fn plan_first<T: Tree, M: Maker>(
         return Ok(());
     }
     put_node(alloc, desk, work, present, &plan)
+}
+
+/// Puts the plan, if there is none yet; where an earlier program wrote that the run is finished, that text is replaced.
+fn told_first<T: Tree, M: Maker>(
+    alloc: Global,
+    desk: &mut Desk<T>,
+    work: &str,
+    present: &[String],
+    maker: &M,
+    plan: Node,
+    texts: &[Node; 4],
+) -> Result<(), JournalErr>
+    requires start { IsStart (M.view maker.now) (core_of desk.old.core) }
+    ensures same_tree { desk.new.tree.ghost_name ≡ desk.old.tree.ghost_name }
+    ensures planned { OnOk result (IsPlanned (M.view maker.now) (core_of desk.new.core)) }
+    ensures alone { (core_of desk.old.core).phase ≡ Empty → OnOk result (AreAll work.now (map string_bytes present.now) (T.seen desk.old.tree.now) → HasPlanAlone work.now plan (T.seen desk.new.tree.now)) }
+    ensures blame { IfErr result (RunBlames (M.view maker.now) (M.refuses maker.now) (T.seen desk.new.tree.now)) }
+    ensures mild { IfErr result (λ e. IsTrue (is_mild_run e)) }
+    ensures came { Came tree_fault (InWork work.now) 1 work.now (λ w. AreTold w plan texts.now) (core_of desk.old.core) (T.seen desk.old.tree.now) (core_of desk.new.core) (T.seen desk.new.tree.now) result }
+{
+    let is_old = desk.core().phase()
+        == Phase::Renewing {
+            put: false,
+            settled: false,
+        };
+    if is_old {
+        return put_node_over(alloc, desk, work, &texts[3]);
+    }
+    plan_first(alloc, desk, work, present, maker, plan)
 }
 
 /// Does the jobs of a run that isn't over, and puts its texts.
@@ -180,7 +211,7 @@ fn finish_at<T: Tree, M: Maker>(
     ensures alone { (core_of desk.old.core).phase ≡ Empty → (T.seen desk.old.tree.now).tells ≡ true → OnOk result (AreAll work.now (map string_bytes present.now) (T.seen desk.old.tree.now) → BeganAlone work.now plan (T.seen desk.old.tree.now) (T.seen desk.new.tree.now)) }
     ensures came { Came tree_fault (IsHit work.now (M.view maker.old) (λ j. ⊤)) (rounds_of (length (M.view maker.old).steps) in_flight + 3) work.now (λ w. IsRun w (M.view maker.old) (M.makes maker.old) plan texts.now) (core_of desk.old.core) (T.seen desk.old.tree.now) (core_of desk.new.core) (T.seen desk.new.tree.now) result }
 {
-    plan_first(alloc, desk, work, present, maker, plan)?;
+    told_first(alloc, desk, work, present, maker, plan, texts)?;
     jobs_next(alloc, desk, work, maker, in_flight, texts)?;
     clear(alloc, desk, work)?;
     Ok(())
@@ -224,7 +255,10 @@ fn finish_over<T: Tree, M: Maker>(
 /// with up to so many in flight, 1 to 64, and then the lists of sources, of debug files and of links and the
 /// finished text; at last the work folder is cleared of all else.
 ///
-/// A run that is finished needs no maker: it goes by a desk over `Core::closed`, and `clear`.
+/// Where an earlier program wrote that the run is finished, that text is replaced first.
+///
+/// A run that is finished needs no maker: it goes by a desk over `Core::closed`, and `clear`; one that an earlier program
+/// finished by a desk over `Core::old`, `renew`, and `clear`.
 ///
 /// `Changed` and `Refused` name the job's file, which isn't the planned one, or of which this is refused;
 /// `Tree` comes only where the tree's count of faults rose. After an error the run is started again.

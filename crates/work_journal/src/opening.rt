@@ -25,8 +25,8 @@ pub enum Opened {
     Empty,
     /// The plan of a run that isn't finished.
     Resumed(PlanData),
-    /// The run is finished, and this is what it prints.
-    Finished { report: Blob },
+    /// The run is finished: what it prints, and whether an earlier program wrote that it is.
+    Finished { report: Blob, old: bool },
 }
 
 /// The bytes of a text that was read. One that is no file, or too long, is a bad text.
@@ -89,6 +89,7 @@ fn open_finished<T: Tree>(
     check_key(alloc, &done.key, key)?;
     Ok(Opened::Finished {
         report: done.report,
+        old: done.old,
     })
 }
 

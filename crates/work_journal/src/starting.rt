@@ -3,13 +3,13 @@
 //! This layer promises: a job is as at first where its commit mark isn't there, done where it is and no
 //! temporary name of its steps, and else moved up to the first that is there.
 //! Read first: `specs/Begun.antt`, and `specs/Work.antt` for the paths.
-ghost use Rattle.std.specs.Prelude.{◌≡◌, IfOk, List, ℕ, length, map};
+ghost use Rattle.std.specs.Prelude.{◌≡◌, IfOk, List, ℕ, false, if◌then◌else◌, length, map};
 ghost use Rattle.std.specs.String.{string_bytes};
 ghost use Rattle.std.specs.Str.{bytes_eq};
 ghost use Rattle.std.specs.List.{list_any};
 ghost use Rattle.journal_core.specs.Cores.{core_of};
 ghost use Rattle.journal_core.specs.Starts.{shown_states};
-ghost use Rattle.journal_core.specs.Table.{new_core, resumed_core};
+ghost use Rattle.journal_core.specs.Table.{new_core, resumed_core, closed_core, old_core};
 ghost use Rattle.work_journal.specs.Finishing.{IsStart};
 ghost use Rattle.work_journal.specs.Beginning.{core_by};
 ghost use Rattle.work_journal.specs.Begun.{state_by, AreShown};
@@ -101,7 +101,7 @@ pub fn shown<M: Maker>(
     present: &[String],
     maker: &M,
 ) -> Result<Core, AllocError>
-    ensures core { IfOk result (λ c. core_of c ≡ resumed_core (M.view maker.now).steps (shown_states (M.view maker.now).steps (presence work.now (map string_bytes present.now)))) }
+    ensures core { IfOk result (λ c. core_of c ≡ resumed_core (M.view maker.now).steps (shown_states (M.view maker.now).steps (presence false work.now (map string_bytes present.now)))) }
     ensures begun { IfOk result (λ c. IsBegun (M.view maker.now) (core_of c)) }
 {
     let (steps, states) = shown_jobs(alloc, work, present, maker)?;
@@ -127,8 +127,19 @@ fn new_run<M: Maker>(alloc: Global, maker: &M) -> Result<Core, AllocError>
     Core::new(alloc, steps)
 }
 
+/// The core of a run that is finished; where an earlier program wrote so its text is put anew first.
+fn ended_core(alloc: Global, old: bool) -> Core
+    ensures core { core_of result ≡ (if old then old_core else closed_core) }
+{
+    if old {
+        return Core::old(alloc);
+    }
+    Core::closed(alloc)
+}
+
 /// The core that a start begins with: of a work folder that holds neither text, of one with a plan as
 /// `shown` says, or of a run that is finished.
+#[tactic(auto, using(crate::proofs::FinishLaws::ended_start))]
 pub fn start_core<M: Maker>(
     alloc: Global,
     opened: &Opened,
@@ -142,6 +153,6 @@ pub fn start_core<M: Maker>(
     match opened {
         Opened::Empty => new_run(alloc, maker),
         Opened::Resumed(_) => shown(alloc, work, present, maker),
-        Opened::Finished { report: _ } => Ok(Core::closed(alloc)),
+        Opened::Finished { report: _, old } => Ok(ended_core(alloc, *old)),
     }
 }

@@ -5,7 +5,7 @@ use Rattle.root_run.proofs.EnteredLaws.{go-finished, go-resumed, go-empty, few-r
 use Rattle.root_run.proofs.running.go_on.Goals as goal
 
 pub returns-in-Finished : goal.returns-in-Finished
-returns-in-Finished g c = record { went = go-finished _ _ _ _ _ _ _ _ _ _ _ _ _ _ _ c.as_str-work.ensures.value refl _ c.in-Finished.is c.finished_run.ensures.ended }
+returns-in-Finished g c = record { went = go-finished _ _ _ _ _ _ _ _ _ _ _ _ _ _ _ c.as_str-work.ensures.value refl _ _ c.in-Finished.is c.finished_run.ensures.ended }
 
 pub returns-in-Resumed : goal.returns-in-Resumed
 returns-in-Resumed g c = record {

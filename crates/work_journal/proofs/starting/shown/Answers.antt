@@ -1,4 +1,4 @@
-use Rattle.std.proofs.Common.{rules, ◌≡◌, map}
+use Rattle.std.proofs.Common.{rules, ◌≡◌, map, false}
 use Rattle.work_journal.specs.Views.{IsMaker}
 use Rattle.std.specs.String.{string_bytes}
 use Rattle.journal_core.specs.declared.machine.Core.{Core}
@@ -12,7 +12,7 @@ use Rattle.work_journal.proofs.starting.shown.Goals as goal
 
 pub returns-clause-core : goal.returns-clause-core
 returns-clause-core g c = if_core c.resumed.result (λ (x : Core). core_of x ≡ resumed_core c.in_ok-steps.steps.items c.in_ok-steps.states.items)
-    (λ (x : Core). core_of x ≡ resumed_core (g.M.Maker.view c.args.maker.now).steps (shown_states (g.M.Maker.view c.args.maker.now).steps (presence c.args.work.now (map string_bytes c.args.present.now))))
+    (λ (x : Core). core_of x ≡ resumed_core (g.M.Maker.view c.args.maker.now).steps (shown_states (g.M.Maker.view c.args.maker.now).steps (presence false c.args.work.now (map string_bytes c.args.present.now))))
     c.resumed.ensures.resumed (λ x is. shown_core_is _ _ _ _ _ (core_of x) c.in_ok-steps.ensures.shown is)
 
 pub returns-clause-begun : goal.returns-clause-begun

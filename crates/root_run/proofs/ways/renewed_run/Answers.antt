@@ -1,0 +1,17 @@
+-- A finished run whose text is put anew, or for whose text memory is wanting.
+use Rattle.std.proofs.Common.{refl}
+use Rattle.root_plan.specs.Plans.{key_of}
+use Rattle.root_run.specs.Starts.ClearEnded.{no_text, renewed}
+use Rattle.root_run.proofs.FirstLaws.{err-is}
+use Rattle.root_run.proofs.OldLaws.{renewed-ran}
+use Rattle.root_run.proofs.ways.renewed_run.Goals as goal
+
+pub returns-in_err-text : goal.returns-in_err-text
+returns-in_err-text g c = record { ended = no_text refl (err-is _ _ c.from_residual.ensures.1) }
+
+pub returns : goal.returns
+returns g c = record {
+  ended = renewed c.renew_finished-renewed.result
+      (renewed-ran _ (key_of c.args.options.now) c.args.report _ _ _ _ _ c.deref.ensures.value c.in_ok-text.ensures.text c.renew_finished-renewed.ensures.ran)
+      c.report_end.ensures.value;
+}
