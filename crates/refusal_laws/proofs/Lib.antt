@@ -1,0 +1,16 @@
+pub mod Decisions
+pub mod ElfDecisions
+pub mod SectionDecisions
+pub mod RelocationDecisions
+pub mod ViewDecisions
+pub mod SplitDecisions
+pub mod UnitDecisions
+pub mod TableDecisions
+pub mod ValueDecisions
+pub mod EntryDecisions
+pub mod DataDecisions
+pub mod WalkDecisions
+pub mod LineDecisions
+pub mod ContributionDecisions
+pub mod MacroDecisions
+pub mod FileDecisions
