@@ -1,5 +1,6 @@
 pub mod PatchLaws
 pub mod RunLaws
+pub mod SameRecordLaws
 pub mod RecordMoveLaws
 pub mod MovedTableLaws
 pub mod WorkedMoves

@@ -1,5 +1,5 @@
 -- Laws of records that are moved: one after another they are those of the new table.
-use Rattle.std.proofs.Common.{◌≡◌, ◌≢◌, ◌⊎◌, ◌↔◌, ℕ, ℤ, zero, suc, ◌+◌, ◌*◌, ◌^◌, ◌<◌, ◌≤◌, ◌==◌, Bool, true, false, if◌then◌else◌, List, [], ◌∷◌, length, Option, Some, None, inl, inr, refl, sym, ap, ◌∙◌, subst, arith}
+use Rattle.std.proofs.Common.{◌≡◌, ◌≢◌, ◌⊎◌, ◌↔◌, ℕ, ℤ, zero, suc, ◌+◌, ◌*◌, ◌/◌, ◌^◌, ◌<◌, ◌≤◌, ◌==◌, Bool, true, false, if◌then◌else◌, List, [], ◌∷◌, length, Option, Some, None, inl, inr, refl, sym, ap, ◌∙◌, subst, arith, get_or, Fits, w8}
 use Rattle.std.specs.Bool.{MatchBool, ⊤}
 use Rattle.std.specs.Prelude.{IfSome, slice_index_or}
 use Rattle.std.specs.Int.RustNames.{FitsSigned}
@@ -7,15 +7,16 @@ use Rattle.std.proofs.lemmas.Bool.{cases_lt, eq-eqb, ne_eqb, le-leb}
 use Rattle.std.proofs.lemmas.List.{get_or_default}
 use Rattle.dw_base.specs.Elf.{word_size}
 use Rattle.dw_base.specs.RelocChanges.{RelocFits, with_reloc, written}
-use Rattle.dw_base.specs.Relocs.{reloc_at, reloc_size, word_width}
+use Rattle.dw_base.specs.Relocs.{reloc_at, reloc_in, reloc_size, word_width}
 use Rattle.dw_base.specs.SectionRelocations.{RelocationSource, is_none_type, records_in, relocation_of}
 use Rattle.dw_base.specs.declared.relocations.Reloc.{Reloc}
 use Rattle.dw_base.specs.declared.shared.Class.{Class}
 use Rattle.dw_base.specs.declared.shared.Class.TheVariants.{C32, C64}
 use Rattle.dw_base.proofs.RelocLaws.{length-with_reloc}
-use Rattle.dw_base.proofs.RelocationTieLaws.{count-has, get_or-records, length-records, record-some, record-there}
+use Rattle.dw_base.proofs.RelocationTieLaws.{count-has, get_or-records, length-records, record-some, record-there, with_table}
 use Rattle.elf_relocs.specs.FieldOffsets.{offset_addend}
-use Rattle.dw_patch.specs.RecordMoves.{AllSized, FieldsRise, HasKey, IsGap, PlacesFit, addend_after, addend_if, field_start, moved_table, no_field, nth_record, patch_for, record_put, record_step, records_moved}
+use Rattle.dw_patch.proofs.SameRecordLaws.{put-same}
+use Rattle.dw_patch.specs.RecordMoves.{AllSized, AreAhead, FieldsRise, HasKey, IsGap, OthersStay, PlacesFit, addend_after, addend_if, field_start, moved_table, no_field, nth_record, patch_for, record_at, record_put, record_step, records_moved}
 use Rattle.elf_relocs.specs.Runs.{place_by}
 use Rattle.elf_layout.specs.declared.patch.Patch.{Patch}
 use Rattle.elf_relocs.specs.declared.runs.Run.{Run}
@@ -35,7 +36,17 @@ pub moved-all : (g : RelocationSource) (runs : List Run) (fields : List Patch) (
 unfolding moved_table
 moved-all g runs fields n count out count_is end is = is ∙ ap (records_moved g runs fields) (end ∙ count_is)
 
-pub ruleset table_rules = (moved-none, moved-more, moved-all)
+-- the records that aren't reached yet
+pub ahead-all : (g : RelocationSource) (n : ℕ) (out : List ℕ) → out ≡ g.table → AreAhead g n out
+ahead-all g n out is = record { same = λ k le. ap (λ (t : List ℕ). record_at g t k) is }
+
+pub ahead-here : (g : RelocationSource) (n : ℕ) (out : List ℕ) → AreAhead g n out → record_at g out n ≡ record_at g g.table n
+ahead-here g n out h = h.same n (omega arith)
+
+pub ahead-more : (g : RelocationSource) (n : ℕ) (old new : List ℕ) → AreAhead g n old → OthersStay g n old new → AreAhead g (n + 1) new
+ahead-more g n old new h stay = record { same = λ k le. stay.same k (λ e. omega (arith, le, e)) ∙ h.same k (omega (arith, le)) }
+
+pub ruleset table_rules = (moved-none, moved-more, moved-all, ahead-all, ahead-here, ahead-more)
 
 -- the record of a number is the one that was read
 no_reloc : Reloc
@@ -70,7 +81,14 @@ place-fits g runs i r fit e lt counts =
     subst (λ (q : Reloc). place_by runs q.offset < 256 ^ word_size g.class) same
     (fit.each i lt (ap (λ (q : Reloc). is_none_type g.machine q.kind) same ∙ sym counts))
 
-pub ruleset record_rules = (step-none, step-put, step-absent, place-fits)
+pub here-is : (g : RelocationSource) (i : ℕ) (r : Reloc) (out : List ℕ) → record_at g out i ≡ record_at g g.table i → Some r ≡ reloc_at g.class g.order g.rela g.table i
+    → record_at g out i ≡ Some r
+here-is g i r out same e = same ∙ sym e
+
+pub others-kept : (g : RelocationSource) (i : ℕ) (table : List ℕ) → OthersStay g i table table
+others-kept g i table = record { same = λ k other. refl }
+
+pub ruleset record_rules = (step-none, step-put, step-absent, place-fits, here-is, others-kept)
 
 -- what is put in fits
 written-fits : (class : Class) (rela : Bool) (a : Option ℤ) → IfSome a (FitsSigned (word_width class)) → IfSome (written rela a) (FitsSigned (word_width class))
@@ -106,6 +124,39 @@ put-long g i p place a b old new t lt long p_is a_is small fits tells put =
     let can : RelocFits g.class g.rela old i p a = put-fits g i p a old lt long (subst (λ (k : ℕ). k < 256 ^ word_size g.class) (sym p_is) small) fits in
     ap length (on-true t (tells.1 can) put) ∙ length-with_reloc g.class g.order g.rela old i p a can ∙ long
 
+pub put-others : (g : RelocationSource) (i p place : ℕ) (a b : Option ℤ) (old new : List ℕ) (t : Bool) → i < length (records_in g) → length old ≡ length g.table
+    → p ≡ place → a ≡ b → place < 256 ^ word_size g.class → IfSome a (FitsSigned (word_width g.class)) → (t ≡ true) ↔ RelocFits g.class g.rela old i p a
+    → ((k : ℕ) → MatchBool t (k ≢ i → record_at g new k ≡ record_at g old k) ⊤) → OthersStay g i old new
+put-others g i p place a b old new t lt long p_is a_is small fits tells others =
+    let can : RelocFits g.class g.rela old i p a = put-fits g i p a old lt long (subst (λ (k : ℕ). k < 256 ^ word_size g.class) (sym p_is) small) fits in
+    record { same = λ k. on-true t (tells.1 can) (others k) }
+
+-- one that stands there already
+records-long : (g : RelocationSource) (out : List ℕ) → length out ≡ length g.table → length (records_in (with_table g out)) ≡ length (records_in g)
+records-long g out long =
+    length-records (with_table g out) ∙ ap (λ (n : ℕ). n / reloc_size g.class g.rela) long ∙ sym (length-records g)
+
+record-stands : (g : RelocationSource) (i : ℕ) (r : Reloc) (out : List ℕ) → i < length (records_in g) → length out ≡ length g.table → record_at g out i ≡ Some r
+    → reloc_in g.class g.order g.rela out (i * reloc_size g.class g.rela) ≡ r
+record-stands g i r out lt long is =
+    let inside : i < length (records_in (with_table g out)) = subst (λ (n : ℕ). i < n) (sym (records-long g out long)) lt in
+    let there : Some (slice_index_or (records_in (with_table g out)) i r) ≡ Some r = sym (record-there (with_table g out) i r inside) ∙ is in
+    let same : slice_index_or (records_in (with_table g out)) i r ≡ r = cc in
+    sym (get_or-records (with_table g out) i r inside) ∙ same
+
+pub put-stands : (g : RelocationSource) (i p place : ℕ) (a b : Option ℤ) (r : Reloc) (out : List ℕ) (t : Bool) → i < length (records_in g) → length out ≡ length g.table
+    → record_at g out i ≡ Some r → p ≡ place → a ≡ b → (t ≡ true) ↔ ((r.offset ≡ p) × (r.addend ≡ a)) → true ≡ t → ((k : ℕ) → Fits w8 (get_or out k 0))
+    → out ≡ with_reloc g.class g.order g.rela out i place b
+put-stands g i p place a b r out t lt long is p_is a_is both is_true small =
+    let said = both.0 (sym is_true) in
+    let stands = record-stands g i r out lt long is in
+    let size = length-records g in
+    let room = count-has g.class g.rela i (length out) (subst (λ (n : ℕ). i < n / reloc_size g.class g.rela) (sym long) (omega (arith, lt, size))) in
+    sym (put-same g.class g.order g.rela out i (λ k. (small k).fits) room)
+    ∙ ap (λ (k : ℕ). with_reloc g.class g.order g.rela out i k (reloc_in g.class g.order g.rela out (i * reloc_size g.class g.rela)).addend)
+    (ap (λ (x : Reloc). x.offset) stands ∙ said.0 ∙ p_is)
+    ∙ ap (with_reloc g.class g.order g.rela out i place) (ap (λ (x : Reloc). x.addend) stands ∙ said.1 ∙ a_is)
+
 word-small : (c : Class) → 256 ^ word_size c ≤ 2 ^ 64
 word-small C32 = omega arith
 word-small C64 = omega arith
@@ -113,7 +164,7 @@ word-small C64 = omega arith
 pub place-small : (c : Class) (place : ℕ) → place < 256 ^ word_size c → place < 2 ^ 64
 place-small c place lt = let le = word-small c in omega (arith, lt, le)
 
-pub ruleset put_rules = (put-done, put-long, place-small)
+pub ruleset put_rules = (put-done, put-long, put-others, put-stands, others-kept, place-small)
 
 -- the addend by the field at the record's place
 pub addend-none : (g : RelocationSource) (fields : List Patch) (r : Reloc) → None ≡ patch_for fields r.offset → r.addend ≡ addend_after g fields r

@@ -1,9 +1,9 @@
 -- The records of a section's relocations when its bytes move, and some of its fields say other offsets (gABI ch. 4 "Relocation"): each moves with
 -- the byte at which its relocation begins, and has the addend that makes the offset of its field.
-use Rattle.std.specs.Prelude.{◌≡◌, ◌⊎◌, ℕ, ℤ, zero, suc, ◌*◌, ◌^◌, ◌<◌, ◌≤◌, ◌==◌, false, if◌then◌else◌, List, [], ◌∷◌, length, slice_index_or, Option, Some, None}
+use Rattle.std.specs.Prelude.{◌≡◌, ◌⊎◌, ℕ, ℤ, zero, suc, ◌*◌, ◌^◌, ◌<◌, ◌≤◌, ◌≢◌, ◌==◌, false, if◌then◌else◌, List, [], ◌∷◌, length, slice_index_or, Option, Some, None}
 use Rattle.dw_base.specs.Elf.{word_size}
 use Rattle.dw_base.specs.RelocChanges.{with_reloc}
-use Rattle.dw_base.specs.Relocs.{reloc_in, reloc_size}
+use Rattle.dw_base.specs.Relocs.{reloc_at, reloc_in, reloc_size}
 use Rattle.dw_base.specs.SectionRelocations.{RelocationSource, is_none_type, records_in, relocation_of}
 use Rattle.dw_base.specs.declared.relocations.Reloc.{Reloc}
 use Rattle.elf_relocs.specs.FieldOffsets.{offset_addend}
@@ -58,6 +58,18 @@ addend_after g fields r = addend_if g r (patch_for fields r.offset)
 -- the record of a number
 abbrev pub nth_record : RelocationSource → ℕ → Reloc
 nth_record g i = reloc_in g.class g.order g.rela g.table (i * reloc_size g.class g.rela)
+
+-- the record of a number in a table
+abbrev pub record_at : RelocationSource → List ℕ → ℕ → Option Reloc
+record_at g table i = reloc_at g.class g.order g.rela table i
+
+-- each record but that of one number reads as before
+pub record OthersStay (g : RelocationSource) (index : ℕ) (old new : List ℕ) : Type 0 where
+  pub same : (k : ℕ) → k ≢ index → record_at g new k ≡ record_at g old k
+
+-- from a number on the records are those that are moved
+pub record AreAhead (g : RelocationSource) (index : ℕ) (table : List ℕ) : Type 0 where
+  pub same : (k : ℕ) → index ≤ k → record_at g table k ≡ record_at g g.table k
 
 -- the new place of each relocation fits a word of the class
 pub record PlacesFit (g : RelocationSource) (runs : List Run) : Type 0 where

@@ -5,13 +5,13 @@
 //! number of records, and with the logarithms of those of runs and fields. No memory.
 //! Read first: `specs/RecordMoves.antt`.
 
-ghost use Rattle.std.specs.Prelude.{◌≡◌, ◌<◌, ◌^◌, length, IfErr, IfOk, IfSome};
+ghost use Rattle.std.specs.Prelude.{◌≡◌, ◌↔◌, ◌<◌, ◌^◌, length, IfErr, IfOk, IfSome, IsTrue, Some};
 ghost use Rattle.std.specs.Int.RustNames.{FitsSigned};
 ghost use Rattle.dw_base.specs.Elf.{word_size};
 ghost use Rattle.dw_base.specs.RelocChanges.{with_reloc};
 ghost use Rattle.dw_base.specs.Relocs.{word_width};
 ghost use Rattle.dw_base.specs.SectionRelocations.{records_in};
-ghost use Rattle.dw_patch.specs.RecordMoves.{AllSized, FieldsRise, HasKey, IsGap, PlacesFit, addend_after, field_start, moved_table, nth_record, patch_for, record_step};
+ghost use Rattle.dw_patch.specs.RecordMoves.{AllSized, FieldsRise, HasKey, IsGap, OthersStay, PlacesFit, addend_after, field_start, moved_table, nth_record, patch_for, record_at, record_step};
 ghost use Rattle.elf_relocs.specs.Runs.{RunsRise, place_by};
 
 use crate::runs::place_by;
@@ -45,8 +45,10 @@ fn move_record(source: &RelocSource, runs: &[Run], fields: &[Patch], index: u64,
     requires fields { FieldsRise fields.now }
     requires sized { AllSized fields.now }
     requires places { PlacesFit source.now runs.now }
+    requires here { record_at source.now out.old index ≡ record_at source.now source.now.table index }
     ensures step { out.new ≡ record_step source.now runs.now fields.now index (nth_record source.now index) out.old }
     ensures long { length out.new ≡ length source.now.table }
+    ensures others { OthersStay source.now index out.old out.new }
 {
     match record(source, index) {
         Some(reloc) => {
@@ -59,7 +61,7 @@ fn move_record(source: &RelocSource, runs: &[Run], fields: &[Patch], index: u64,
     }
 }
 
-/// Puts in the record of a number, which is a relocation.
+/// Puts in the record of a number, which is a relocation. Most of them stand as they are to be, and are left.
 #[tactic(auto, using(crate::proofs::RecordMoveLaws::put_rules))]
 fn put_record(
     source: &RelocSource,
@@ -76,11 +78,16 @@ fn put_record(
     requires sized { AllSized fields.now }
     requires place { place_by runs.now reloc.now.offset < 256 ^ word_size source.now.class }
     requires fits { IfSome reloc.now.addend (FitsSigned (word_width source.now.class)) }
+    requires here { record_at source.now out.old index ≡ Some reloc.now }
     ensures put { out.new ≡ with_reloc source.now.class source.now.order source.now.rela out.old index (place_by runs.now reloc.now.offset) (addend_after source.now fields.now reloc.now) }
     ensures long { length out.new ≡ length source.now.table }
+    ensures others { OthersStay source.now index out.old out.new }
 {
     let place = place_by(runs, reloc.offset);
     let addend = addend_after(source, fields, reloc);
+    if has_both(reloc, place, addend) {
+        return;
+    }
     let _put = set_reloc(
         source.class,
         source.order,
@@ -90,6 +97,13 @@ fn put_record(
         place,
         addend,
     );
+}
+
+/// Whether a record has this place and this addend.
+fn has_both(reloc: &Reloc, place: u64, addend: Option<i64>) -> bool
+    ensures both { IsTrue result ↔ ((reloc.now.offset ≡ place) × (reloc.now.addend ≡ addend)) }
+{
+    reloc.offset == place && reloc.addend == addend
 }
 
 /// The addend of a record when the fields say their offsets.
