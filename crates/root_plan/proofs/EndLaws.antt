@@ -11,7 +11,7 @@ use Rattle.file_tree.specs.Causes.{AreInOrder}
 use Rattle.job_types.specs.Settings.{Settings}
 use Rattle.work_texts.specs.declared.plan.JobLine.{JobLine}
 use Rattle.root_plan.specs.declared.plan_err.PlanErr.{PlanErr}
-use Rattle.root_plan.specs.Roots.{below_root}
+use Rattle.root_paths.specs.Roots.{below_root}
 use Rattle.root_plan.specs.Targets.{new_paths}
 use Rattle.root_plan.specs.Verdicts.{JudgeView, IsJudge}
 use Rattle.root_plan.specs.Tallies.{Tally, Tallies, IsTooLong, FileEnds, CandidateEnds, LargeEnds, FoundEnds, PathEnds}

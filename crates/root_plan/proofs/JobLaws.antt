@@ -19,15 +19,15 @@ use Rattle.job_types.specs.declared.outcome.Verdict.{Verdict}
 use Rattle.job_types.specs.declared.outcome.Verdict.TheVariants.{Left, Edited, Split}
 use Rattle.work_texts.specs.declared.plan.JobLine.{JobLine}
 use Rattle.work_texts.specs.Rules.{comes_after, rise_after, path_of}
-use Rattle.root_plan.specs.Roots.{in_root, below_root, is_outside, may_be_candidate, debug_folder}
+use Rattle.root_paths.specs.Roots.{in_root, below_root, is_outside, may_be_candidate, debug_folder}
 use Rattle.root_plan.specs.Targets.{debug_name}
 use Rattle.root_plan.specs.Verdicts.{JudgeView, id_of}
 use Rattle.root_plan.specs.Tallies.{Tally, FileNoted, FoundNoted, Noted, Tallies, split_job, edited_job, with_verdict}
 use Rattle.root_plan.specs.Tallies.{FileNoted as note, Noted as notes, Tallies as tally}
 use Rattle.root_plan.specs.Jobs.{ComesOf, HasFile}
 use Rattle.root_plan.specs.Jobs.{ComesOf as comes}
-use Rattle.root_plan.proofs.SearchLaws.{first-same, cmp_self}
-use Rattle.root_plan.proofs.PlaceLaws.{compared}
+use Rattle.root_paths.proofs.SearchLaws.{first-same, cmp_self}
+use Rattle.root_paths.proofs.PlaceLaws.{compared}
 
 -- ### A path of the tree, from one below the root
 

@@ -1,6 +1,6 @@
-pub mod LookLaws
-pub mod WalkLaws
-pub mod NameLaws
+pub use Rattle.root_paths.proofs.LookLaws
+pub use Rattle.root_paths.proofs.PlaceLaws
+pub mod PathLaws
 pub mod CountLaws
 pub mod SourceLaws
 pub mod Rows
@@ -9,9 +9,6 @@ pub mod TargetLaws
 pub mod ListLaws
 pub mod MakerLaws
 pub mod PlanLaws
-pub mod SearchLaws
-pub mod PlaceLaws
-pub mod TakenLaws
 pub mod MadeLaws
 pub mod UnionLaws
 pub mod JobLaws

@@ -10,14 +10,14 @@ use Rattle.work_texts.specs.declared.plan.JobLine.{JobLine}
 use Rattle.work_texts.specs.declared.plan.PlanData.{PlanData}
 use Rattle.work_texts.specs.Rules.{text_limit}
 use Rattle.root_plan.specs.declared.plan_err.PlanErr.{PlanErr}
-use Rattle.root_plan.specs.Roots.{count_outside, most_outside}
+use Rattle.root_paths.specs.Roots.{count_outside, most_outside}
 use Rattle.root_plan.specs.Targets.{new_paths}
 use Rattle.root_plan.specs.Verdicts.{JudgeView}
 use Rattle.root_plan.specs.Tallies.{Tally, Tallies}
-use Rattle.root_plan.specs.Looks.{Looked}
+use Rattle.root_paths.specs.Looks.{Looked}
 use Rattle.root_plan.specs.Plans.{AreMany, plan_of, plan_length, IsLongPlan, CanBeMade, NewEnds, LookEnds, IsTallied, IsTalliedPlan, IsPlanOf, PlanEnds}
 use Rattle.root_plan.specs.Plans.{IsLongPlan as text, NewEnds as new, LookEnds as look, PlanEnds as ends}
-use Rattle.root_plan.proofs.LookLaws.{looked_none, looked_then, rose_since}
+use Rattle.root_paths.proofs.LookLaws.{looked_none, looked_then, rose_since}
 
 pub can_made : (present : List (List ℕ)) (root : List ℕ) (given jobs : List JobLine) (news : List (String Global)) → given ≡ jobs → map string_bytes news ≡ new_paths root given
     → CanBeMade present (map string_bytes news) → CanBeMade present (new_paths root jobs)

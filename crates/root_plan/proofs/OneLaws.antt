@@ -18,13 +18,11 @@ use Rattle.work_texts.specs.Rules.{text_limit}
 use Rattle.root_plan.specs.declared.plan_err.PlanErr.{PlanErr}
 use Rattle.root_plan.specs.declared.plan_err.PlanErr.TheVariants as err
 use Rattle.root_plan.specs.declared.refused.Skipped.{Skipped}
-use Rattle.root_plan.specs.Roots.{may_be_candidate, below_root, longest_path, most_paths}
+use Rattle.root_paths.specs.Roots.{may_be_candidate, below_root, longest_path}
 use Rattle.root_plan.specs.Targets.{new_paths, debug_name}
 use Rattle.root_plan.specs.Verdicts.{JudgeView, IsJudge, id_of}
 use Rattle.root_plan.specs.Tallies.{Tally, empty_tally, with_sources, with_verdict, split_job, edited_job, FileNoted, FoundNoted, Noted, Tallies, IsTooLong, FileEnds, CandidateEnds, FoundEnds, PathEnds}
 use Rattle.root_plan.specs.Tallies.{FileNoted as note, Noted as notes, Tallies as tally, IsTooLong as too_long, FileEnds as file, CandidateEnds as candidate, PathEnds as path_ends}
-use Rattle.root_plan.specs.Walks.{AreWalked, WalkEnds, OnlyStopped}
-use Rattle.root_plan.specs.Walks.{WalkEnds as walk}
 use Rattle.root_plan.specs.Plans.{plan_of, plan_length, CanBeMade, NewEnds, IsPlanOf, PlanEnds, IsCut, OnlyCut}
 use Rattle.root_plan.specs.Plans.{NewEnds as news, PlanEnds as ends, IsCut as cuts}
 use Rattle.root_plan.specs.Errors.{IsStopped}
@@ -197,18 +195,3 @@ module _ (root : List ℕ) (present : List (List ℕ)) (s : Settings) (v : Judge
 
   pub only_cut : (old new : Seen) (e : PlanErr) → PlanEnds old new root present s v fails e → OnlyCut old root present s v fails e
   only_cut old new e ended = record { cut = λ tree plan here order is. ends-cut tree old new plan e here order is ended }
-
--- ### The walk
-
-walk-stopped : (tree : TreeMap) (old new : Seen) (root : List ℕ) (paths : List (List ℕ)) (e : PlanErr) → now_of old ≡ Some tree → AreWalked (now_of old) root paths
-    → WalkEnds old new root e → IsStopped e
-walk-stopped tree old new root paths e here are (walk.absent none) = absurd (are.some (are.all.are tree here ∙ sym (none.are tree here)))
-walk-stopped tree old new root paths e here are (walk.many m) =
-    absurd (omega (arith, are.few, subst (λ (ps : List (List ℕ)). most_paths < length ps) (sym (are.all.are tree here)) (m.many tree here)))
-walk-stopped tree old new root paths e here are (walk.failed rose) = stop.failed
-walk-stopped tree old new root paths e here are walk.memory = stop.no_memory
-
-pub only_stopped : (old new : Seen) (root : List ℕ) (e : PlanErr) → WalkEnds old new root e → OnlyStopped old root e
-only_stopped old new root e ended = record { stopped = λ tree paths here are. walk-stopped tree old new root paths e here are ended }
-
-pub ruleset stop_rules = (only_stopped)

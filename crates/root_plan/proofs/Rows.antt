@@ -13,12 +13,12 @@ use Rattle.file_tree.specs.Causes.{Stood, IsWithin}
 use Rattle.job_types.specs.Settings.{Settings, most_file}
 use Rattle.job_types.specs.declared.outcome.Verdict.{Verdict}
 use Rattle.root_plan.specs.declared.plan_err.PlanErr.{PlanErr}
-use Rattle.root_plan.specs.Roots.{may_be_candidate, below_root, longest_path}
+use Rattle.root_paths.specs.Roots.{may_be_candidate, below_root, longest_path}
 use Rattle.root_plan.specs.Targets.{debug_name}
 use Rattle.root_plan.specs.Verdicts.{JudgeView, IsUnsaid}
 use Rattle.root_plan.specs.Tallies.{Tally, FileNoted, CandidateNoted, FoundNoted, Noted, FileEnds, CandidateEnds, FoundEnds, PathEnds}
-use Rattle.root_plan.specs.Tallies.{FileNoted as note, Noted as notes, IsTooLong as too_long, FileEnds as file, CandidateEnds as candidate, LargeEnds as large, PathEnds as ends}
-use Rattle.root_plan.proofs.LookLaws.{looked_none, looked_then}
+use Rattle.root_plan.specs.Tallies.{FileNoted as note, Noted as notes, FileEnds as file, CandidateEnds as candidate, LargeEnds as large, PathEnds as ends}
+use Rattle.root_paths.proofs.LookLaws.{looked_none, looked_then}
 
 -- nothing is said of a file that is refused
 pub unsaid : {X : Type 0} (result : Result X Fault) (v : JudgeView) (bytes name : List ℕ) (r : Refusal) → result ≡ Err (fault.Refused r)
@@ -43,8 +43,6 @@ noted_found old root s v fails path below what t u is stood noted = notes.there 
 pub ends_found : (old new : Seen) (root : List ℕ) (s : Settings) (v : JudgeView) (fails : List ℕ → List ℕ → Refusal → Type 0) (path below : List ℕ) (what : Found) (e : PlanErr)
     → (may_be_candidate root path ≡ true) × (below ≡ below_root root path) → Stood (now_of old) path s.max_file what → FoundEnds s v fails path below what e → PathEnds old new root s v fails path e
 ends_found old new root s v fails path below what e is stood ended = ends.at_found is.0 stood (subst (λ (b : List ℕ). FoundEnds s v fails path b what e) is.1 ended)
-
-pub ruleset long_rows = (too_long.long, too_long.no_memory)
 
 pub ruleset file_rows = (note.judged, note.skipped, file.refused, file.no_memory, unsaid)
 

@@ -16,14 +16,14 @@ use Rattle.job_types.specs.Settings.{Settings}
 use Rattle.job_types.specs.declared.outcome.Verdict.{Verdict}
 use Rattle.job_types.specs.declared.outcome.Verdict.TheVariants.{Left, Edited, Split}
 use Rattle.root_plan.specs.declared.plan_err.PlanErr.{PlanErr}
-use Rattle.root_plan.specs.Roots.{is_outside, count_outside, may_be_candidate, debug_folder, most_outside}
-use Rattle.root_plan.specs.Looks.{Looked}
+use Rattle.root_paths.specs.Roots.{is_outside, count_outside, may_be_candidate, debug_folder, most_outside}
+use Rattle.root_paths.specs.Looks.{Looked}
 use Rattle.root_plan.specs.Verdicts.{JudgeView, id_of}
 use Rattle.root_plan.specs.Tallies.{Tally, with_verdict, edited_job, split_job, FileNoted, FoundNoted, Noted, Tallies, PathEnds}
 use Rattle.root_plan.specs.Tallies.{FileNoted as note, Noted as notes, Tallies as tally, PathEnds as ends}
 use Rattle.root_plan.specs.Plans.{PlanEnds}
 use Rattle.root_plan.specs.Plans.{PlanEnds as plan}
-use Rattle.root_plan.proofs.LookLaws.{looked_none, looked_then, rose_since}
+use Rattle.root_paths.proofs.LookLaws.{looked_none, looked_then, rose_since}
 
 -- ### Few files
 

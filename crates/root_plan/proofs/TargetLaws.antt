@@ -6,7 +6,7 @@ use Rattle.std.specs.Fmt.{decimal}
 use Rattle.std.proofs.lemmas.List.{append_assoc, append-nil, map-append, drop_all}
 use Rattle.hex.specs.Hex.{encode_lower}
 use Rattle.work_texts.specs.declared.plan.JobLine.{JobLine}
-use Rattle.root_plan.specs.Roots.{in_root}
+use Rattle.root_paths.specs.Roots.{in_root}
 use Rattle.root_plan.specs.Targets.{file_link, suffix, new_paths, new_paths_of}
 
 pub link_first : (job : JobLine) (text folder name : List ℕ) → folder ≡ encode_lower (take 1 job.id) → name ≡ encode_lower (drop 1 job.id) → job.number ≡ 0

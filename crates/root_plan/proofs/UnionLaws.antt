@@ -9,7 +9,7 @@ use Rattle.std.proofs.lemmas.Cmp.{nat_list_cmp_total}
 use Rattle.dw_base.specs.Texts.{same_text, is_in}
 use Rattle.work_texts.specs.Rules.{comes_after, rise_after}
 use Rattle.root_plan.specs.Tallies.{placed_by, with_source, with_sources}
-use Rattle.root_plan.proofs.PlaceLaws.{compared, same_path}
+use Rattle.root_paths.proofs.PlaceLaws.{compared, same_path}
 
 -- ### They rise
 

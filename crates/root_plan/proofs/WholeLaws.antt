@@ -30,7 +30,7 @@ use Rattle.work_texts.specs.Fields.{Field, plan_fields, job_fields, keyed_fields
 use Rattle.work_texts.specs.Rules.{IsJob, IsPlan, may_have_id, is_job_path, rise_after, text_limit}
 use Rattle.work_texts.proofs.RisingTexts.{path_bare}
 use Rattle.root_plan.specs.declared.refused.Skipped.{Skipped}
-use Rattle.root_plan.specs.Roots.{below_root, may_be_candidate, most_outside}
+use Rattle.root_paths.specs.Roots.{below_root, may_be_candidate, most_outside}
 use Rattle.root_plan.specs.Targets.{debug_name}
 use Rattle.root_plan.specs.Reports.{report_of, report_text, skipped_line, count_line, job_counts, other_counts, split_count, edited_count, link_count}
 use Rattle.root_plan.specs.Verdicts.{JudgeView, IsJudge, Made, AreSources, id_of}

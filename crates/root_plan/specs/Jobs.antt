@@ -12,7 +12,7 @@ use Rattle.job_types.specs.declared.outcome.Verdict.TheVariants.{Edited, Split}
 use Rattle.work_texts.specs.declared.plan.JobLine.{JobLine}
 use Rattle.work_texts.specs.declared.plan.PlanData.{PlanData}
 use Rattle.work_texts.specs.Rules.{is_job_path, IsPlan}
-use Rattle.root_plan.specs.Roots.{most_outside, in_root, below_root, may_be_candidate}
+use Rattle.root_paths.specs.Roots.{most_outside, in_root, below_root, may_be_candidate}
 use Rattle.root_plan.specs.Targets.{debug_name}
 use Rattle.root_plan.specs.Verdicts.{JudgeView, IsJudge, id_of}
 

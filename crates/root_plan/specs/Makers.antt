@@ -9,7 +9,7 @@ use Rattle.work_texts.specs.declared.plan.JobLine.{JobLine}
 use Rattle.work_journal.specs.declared.maker.MakeErr.{MakeErr}
 use Rattle.work_journal.specs.declared.maker.MakeErr.TheVariants as make
 use Rattle.work_journal.specs.Views.{MakerView, Makes}
-use Rattle.root_plan.specs.Roots.{in_root}
+use Rattle.root_paths.specs.Roots.{in_root}
 use Rattle.root_plan.specs.Targets.{debug_name, debug_path, link_target, has_links, targets_of}
 use Rattle.root_plan.specs.Verdicts.{JudgeView, Pair}
 

@@ -1,8 +1,7 @@
 -- The plan of a build root, and why there is none. This project's profile.
-use Rattle.std.specs.Prelude.{◌≡◌, ◌≤◌, ◌<◌, ℕ, Bool, true, ◌||◌, List, [], length, take, get_or, count_by, Option, Some, Contains}
+use Rattle.std.specs.Prelude.{◌≡◌, ◌≤◌, ◌<◌, ℕ, true, List, [], length, take, get_or, Option, Some, Contains}
 use Rattle.dw_base.specs.declared.fault.Refusal.{Refusal}
-use Rattle.dw_base.specs.Texts.{same_text}
-use Rattle.file_tree.specs.Trees.{TreeMap, is_below}
+use Rattle.file_tree.specs.Trees.{TreeMap}
 use Rattle.file_tree.specs.Seen.{Seen, now_of}
 use Rattle.file_tree.specs.Causes.{AreInOrder, Rose}
 use Rattle.job_types.specs.Settings.{Settings}
@@ -12,12 +11,13 @@ use Rattle.work_texts.specs.Fields.{text_of, plan_fields}
 use Rattle.work_texts.specs.Rules.{text_limit}
 use Rattle.root_plan.specs.declared.plan_err.PlanErr.{PlanErr}
 use Rattle.root_plan.specs.declared.plan_err.PlanErr.TheVariants as err
-use Rattle.root_plan.specs.Roots.{count_outside, most_outside, longest_path}
+use Rattle.root_paths.specs.Roots.{count_outside, most_outside}
 use Rattle.root_plan.specs.Errors.{IsStopped}
 use Rattle.root_plan.specs.Targets.{new_paths}
 use Rattle.root_plan.specs.Reports.{report_of}
 use Rattle.root_plan.specs.Tallies.{Tally, Tallies, PathEnds, IsTooLong}
 use Rattle.root_plan.specs.Verdicts.{JudgeView}
+pub use Rattle.root_paths.specs.NewPaths.{is_nested, IsTaken, AreFree, AreShort, CanBeMade}
 
 -- the options that the outputs of a run depend on
 abbrev pub key_of : Settings → RunKey
@@ -27,39 +27,9 @@ key_of s = record { maps = s.maps; build_id = s.build_id; seed = s.seed; skip = 
 abbrev pub plan_of : Settings → Tally → PlanData
 plan_of s t = record { key = key_of s; report = report_of t; jobs = t.jobs; sources = t.sources }
 
--- ### Paths that are taken
+-- ### New paths, and limits
 
--- whether a path lies below another, or the other below it
-abbrev pub is_nested : List ℕ → List ℕ → Bool
-is_nested p q = is_below p q || is_below q p
-
--- of some new paths, one that can't be made where these paths stand
-pub data IsTaken (present news : List (List ℕ)) (path : List ℕ) : Type 0 where
-  -- it stands already
-  stands : Contains news path → Contains present path → IsTaken present news path
-  -- it lies below a path that stands, or such a one below it
-  nested : {other : List ℕ} → Contains news path → Contains present other → is_nested path other ≡ true → IsTaken present news path
-  -- it is to be made twice
-  twice : 1 < count_by (same_text path) news → IsTaken present news path
-  -- it lies below another new path, or that one below it
-  nested_new : {other : List ℕ} → Contains news path → Contains news other → is_nested path other ≡ true → IsTaken present news path
-
--- none of the new paths is taken
-pub record AreFree (present news : List (List ℕ)) : Type 0 where
-  pub free : (path : List ℕ) → IsTaken present news path → ⊥
-
--- ### Limits
-
--- each path is within the limit on paths
-pub record AreShort (paths : List (List ℕ)) : Type 0 where
-  pub short : (path : List ℕ) → Contains paths path → length path ≤ longest_path
-
--- the new paths can be made where these paths stand, which are in byte order
-pub record CanBeMade (present news : List (List ℕ)) : Type 0 where
-  pub short : AreShort news
-  pub free : AreInOrder present → AreFree present news
-
--- why they can't be made; or a cut
+-- why new paths can't be made where these paths stand; or a cut
 pub data NewEnds (present news : List (List ℕ)) : PlanErr → Type 0 where
   too_long : {path : List ℕ} {e : PlanErr} → Contains news path → IsTooLong path e → NewEnds present news e
   taken : {path : List ℕ} → AreShort news → IsTaken present news path → NewEnds present news (err.Taken path)

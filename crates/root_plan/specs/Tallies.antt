@@ -19,7 +19,7 @@ use Rattle.work_texts.specs.declared.plan.JobLine.{JobLine}
 use Rattle.root_plan.specs.declared.refused.Skipped.{Skipped}
 use Rattle.root_plan.specs.declared.plan_err.PlanErr.{PlanErr}
 use Rattle.root_plan.specs.declared.plan_err.PlanErr.TheVariants as err
-use Rattle.root_plan.specs.Roots.{below_root, may_be_candidate, longest_path}
+use Rattle.root_paths.specs.Roots.{below_root, may_be_candidate, longest_path}
 use Rattle.root_plan.specs.Targets.{debug_name}
 use Rattle.root_plan.specs.Verdicts.{JudgeView, IsUnsaid, id_of}
 

@@ -5,7 +5,7 @@ use Rattle.std.specs.Fmt.{decimal}
 use Rattle.std.specs.List.{flat_map}
 use Rattle.hex.specs.Hex.{encode_lower}
 use Rattle.work_texts.specs.declared.plan.JobLine.{JobLine}
-use Rattle.root_plan.specs.Roots.{in_root, base_name}
+use Rattle.root_paths.specs.Roots.{in_root, base_name}
 
 -- the debug file of the file at a path, and its name, which the stripped file's debug link has
 unfoldable pub debug_path : List ℕ → List ℕ

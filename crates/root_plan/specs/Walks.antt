@@ -1,27 +1,12 @@
--- The walk of a build root: all paths below it, and why there are none.
-use Rattle.std.specs.Prelude.{◌≡◌, ◌≢◌, ◌≤◌, ◌<◌, ℕ, List, [], length, Option, Some}
-use Rattle.file_tree.specs.Trees.{TreeMap, keys_below}
+-- Why the walk of a build root gives no plan. Its paths are those of the walk.
+use Rattle.std.specs.Prelude.{◌≡◌, ℕ, List, [], Some}
+use Rattle.file_tree.specs.Trees.{TreeMap}
 use Rattle.file_tree.specs.Seen.{Seen, now_of}
-use Rattle.file_tree.specs.Causes.{Rose, AreInOrder}
+use Rattle.file_tree.specs.Causes.{Rose}
 use Rattle.root_plan.specs.declared.plan_err.PlanErr.{PlanErr}
 use Rattle.root_plan.specs.declared.plan_err.PlanErr.TheVariants as err
-use Rattle.root_plan.specs.Roots.{most_paths}
 use Rattle.root_plan.specs.Errors.{IsStopped}
-
--- where the tree tells, these are all paths below the root
-pub record AreBelow (old : Option TreeMap) (root : List ℕ) (paths : List (List ℕ)) : Type 0 where
-  pub are : (t : TreeMap) → old ≡ Some t → paths ≡ keys_below t root
-
--- the paths below a root: in byte order, each once, some, and not too many
-pub record AreWalked (old : Option TreeMap) (root : List ℕ) (paths : List (List ℕ)) : Type 0 where
-  pub all : AreBelow old root paths
-  pub in_order : AreInOrder paths
-  pub some : paths ≢ []
-  pub few : length paths ≤ most_paths
-
--- where the tree tells, more paths than the limit lie below the root
-pub record AreMany (old : Option TreeMap) (root : List ℕ) : Type 0 where
-  pub many : (t : TreeMap) → old ≡ Some t → most_paths < length (keys_below t root)
+pub use Rattle.root_paths.specs.Walks.{AreBelow, AreWalked, AreMany}
 
 -- why a root gives no paths
 pub data WalkEnds (old new : Seen) (root : List ℕ) : PlanErr → Type 0 where

@@ -1,12 +1,11 @@
 //! The plan of a run over a build root: its files, what becomes of each, and where the outputs come to
 //! stand (this project's profile).
 //!
-//! **This layer promises**: `walk` answers all paths below a root, in byte order, and says exactly why it
-//! doesn't. Over any judge of files: `make_plan` answers the plan of a root, path by path in byte order, or at
+//! **This layer promises**: `walk` answers all paths below a root, or why it has no plan. Over any judge of files: `make_plan` answers the plan of a root, path by path in byte order, or at
 //! which path and why there is none, and `RootMaker` is a maker of a journal whose jobs are a plan's, with its
 //! lists.
 //! It does not promise: what a judge says.
-//! Read first: `specs/Roots.antt`, `specs/Tallies.antt`, `specs/Targets.antt`, `specs/Plans.antt`.
+//! Read first: `root_paths/specs/Roots.antt`, `specs/Tallies.antt`, `specs/Targets.antt`, `specs/Plans.antt`.
 //!
 //! ```
 //! let paths = walk(&mut tree, "root")?;
@@ -17,8 +16,6 @@
 
 mod judge;
 mod lists;
-mod looking;
-mod names;
 mod nodes;
 mod noting;
 mod plan_err;
@@ -28,13 +25,12 @@ mod report;
 mod root_maker;
 mod survey;
 mod surveying;
-mod taken;
 mod targets;
 mod walking;
 
 pub use judge::{Judge, Parts};
-pub use names::work_folder;
 pub use plan_err::PlanErr;
 pub use planning::{make_plan, run_key};
 pub use root_maker::RootMaker;
+pub use root_paths::work_folder;
 pub use walking::walk;

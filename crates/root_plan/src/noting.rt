@@ -3,35 +3,29 @@
 //! Read first: `specs/Tallies.antt`.
 ghost use Rattle.std.specs.Prelude.{◌≡◌, ◌≤◌, ◌<◌, ◌-◌, ◌^◌, ℕ, List, length, IfOk, IfErr, OnOk};
 ghost use Rattle.file_tree.specs.Seen.{now_of};
-ghost use Rattle.root_plan.specs.Looks.{Looked};
+ghost use Rattle.root_paths.specs.Looks.{Looked};
 ghost use Rattle.dw_base.specs.Layout.{file_limit};
 ghost use Rattle.file_tree.specs.declared.node.Found.TheVariants as file;
-ghost use Rattle.root_plan.specs.Roots.{longest_path};
+ghost use Rattle.root_paths.specs.Roots.{longest_path};
 ghost use Rattle.root_plan.specs.Verdicts.{IsUnsaid};
 ghost use Rattle.root_plan.specs.Tallies.{Noted, PathEnds, IsTooLong, FileNoted, FileEnds, CandidateNoted, CandidateEnds, LargeEnds, FoundNoted, FoundEnds};
 
 use crate::judge::Judge;
-use crate::looking::read;
-use crate::names::{Root, debug_name};
 use crate::plan_err::PlanErr;
 use crate::survey::Survey;
+use crate::targets::debug_name;
 use dw_base::{Fault, Refusal};
 use file_tree::{Found, Text, Tree};
 use job_types::Options;
+use root_paths::{Root, check_length, read};
 use std::alloc::Global;
 
-/// The longest path, in bytes.
-pub(crate) const LONGEST_PATH: usize = 4096;
-
 /// Whether a path is within the limit on paths; else it is named.
-#[tactic(auto, using(crate::proofs::Rows::long_rows))]
-pub(crate) fn check_length(alloc: Global, path: &str) -> Result<(), PlanErr>
+fn check_short(alloc: Global, path: &str) -> Result<(), PlanErr>
     ensures short { OnOk result (length path.now ≤ longest_path) }
     ensures long { IfErr result (IsTooLong path.now) }
 {
-    if path.len() > LONGEST_PATH {
-        return Err(PlanErr::PathTooLong(Text::copy_of(alloc, path)?));
-    }
+    check_length(alloc, path)?;
     Ok(())
 }
 
@@ -110,7 +104,7 @@ fn note_candidate<J: Judge>(
     ensures noted { IfOk result (CandidateNoted options.now (J.view judge.now) (J.fails judge.now) path.now below.now bytes.now survey) }
     ensures ends { IfErr result (CandidateEnds options.now (J.view judge.now) (J.fails judge.now) path.now below.now bytes.now) }
 {
-    check_length(alloc, path)?;
+    check_short(alloc, path)?;
     let name = debug_name(alloc, below.as_bytes())?;
     let survey = note_file(alloc, path, below, bytes, &name, options, judge, survey)?;
     Ok(survey)
@@ -122,7 +116,7 @@ fn refuse_large(alloc: Global, path: &str, size: u64) -> Result<Survey, PlanErr>
     ensures never { IfOk result (λ _. ⊥) }
     ensures ends { IfErr result (LargeEnds path.now size) }
 {
-    check_length(alloc, path)?;
+    check_short(alloc, path)?;
     let path = Text::copy_of(alloc, path)?;
     Err(PlanErr::FileTooLarge { path, size })
 }

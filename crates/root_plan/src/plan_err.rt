@@ -4,6 +4,7 @@ ghost use Rattle.root_plan.specs.declared.plan_err.PlanErr.TheVariants.{Tree as 
 
 use dw_base::{NoMemory, Refusal};
 use file_tree::{Text, TreeErr};
+use root_paths::PathErr;
 use std::alloc::{AllocError, AllocFailed};
 use thiserror::Error;
 
@@ -72,6 +73,23 @@ impl From<TreeErr> for PlanErr {
         match e {
             TreeErr::Failed => PlanErr::Tree,
             TreeErr::NoMemory => PlanErr::NoMemory,
+        }
+    }
+}
+
+impl From<PathErr> for PlanErr {
+    ghost use Rattle.root_plan.specs.Errors.{path_ends};
+
+    ghost from_gives = { λ p e. e ≡ path_ends p };
+
+    fn from(e: PathErr) -> PlanErr {
+        match e {
+            PathErr::Absent => PlanErr::Absent,
+            PathErr::Entries => PlanErr::Entries,
+            PathErr::PathTooLong(path) => PlanErr::PathTooLong(path),
+            PathErr::Taken(path) => PlanErr::Taken(path),
+            PathErr::Tree => PlanErr::Tree,
+            PathErr::NoMemory => PlanErr::NoMemory,
         }
     }
 }

@@ -5,24 +5,22 @@ ghost use Rattle.std.specs.Prelude.{◌≡◌, ◌≤◌, map, length, IfOk, IfE
 ghost use Rattle.std.specs.String.{string_bytes};
 ghost use Rattle.file_tree.specs.Seen.{now_of};
 ghost use Rattle.work_texts.specs.Rules.{text_limit};
-ghost use Rattle.root_plan.specs.Looks.{Looked};
+ghost use Rattle.root_paths.specs.Looks.{Looked};
 ghost use Rattle.root_plan.specs.Targets.{new_paths};
 ghost use Rattle.root_plan.specs.Reports.{report_text};
 ghost use Rattle.root_plan.specs.Plans.{key_of, plan_of, plan_length, IsLongPlan, CanBeMade, NewEnds, LookEnds, IsTalliedPlan, IsPlanOf, IsRunPlan, PlanEnds, OnlyCut};
 ghost use Rattle.root_plan.specs.Jobs.{Serves};
 
 use crate::judge::Judge;
-use crate::looking::look_at_each;
-use crate::names::Root;
 use crate::plan_err::PlanErr;
 use crate::refused::Skipped;
 use crate::report::report;
 use crate::survey::Survey;
 use crate::surveying::{check_count, survey_paths};
-use crate::taken::check_made;
 use crate::targets::{new_paths, push_paths};
 use file_tree::{Blob, Tree};
 use job_types::Options;
+use root_paths::{Root, check_made, look_at_each};
 use std::alloc::{AllocError, Global};
 use std::collections::BTreeSet;
 use work_texts::{JobLine, Jobs, PlanData, PlannedSources, RunKey, TEXT_LIMIT, write_plan};

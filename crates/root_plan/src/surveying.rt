@@ -4,18 +4,18 @@
 ghost use Rattle.std.specs.Prelude.{◌≡◌, ◌≤◌, map, IfOk, IfErr, OnOk};
 ghost use Rattle.std.specs.String.{string_bytes};
 ghost use Rattle.file_tree.specs.Seen.{now_of};
-ghost use Rattle.root_plan.specs.Looks.{Looked};
-ghost use Rattle.root_plan.specs.Roots.{count_outside, most_outside};
+ghost use Rattle.root_paths.specs.Looks.{Looked};
+ghost use Rattle.root_paths.specs.Roots.{count_outside, most_outside};
 ghost use Rattle.root_plan.specs.Tallies.{Tallies};
 ghost use Rattle.root_plan.specs.Plans.{PlanEnds, AreMany};
 
 use crate::judge::Judge;
-use crate::names::Root;
 use crate::noting::note_path;
 use crate::plan_err::PlanErr;
 use crate::survey::Survey;
 use file_tree::Tree;
 use job_types::Options;
+use root_paths::Root;
 use std::alloc::Global;
 
 /// The most paths outside the work folder.

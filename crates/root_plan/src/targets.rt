@@ -3,18 +3,12 @@
 //! Read first: `specs/Targets.antt`.
 ghost use Rattle.std.specs.Prelude.{◌≡◌, ◌<◌, ◌++◌, map, length, IfOk, OnOk};
 ghost use Rattle.std.specs.String.{string_bytes};
-ghost use Rattle.root_plan.specs.Roots.{in_root};
-ghost use Rattle.root_plan.specs.Targets.{debug_path, file_link, debug_link, link_target, has_links, links_of, new_paths_of, new_paths};
+ghost use Rattle.root_paths.specs.Roots.{in_root};
+ghost use Rattle.root_plan.specs.Targets.{debug_path, debug_name, file_link, debug_link, link_target, has_links, links_of, new_paths_of, new_paths};
 
+use root_paths::{base_name, in_root};
 use std::alloc::{AllocError, Global};
 use work_texts::JobLine;
-
-/// A path below the root, as one of the tree.
-pub(crate) fn in_root(alloc: Global, root: &str, path: &str) -> Result<String, AllocError>
-    ensures value { IfOk result (λ s. string_bytes s ≡ in_root root.now path.now) }
-{
-    format!(in alloc; "{root}/{path}")
-}
 
 /// The debug file of the file at a path.
 #[tactic(auto, unfolding(crate::specs::Targets::debug_path))]
@@ -22,6 +16,16 @@ pub(crate) fn debug_path(alloc: Global, path: &str) -> Result<String, AllocError
     ensures value { IfOk result (λ s. string_bytes s ≡ debug_path path.now) }
 {
     format!(in alloc; "usr/lib/debug/{path}.debug")
+}
+
+/// The name of the debug file of the file at a path below the root.
+#[tactic(auto, unfolding(crate::specs::Targets::debug_name))]
+pub(crate) fn debug_name(alloc: Global, path: &[u8]) -> Result<Vec<u8>, AllocError>
+    ensures value { IfOk result (λ name. name.items ≡ debug_name path.now) }
+{
+    let mut name = Vec::from_slice(alloc, base_name(path))?;
+    name.extend_from_slice(b".debug")?;
+    Ok(name)
 }
 
 /// What a link to a path leads to.

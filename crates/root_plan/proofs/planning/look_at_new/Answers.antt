@@ -1,6 +1,6 @@
 -- A look behind others.
 use Rattle.std.proofs.lemmas.Result.{err_from_is_err_and}
-use Rattle.root_plan.proofs.LookLaws.{looked_none, looked_then}
+use Rattle.root_paths.proofs.LookLaws.{looked_none, looked_then}
 use Rattle.root_plan.proofs.MadeLaws.{look_later}
 use Rattle.root_plan.proofs.planning.look_at_new.Goals as goal
 

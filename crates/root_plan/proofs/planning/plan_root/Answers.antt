@@ -1,6 +1,6 @@
 -- A plan of all paths is the plan of the root once its checks pass, and why it isn't.
 use Rattle.std.proofs.lemmas.Result.{err_from_is_err_and}
-use Rattle.root_plan.proofs.LookLaws.{looked_then}
+use Rattle.root_paths.proofs.LookLaws.{looked_then}
 use Rattle.root_plan.proofs.MadeLaws.{plan_made, new_ends, text_ends, look_ends}
 use Rattle.root_plan.proofs.planning.plan_root.Goals as goal
 

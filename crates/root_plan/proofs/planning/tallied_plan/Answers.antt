@@ -1,7 +1,7 @@
 -- What all paths come to is planned, and why it isn't.
 use Rattle.std.proofs.lemmas.Result.{err_from_is_err_and}
 use Rattle.root_plan.specs.Plans.{PlanEnds as ends}
-use Rattle.root_plan.proofs.LookLaws.{looked_none}
+use Rattle.root_paths.proofs.LookLaws.{looked_none}
 use Rattle.root_plan.proofs.MadeLaws.{tallied_made, many_ends, path_ends}
 use Rattle.root_plan.proofs.planning.tallied_plan.Goals as goal
 

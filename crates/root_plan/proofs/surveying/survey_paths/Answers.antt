@@ -4,7 +4,7 @@ use Rattle.std.specs.declared.alloc.Global.{Global}
 use Rattle.std.specs.String.{string_bytes}
 use Rattle.std.proofs.lemmas.Result.{err_from_is_err_and}
 use Rattle.root_plan.specs.Tallies.{Tallies as tally}
-use Rattle.root_plan.proofs.LookLaws.{looked_none, looked_then}
+use Rattle.root_paths.proofs.LookLaws.{looked_none, looked_then}
 use Rattle.root_plan.proofs.SurveyLaws.{one_more, ends_there, path_at, index_mapped}
 use Rattle.root_plan.proofs.surveying.survey_paths.Goals as goal
 

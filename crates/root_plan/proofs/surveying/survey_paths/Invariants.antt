@@ -2,7 +2,7 @@
 use Rattle.std.proofs.Common.{map, take}
 use Rattle.std.specs.String.{string_bytes}
 use Rattle.file_tree.specs.Seen.{now_of}
-use Rattle.root_plan.specs.Looks.{Looked}
+use Rattle.root_paths.specs.Looks.{Looked}
 use Rattle.root_plan.specs.Tallies.{Tallies}
 use Rattle.root_plan.proofs.surveying.survey_paths.Given as goal
 

@@ -1,5 +1,0 @@
-use Rattle.root_plan.proofs.NameLaws.{debug_front-is}
-use Rattle.root_plan.proofs.names.debug_front.Goals as goal
-
-pub returns : goal.returns
-returns c = record { value = debug_front-is _ _ c.in_ok-front.ensures.ok }

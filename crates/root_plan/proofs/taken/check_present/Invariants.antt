@@ -1,8 +1,0 @@
--- No new path lies below those so far.
-use Rattle.std.proofs.Common.{map}
-use Rattle.std.specs.String.{string_bytes}
-use Rattle.root_plan.proofs.TakenLaws.{NoneTo}
-use Rattle.root_plan.proofs.taken.check_present.Given as goal
-
-abbrev pub invariant-loop-path : goal.invariant-loop-path
-invariant-loop-path l = NoneTo (map string_bytes l.news) (map string_bytes l.present) l.path-index
