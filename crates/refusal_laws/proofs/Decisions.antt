@@ -81,6 +81,10 @@ pub decided-against : {P : Type 0} {F : Refusal → Type 0} → P ⊎ (P → ⊥
 decided-against (inl is) r fails = refused r (fails is)
 decided-against (inr is_not) r fails = taken is_not
 
+pub decided-or : {P Q : Type 0} {F : Refusal → Type 0} → P ⊎ Q → (r : Refusal) → (Q → F r) → Decided P F
+decided-or (inl is) r fails = taken is
+decided-or (inr other) r fails = refused r (fails other)
+
 -- where something is asked only of a number that isn't 0, of one that is another, or where a test holds or fails
 pub decided-some : {A : Type 0} {F : Refusal → Type 0} → (n : ℕ) → (n ≢ 0 → Decided A F) → Decided (n ≢ 0 → A) F
 decided-some {A} {F} n one = elim (cases_eq n 0) [

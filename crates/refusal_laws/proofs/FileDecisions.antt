@@ -1,5 +1,5 @@
 -- The parts of a file can be read, each by itself, or a condition holds that refuses the file.
-use Rattle.std.proofs.Common.{true, false, ◌≡◌, ◌⊎◌, inl, inr, ℕ, ◌<◌, List, [], ◌∷◌, ◌++◌, refl, sym, ◌∙◌, subst, append_assoc}
+use Rattle.std.proofs.Common.{true, false, ◌≡◌, ◌⊎◌, inl, inr, ℕ, ◌<◌, List, [], ◌∷◌, ◌++◌, refl, sym, ◌∙◌, append_assoc}
 use Rattle.std.proofs.lemmas.Bool.{cases_Bool}
 use Rattle.dw_base.specs.Cells.{CellSection}
 use Rattle.dw_base.specs.DebugSections.{debug_section}
@@ -7,24 +7,23 @@ use Rattle.dw_base.specs.Elf.{contents_of, is_empty_kind, nth_section, section_c
 use Rattle.dw_base.specs.ElfFails.{ElfReads}
 use Rattle.dw_base.specs.FileViews.{View, view_of}
 use Rattle.dw_base.specs.Layout.{is_alloc}
-use Rattle.dw_base.specs.MacroFails.{MacroUnitsFail}
 use Rattle.dw_base.specs.Refusals.{at}
 use Rattle.dw_base.specs.RelocationSectionFails.{relocates_read}
 use Rattle.dw_base.specs.ViewData.{is_read, string_offsets}
 use Rattle.dw_base.specs.declared.debug_sections.DebugSection.TheVariants.{Macro}
 use Rattle.dw_base.specs.declared.fault.Kind.TheVariants.{Fixed}
-use Rattle.dw_base.specs.declared.fault.Refusal.{Refusal}
 use Rattle.dw_meaning.specs.FileFails.{FileFails, ReadIsLoaded, elf, lines, loaded, loaded_relocations, macros, relocations, sections, string_tables, units}
 use Rattle.dw_meaning.specs.FileMeanings.{file_data}
 use Rattle.dw_meaning.specs.RelocationFails.{RelocationsAreLoaded}
 use Rattle.dw_meaning.specs.RelocationFails.RelocationsFail.{sections as section_relocations}
-use Rattle.refusal_laws.specs.Decided.{Decided, SomeFails, refused, some_fails, taken}
+use Rattle.refusal_laws.specs.Decided.{Decided, taken}
 use Rattle.refusal_laws.specs.Readable.{HasMacroUnits, HasParts}
 use Rattle.refusal_laws.proofs.ContributionDecisions.{contributions-decided}
 use Rattle.refusal_laws.proofs.DataDecisions.{data-decided}
-use Rattle.refusal_laws.proofs.Decisions.{clash, decided-against, decided-among, decided-both, decided-by, decided-each}
+use Rattle.refusal_laws.proofs.Decisions.{clash, decided-against, decided-among, decided-both, decided-by}
 use Rattle.refusal_laws.proofs.ElfDecisions.{elf-decided}
 use Rattle.refusal_laws.proofs.LineDecisions.{lines-decided}
+use Rattle.refusal_laws.proofs.ListDecisions.{Each, decided-all, decided-pair, each-among}
 use Rattle.refusal_laws.proofs.MacroDecisions.{macros-decided}
 use Rattle.refusal_laws.proofs.RelocationDecisions.{relocations-handled}
 use Rattle.refusal_laws.proofs.SectionDecisions.{sections-handled}
@@ -54,48 +53,26 @@ relocations-known b i =
     by (inl read) (inr bytes) (inr off) = inr (λ (x : RelocationsAreLoaded b i). clash x.alloc off)
     by (inl read) (inr bytes) (inl on) = inl (record { relocates = read; bytes = bytes; alloc = on })
 
-some-file : (b : List ℕ) (r : Refusal) → SomeFails (section_count b) (λ i. FileFails b) r → FileFails b r
-some-file b r (some_fails i lt h) = h
-
 unloaded-decided : (b : List ℕ) → ElfReads b → Decided ((i : ℕ) → i < section_count b → ReadIsLoaded b i → ⊥) (FileFails b)
 unloaded-decided b reads =
-    decided-among (some-file b)
-    (decided-each {P = λ (i : ℕ). ReadIsLoaded b i → ⊥} {F = λ (i : ℕ). FileFails b} (section_count b)
-    (λ i lt. decided-against (read-known b i) (at Fixed i 0) (λ x. loaded i reads lt x)))
+    decided-all {P = λ (i : ℕ). ReadIsLoaded b i → ⊥} {F = FileFails b} (section_count b)
+    (λ i lt. decided-against (read-known b i) (at Fixed i 0) (λ x. loaded i reads lt x))
 
 relocations_unloaded-decided : (b : List ℕ) → ElfReads b → Decided ((i : ℕ) → i < section_count b → RelocationsAreLoaded b i → ⊥) (FileFails b)
 relocations_unloaded-decided b reads =
-    decided-among (some-file b)
-    (decided-each {P = λ (i : ℕ). RelocationsAreLoaded b i → ⊥} {F = λ (i : ℕ). FileFails b} (section_count b)
-    (λ i lt. decided-against (relocations-known b i) (at Fixed i 0) (λ x. loaded_relocations i reads lt x)))
+    decided-all {P = λ (i : ℕ). RelocationsAreLoaded b i → ⊥} {F = FileFails b} (section_count b)
+    (λ i lt. decided-against (relocations-known b i) (at Fixed i 0) (λ x. loaded_relocations i reads lt x))
 
 -- ### Macro units of all sections
 
-data AllMacros (v : View) : List CellSection → Type 0 where
-  none_left : AllMacros v []
-  one_more : (z : CellSection) (zs : List CellSection) → HasMacroUnits v z.number → AllMacros v zs → AllMacros v (z ∷ zs)
+abbrev MacrosAt : View → CellSection → Type 0
+MacrosAt v z = HasMacroUnits v z.number
 
-first-macros : (v : View) (z : CellSection) (zs : List CellSection) → AllMacros v (z ∷ zs) → HasMacroUnits v z.number
-first-macros v z zs (one_more _ _ m rest) = m
-
-further-macros : (v : View) (z : CellSection) (zs : List CellSection) → AllMacros v (z ∷ zs) → AllMacros v zs
-further-macros v z zs (one_more _ _ m rest) = rest
-
-macros-at : (v : View) (zs before behind : List CellSection) (z : CellSection) → zs ≡ before ++ z ∷ behind → AllMacros v zs → HasMacroUnits v z.number
-macros-at v zs [] behind z e all = first-macros v z behind (subst (AllMacros v) e all)
-macros-at v zs (y ∷ before) behind z e all =
-    macros-at v (before ++ z ∷ behind) before behind z refl (further-macros v y (before ++ z ∷ behind) (subst (AllMacros v) e all))
-
-macros-from : (b : List ℕ) (front zs : List CellSection) → ElfReads b → (file_data b).found Macro ≡ front ++ zs → Decided (AllMacros (view_of b) zs) (FileFails b)
-macros-from b front [] reads e = taken none_left
+macros-from : (b : List ℕ) (front zs : List CellSection) → ElfReads b → (file_data b).found Macro ≡ front ++ zs → Decided (Each (MacrosAt (view_of b)) zs) (FileFails b)
+macros-from b front [] reads e = taken tt
 macros-from b front (z ∷ zs) reads e =
-    by (macros-decided (view_of b) z.number) (macros-from b (front ++ z ∷ []) zs reads (e ∙ sym (append_assoc front (z ∷ []) zs)))
-  where
-    by : Decided (HasMacroUnits (view_of b) z.number) (MacroUnitsFail (view_of b) z.number) → Decided (AllMacros (view_of b) zs) (FileFails b)
-        → Decided (AllMacros (view_of b) (z ∷ zs)) (FileFails b)
-    by (refused r f) rest = refused r (macros z front zs reads e f)
-    by (taken m) (refused r f) = refused r f
-    by (taken m) (taken all) = taken (one_more z zs m all)
+    decided-pair (decided-among (λ r f. macros z front zs reads e f) (macros-decided (view_of b) z.number))
+    (macros-from b (front ++ z ∷ []) zs reads (e ∙ sym (append_assoc front (z ∷ []) zs)))
 
 -- ### All parts
 
@@ -110,7 +87,7 @@ parts-decided b =
       units = p.second.second.second.second.second.first;
       offsets = p.second.second.second.second.second.second.first;
       lines = p.second.second.second.second.second.second.second.first;
-      macros = λ before behind z e. macros-at (view_of b) ((file_data b).found Macro) before behind z e p.second.second.second.second.second.second.second.second;
+      macros = λ before behind z e. each-among (MacrosAt (view_of b)) ((file_data b).found Macro) z (record { before = before; behind = behind; is = e }) p.second.second.second.second.second.second.second.second;
     })
     (decided-both (decided-among (λ r f. elf f) (elf-decided b)) (λ reads.
     decided-both (decided-among (λ r f. sections reads f) (sections-handled b)) (λ s.

@@ -1,4 +1,5 @@
 pub mod Decisions
+pub mod ListDecisions
 pub mod ElfDecisions
 pub mod SectionDecisions
 pub mod RelocationDecisions
@@ -13,4 +14,16 @@ pub mod WalkDecisions
 pub mod LineDecisions
 pub mod ContributionDecisions
 pub mod MacroDecisions
+pub mod NameDecisions
 pub mod FileDecisions
+pub mod FieldDecisions
+pub mod LeftDecisions
+pub mod PartPieces
+pub mod PiecePlaces
+pub mod StartDecisions
+pub mod SlotDecisions
+pub mod ValueWalk
+pub mod TextDecisions
+pub mod WriteDecisions
+pub mod LayoutDecisions
+pub mod EditDecisions

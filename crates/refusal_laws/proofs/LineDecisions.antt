@@ -283,11 +283,11 @@ line_table-decided g start = by (line_header g.order g.bytes start) refl
     by (Some h) e = lists-read g start h e (lists-known g h (table_bytes g h))
 
 -- a table has bytes, and lies in its section
-record Lies (g : LineSource) (start end : ℕ) : Type 0 where
-  some : start < end
-  within : end ≤ length g.bytes
+pub record Lies (g : LineSource) (start end : ℕ) : Type 0 where
+  pub some : start < end
+  pub within : end ≤ length g.bytes
 
-table-lies : (g : LineSource) (start : ℕ) (h : LineHeader) → line_header g.order g.bytes start ≡ Some h → Lies g start h.end
+pub table-lies : (g : LineSource) (start : ℕ) (h : LineHeader) → line_header g.order g.bytes start ≡ Some h → Lies g start h.end
 table-lies g start h e =
     let is = header-is g.order g.bytes start h e in
     let end = is.end_is in

@@ -1,6 +1,5 @@
 -- The relocations of the sections that are read are ones that are handled, or a condition holds (gABI ch. 4 "Relocation").
 use Rattle.std.proofs.Common.{true, false, ◌≡◌, ◌≢◌, ◌⊎◌, inl, inr, ℕ, ◌<◌, nat_lt, List, [], ◌∷◌, ◌++◌, length, IsTrue, Option, Some, None, is_some, refl, ap, ◌∙◌, subst}
-use Rattle.std.specs.Prelude.{⊤}
 use Rattle.std.proofs.lemmas.Bool.{and_parts, cases_Bool, ltb-true}
 use Rattle.dw_base.specs.DebugSections.{debug_section}
 use Rattle.dw_base.specs.Elf.{e_type, nth_section, section_count, section_name}
@@ -15,29 +14,17 @@ use Rattle.dw_base.specs.declared.debug_sections.DebugSection.TheVariants.{Abbre
 use Rattle.dw_base.specs.declared.elf_numbers.TheConstants.{ET_REL}
 use Rattle.dw_base.specs.declared.fault.Kind.TheVariants.{Relocation as RelocationKind}
 use Rattle.dw_base.specs.declared.fault.Refusal.{Refusal}
-use Rattle.refusal_laws.specs.Decided.{Decided, taken, refused, Both, SomeFails, some_fails}
+use Rattle.refusal_laws.specs.Decided.{Decided, taken, refused, SomeFails, some_fails}
+use Rattle.refusal_laws.proofs.ListDecisions.{Among, Each, decided-list, each-among}
 use Rattle.refusal_laws.proofs.Decisions.{clash, decided-by, decided-among, decided-both, decided-each, decided-other, decided-below, decided-true, decided-false, decided-if, decided-at}
 
--- all of a list
-abbrev AllOf : (PlacedRelocation → Type 0) → List PlacedRelocation → Type 0
-AllOf P [] = ⊤
-AllOf P (x ∷ xs) = P x × AllOf P xs
+-- all of a list, and one of them
+all-decided : {F : Refusal → Type 0} → (P : PlacedRelocation → Type 0) (list : List PlacedRelocation) → ((r : PlacedRelocation) → IsAmong list r → Decided (P r) F) → Decided (Each P list) F
+all-decided {F} P list each =
+    decided-list {P = P} {F = F} list (λ (r : PlacedRelocation) (a : Among list r). each r (record { before = a.before; behind = a.behind; is = a.is }))
 
-further : (x : PlacedRelocation) (xs : List PlacedRelocation) (r : PlacedRelocation) → IsAmong xs r → IsAmong (x ∷ xs) r
-further x xs r h = record { before = x ∷ h.before; behind = h.behind; is = ap (λ (l : List PlacedRelocation). x ∷ l) h.is }
-
-all-decided : {F : Refusal → Type 0} → (P : PlacedRelocation → Type 0) (list : List PlacedRelocation) → ((r : PlacedRelocation) → IsAmong list r → Decided (P r) F) → Decided (AllOf P list) F
-all-decided {F} P [] each = taken tt
-all-decided {F} P (x ∷ xs) each =
-    decided-by (λ (p : Both (P x) (AllOf P xs)). (p.first, p.second))
-    (decided-both (each x (record { before = []; behind = xs; is = refl })) (λ (p : P x). all-decided {F = F} P xs (λ r h. each r (further x xs r h))))
-
-all-at : (P : PlacedRelocation → Type 0) (list : List PlacedRelocation) → AllOf P list → (r : PlacedRelocation) → IsAmong list r → P r
-all-at P list all r h = by list h.before h.behind h.is all
-  where
-    by : (xs before behind : List PlacedRelocation) → xs ≡ before ++ r ∷ behind → AllOf P xs → P r
-    by xs [] behind e every = (subst (AllOf P) e every).0
-    by xs (y ∷ before) behind e every = by (before ++ r ∷ behind) before behind refl (subst (AllOf P) e every).1
+all-at : (P : PlacedRelocation → Type 0) (list : List PlacedRelocation) → Each P list → (r : PlacedRelocation) → IsAmong list r → P r
+all-at P list all r h = each-among P list r (record { before = h.before; behind = h.behind; is = h.is }) all
 
 -- no two of a list begin at one place
 together-further : (x : PlacedRelocation) (xs : List PlacedRelocation) (r q : PlacedRelocation) → BeginTogether xs r q → BeginTogether (x ∷ xs) r q
@@ -65,7 +52,7 @@ none-together r q h = by h.before h.between h.behind h.both
     by [] between behind e = absurd cc
     by (y ∷ before) between behind e = absurd cc
 
-apart-more : (x : PlacedRelocation) (xs : List PlacedRelocation) → AllOf (λ q. x.place ≢ q.place) xs → ((r q : PlacedRelocation) → BeginTogether xs r q → ⊥) → (r q : PlacedRelocation)
+apart-more : (x : PlacedRelocation) (xs : List PlacedRelocation) → Each (λ q. x.place ≢ q.place) xs → ((r q : PlacedRelocation) → BeginTogether xs r q → ⊥) → (r q : PlacedRelocation)
     → BeginTogether (x ∷ xs) r q → ⊥
 apart-more x xs first rest r q h = by h.before h.between h.behind h.both h.place
   where

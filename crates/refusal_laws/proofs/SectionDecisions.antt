@@ -31,7 +31,7 @@ type-decided b =
     file_type (λ (same : e_type b ≡ ET_REL). eqb-false (e_type b) ET_REL parts.0 same) parts.1)
 
 -- names are the same or not
-same-names : (xs ys : List ℕ) → (xs ≡ ys) ⊎ (xs ≡ ys → ⊥)
+pub same-names : (xs ys : List ℕ) → (xs ≡ ys) ⊎ (xs ≡ ys → ⊥)
 same-names [] [] = inl refl
 same-names [] (y ∷ ys) = inr (λ e. absurd cc)
 same-names (x ∷ xs) [] = inr (λ e. absurd cc)

@@ -22,7 +22,7 @@ use Rattle.refusal_laws.proofs.Decisions.{clash, decided-against, decided-among,
 use Rattle.refusal_laws.proofs.ElfDecisions.{elf-decided}
 
 -- a section lies across the end of what stays, or not
-across-known : (b : List ℕ) (s : Section) → LiesAcross b s ⊎ (LiesAcross b s → ⊥)
+pub across-known : (b : List ℕ) (s : Section) → LiesAcross b s ⊎ (LiesAcross b s → ⊥)
 across-known b s = by (cases_Bool (is_empty_kind s)) (cases_Bool (is_alloc s)) (cases_lt s.offset (fixed_end b)) (cases_lt (fixed_end b) (s.offset + s.size))
   where
     by : (is_empty_kind s ≡ true) ⊎ (is_empty_kind s ≡ false) → (is_alloc s ≡ true) ⊎ (is_alloc s ≡ false)
@@ -35,7 +35,7 @@ across-known b s = by (cases_Bool (is_empty_kind s)) (cases_Bool (is_alloc s)) (
     by (inr bytes) (inr off) (inl begins) (inl ends) = inl (record { bytes = bytes; alloc = off; begins = begins; ends = ends })
 
 -- a section begins in the file header, or not
-header-known : (b : List ℕ) (s : Section) → BeginsInHeader b s ⊎ (BeginsInHeader b s → ⊥)
+pub header-known : (b : List ℕ) (s : Section) → BeginsInHeader b s ⊎ (BeginsInHeader b s → ⊥)
 header-known b s = by (cases_Bool (is_loaded_kind b)) (cases_Bool (is_empty_kind s)) (cases_eq s.size 0) (cases_lt s.offset (ehdr_size (class_of b)))
   where
     by : (is_loaded_kind b ≡ true) ⊎ (is_loaded_kind b ≡ false) → (is_empty_kind s ≡ true) ⊎ (is_empty_kind s ≡ false)

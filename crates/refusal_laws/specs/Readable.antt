@@ -3,14 +3,18 @@
 use Rattle.std.specs.Prelude.{◌≡◌, ◌<◌, ◌++◌, ◌∷◌, ℕ, List, Some}
 use Rattle.dw_base.specs.AbbreviationTables.{Abbreviation, IsTable}
 use Rattle.dw_base.specs.Cells.{CellSection, Located}
-use Rattle.dw_base.specs.DebugData.{DebugData, ReadsAll, line_source}
+use Rattle.dw_base.specs.DebugData.{DataReadings, DebugData, ReadsAll, line_source}
 use Rattle.dw_base.specs.DebugSectionFails.{DebugSectionsRead}
 use Rattle.dw_base.specs.Elf.{contents_of, section_count}
 use Rattle.dw_base.specs.ElfFails.{ElfReads}
 use Rattle.dw_base.specs.EntryScans.{AreEntries, SpellsValues}
 use Rattle.dw_base.specs.FileViews.{View, view_of}
 use Rattle.dw_base.specs.LineReadings.{AreTables, LineReading}
+use Rattle.dw_base.specs.MacroReadings.{ReadsAllMacros}
 use Rattle.dw_base.specs.MacroUnits.{AreMacroUnits}
+use Rattle.dw_base.specs.NameOffsets.{AreRead}
+use Rattle.dw_base.specs.NamePieces.{ReadsNames}
+use Rattle.dw_base.specs.OffsetPieces.{ReadsOffsets}
 use Rattle.dw_base.specs.Readings.{Readings}
 use Rattle.dw_base.specs.RelocationSectionFails.{RelocationSectionsRead}
 use Rattle.dw_base.specs.StringOffsets.{AreContributions}
@@ -18,8 +22,9 @@ use Rattle.dw_base.specs.UnitHeaders.{AreUnits, IsUnit, UnitBase, UnitSection}
 use Rattle.dw_base.specs.UnitTables.{IsUnitTable}
 use Rattle.dw_base.specs.Values.{value_at}
 use Rattle.dw_base.specs.ViewData.{string_offsets}
-use Rattle.dw_base.specs.declared.debug_sections.DebugSection.TheVariants.{Info, Macro}
+use Rattle.dw_base.specs.declared.debug_sections.DebugSection.TheVariants.{Info, Macro, Names, StrOffsets}
 use Rattle.dw_base.specs.declared.macro_units.MacroUnit.{MacroUnit}
+use Rattle.dw_base.specs.declared.name_tables.NameTable.{NameTable}
 use Rattle.dw_base.specs.declared.shared.Order.{Order}
 use Rattle.dw_base.specs.declared.shared.Params.{Params}
 use Rattle.dw_base.specs.declared.string_offsets.Contribution.{Contribution}
@@ -86,6 +91,11 @@ pub record HasMacroUnits (v : View) (section : ℕ) : Type 0 where
   pub list : List MacroUnit
   pub are : AreMacroUnits v section list
 
+-- name tables fill their section, with their string offsets
+pub record HasNameTables (v : View) : Type 0 where
+  pub list : List NameTable
+  pub are : AreRead v list
+
 -- the parts of a file can be read, each by itself: its records, its type and sections, the relocations of those that are read, units with
 -- their tables and entries, string offsets, line tables and macro units; and nothing that is read is loaded
 pub record HasParts (b : List ℕ) : Type 0 where
@@ -98,3 +108,11 @@ pub record HasParts (b : List ℕ) : Type 0 where
   pub offsets : HasContributions (view_of b).order (string_offsets (view_of b))
   pub lines : HasLines (file_data b)
   pub macros : (before behind : List CellSection) (z : CellSection) → (file_data b).found Macro ≡ before ++ z ∷ behind → HasMacroUnits (view_of b) z.number
+
+-- the sections of debug data are these pieces, whatever one says of another
+pub record ArePieces (d : DebugData) (r : DataReadings) : Type 0 where
+  pub units : ReadsAll d.base 0 (d.found Info) r.units
+  pub offsets : ReadsOffsets d.base.order (d.found StrOffsets).contents r.offsets
+  pub lines : AreTables (line_source d) r.lines
+  pub macros : ReadsAllMacros d.base.order (d.found Macro) r.macros
+  pub names : ReadsNames d.base.order (d.found Names).contents r.names
