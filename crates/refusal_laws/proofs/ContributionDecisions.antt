@@ -1,5 +1,5 @@
 -- The contributions of string offsets can be read, or a condition holds (DWARF 5, 7.26).
-use Rattle.std.proofs.Common.{◌≡◌, ◌≢◌, ◌⊎◌, inl, inr, ℕ, zero, suc, ◌+◌, ◌-◌, ◌%◌, ◌<◌, ◌≤◌, List, [], ◌∷◌, ◌++◌, length, Option, Some, None, refl, subst, arith}
+use Rattle.std.proofs.Common.{◌≡◌, ◌≢◌, ◌⊎◌, inl, inr, ℕ, zero, suc, ◌+◌, ◌-◌, ◌%◌, ◌<◌, ◌≤◌, List, [], ◌∷◌, ◌++◌, length, Some, refl, subst, arith}
 use Rattle.std.proofs.lemmas.Bool.{cases_eq, cases_lt}
 use Rattle.dw_base.specs.Cells.{Located}
 use Rattle.dw_base.specs.Forms.{width_size}
@@ -12,6 +12,7 @@ use Rattle.dw_base.specs.declared.fault.Kind.TheVariants.{StringTable}
 use Rattle.dw_base.specs.declared.shared.Order.{Order}
 use Rattle.dw_base.specs.declared.shared.Width.{Width}
 use Rattle.dw_base.specs.declared.string_offsets.Contribution.{Contribution}
+use Rattle.refusal_laws.proofs.Decisions.{length-decided}
 use Rattle.refusal_laws.specs.Decided.{Decided, refused, taken}
 use Rattle.refusal_laws.specs.Readable.{HasContributions}
 
@@ -46,17 +47,9 @@ length-known order bytes section start l e within room = by (cases_eq (spelled o
         })
 
 contribution-decided : (order : Order) (bytes : List ℕ) (section start : ℕ) → Decided (HasContribution order bytes start) (ContributionFails order bytes section start)
-contribution-decided order bytes section start = by (initial_length_at order bytes start) refl
-  where
-    by_size : (l : Width × ℕ × ℕ) → initial_length_at order bytes start ≡ Some l → (length bytes < start + l.2 + l.1) ⊎ (start + l.2 + l.1 ≤ length bytes) → (l.1 < 4) ⊎ (4 ≤ l.1)
-        → Decided (HasContribution order bytes start) (ContributionFails order bytes section start)
-    by_size l e (inl far) r = refused (at StringTable section start) (passes l e far)
-    by_size l e (inr within) (inl short) = refused (at StringTable section start) (no_version l e short)
-    by_size l e (inr within) (inr room) = length-known order bytes section start l e within room
-
-    by : (o : Option (Width × ℕ × ℕ)) → initial_length_at order bytes start ≡ o → Decided (HasContribution order bytes start) (ContributionFails order bytes section start)
-    by None e = refused (at StringTable section start) (no_length e)
-    by (Some l) e = by_size l e (cases_lt (length bytes) (start + l.2 + l.1)) (cases_lt l.1 4)
+contribution-decided order bytes section start =
+    length-decided order bytes start 4 (at StringTable section start) (λ e. no_length e) (λ l e far. passes l e far) (λ l e short. no_version l e short)
+    (λ l e within room. length-known order bytes section start l e within room)
 
 -- from a place on, with as many steps as there are bytes
 contributions-from : (order : Order) (z : Located) (steps : ℕ) (list : List Contribution) (start : ℕ) → length z.bytes ≤ start + steps → start ≤ length z.bytes

@@ -1,7 +1,10 @@
 -- How decisions are put together, and those of single tests.
-use Rattle.std.proofs.Common.{Bool, true, false, ◌≡◌, ◌≢◌, ◌⊎◌, inl, inr, ℕ, zero, suc, ◌<◌, ◌≤◌, subst, arith}
+use Rattle.std.proofs.Common.{Bool, true, false, ◌≡◌, ◌≢◌, ◌⊎◌, inl, inr, ℕ, zero, suc, ◌+◌, ◌<◌, ◌≤◌, List, length, Option, Some, None, refl, subst, arith}
 use Rattle.std.proofs.lemmas.Bool.{cases_Bool, cases_eq, cases_lt}
+use Rattle.dw_base.specs.Lebs.{initial_length_at}
 use Rattle.dw_base.specs.declared.fault.Refusal.{Refusal}
+use Rattle.dw_base.specs.declared.shared.Order.{Order}
+use Rattle.dw_base.specs.declared.shared.Width.{Width}
 use Rattle.refusal_laws.specs.Decided.{Decided, taken, refused, Both, SomeFails, some_fails}
 
 -- what is taken is more, and what fails is one of more rows
@@ -109,3 +112,20 @@ decided-not {A} {F} b one = elim (cases_Bool b) [
   | inl holds ↦ taken (λ (not_ : b ≡ false). absurd (clash holds not_))
   | inr not_ ↦ decided-by (λ (x : A). λ (again : b ≡ false). x) (one not_)
 ]
+
+-- an initial length stands at a place, is so many at least, and all that it counts is there
+pub length-decided : {A : Type 0} {F : Refusal → Type 0} (order : Order) (bytes : List ℕ) (start least : ℕ) (r : Refusal) → (initial_length_at order bytes start ≡ None → F r)
+    → ((l : Width × ℕ × ℕ) → initial_length_at order bytes start ≡ Some l → length bytes < start + l.2 + l.1 → F r)
+    → ((l : Width × ℕ × ℕ) → initial_length_at order bytes start ≡ Some l → l.1 < least → F r)
+    → ((l : Width × ℕ × ℕ) → initial_length_at order bytes start ≡ Some l → start + l.2 + l.1 ≤ length bytes → least ≤ l.1 → Decided A F) → Decided A F
+length-decided {A} {F} order bytes start least r none far short rest = by (initial_length_at order bytes start) refl
+  where
+    by_size : (l : Width × ℕ × ℕ) → initial_length_at order bytes start ≡ Some l → (length bytes < start + l.2 + l.1) ⊎ (start + l.2 + l.1 ≤ length bytes)
+        → (l.1 < least) ⊎ (least ≤ l.1) → Decided A F
+    by_size l e (inl passes) s = refused r (far l e passes)
+    by_size l e (inr within) (inl less) = refused r (short l e less)
+    by_size l e (inr within) (inr room) = rest l e within room
+
+    by : (o : Option (Width × ℕ × ℕ)) → initial_length_at order bytes start ≡ o → Decided A F
+    by None e = refused r (none e)
+    by (Some l) e = by_size l e (cases_lt (length bytes) (start + l.2 + l.1)) (cases_lt l.1 least)

@@ -1,6 +1,6 @@
 -- The name tables of a view can be read, with their string offsets, or a condition holds (DWARF 5, 6.1.1.4).
 use Rattle.std.specs.Prelude.{Result, Ok, Err}
-use Rattle.std.proofs.Common.{true, false, ◌≡◌, ◌≢◌, ◌⊎◌, inl, inr, ℕ, zero, suc, ◌+◌, ◌<◌, ◌≤◌, List, [], ◌∷◌, ◌++◌, length, Option, Some, None, refl, subst, arith}
+use Rattle.std.proofs.Common.{true, false, ◌≡◌, ◌≢◌, ◌⊎◌, inl, inr, ℕ, zero, suc, ◌+◌, ◌<◌, ◌≤◌, List, [], ◌∷◌, ◌++◌, length, Some, refl, subst, arith}
 use Rattle.std.proofs.lemmas.Bool.{cases_Bool, cases_eq, cases_lt}
 use Rattle.dw_base.specs.FileViews.{View, field_at}
 use Rattle.dw_base.specs.Forms.{width_size}
@@ -23,6 +23,7 @@ use Rattle.dw_base.specs.declared.shared.Width.{Width}
 use Rattle.dw_base.specs.declared.view_fields.Field.{Field}
 use Rattle.dw_base.proofs.ViewOffsetLaws.{OffsetIs, offset-is}
 use Rattle.dw_offsets.proofs.NameListLaws.{read-tables}
+use Rattle.refusal_laws.proofs.Decisions.{length-decided}
 use Rattle.refusal_laws.specs.Decided.{Both, Decided, refused, taken}
 use Rattle.refusal_laws.specs.Readable.{HasNameTables}
 
@@ -62,17 +63,9 @@ parts-known order bytes section start l e within room =
         })
 
 table-known : (order : Order) (bytes : List ℕ) (section start : ℕ) → Decided (HasTableThere order bytes start) (TableFails order bytes section start)
-table-known order bytes section start = by (initial_length_at order bytes start) refl
-  where
-    by_size : (l : Width × ℕ × ℕ) → initial_length_at order bytes start ≡ Some l → (length bytes < start + l.2 + l.1) ⊎ (start + l.2 + l.1 ≤ length bytes) → (l.1 < 32) ⊎ (32 ≤ l.1)
-        → Decided (HasTableThere order bytes start) (TableFails order bytes section start)
-    by_size l e (inl far) r = refused (at NameTableKind section start) (passes l e far)
-    by_size l e (inr within) (inl short) = refused (at NameTableKind section start) (no_counts l e short)
-    by_size l e (inr within) (inr room) = parts-known order bytes section start l e within room
-
-    by : (o : Option (Width × ℕ × ℕ)) → initial_length_at order bytes start ≡ o → Decided (HasTableThere order bytes start) (TableFails order bytes section start)
-    by None e = refused (at NameTableKind section start) (no_length e)
-    by (Some l) e = by_size l e (cases_lt (length bytes) (start + l.2 + l.1)) (cases_lt l.1 32)
+table-known order bytes section start =
+    length-decided order bytes start 32 (at NameTableKind section start) (λ e. no_length e) (λ l e far. passes l e far) (λ l e short. no_counts l e short)
+    (λ l e within room. parts-known order bytes section start l e within room)
 
 -- ### Its string offsets
 

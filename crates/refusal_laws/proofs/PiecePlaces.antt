@@ -268,24 +268,21 @@ said-placed : (unit : ℕ) (placed : Bool) (o : Option ℕ) → placed ≡ true 
 said-placed unit placed None e = tt
 said-placed unit placed (Some n) e = (e, tt)
 
+value-bases : (kind : ValueKind) (number tag name : ℕ) (order : Order) (contents : List Cell) (z : Located) (s : UnitState) (p : List Cell)
+    → ValueStands order contents kind s.place (is_section_offset number tag name) p
+    → Each IsPlacedBase (if is_base number name then base_said s.unit order z kind p else [])
+value-bases kind number tag name order contents z s p h = by (is_base number name) refl
+  where
+    by : (b : Bool) → is_base number name ≡ b → Each IsPlacedBase (if b then base_said s.unit order z kind p else [])
+    by false is = tt
+    by true is =
+        said-placed s.unit (base_placed order kind p) (base_value order z kind p)
+        (base-kind kind order contents s.place (is_section_offset number tag name) p (or-right (names_start (use_of number tag name)) (is_base number name) is) h)
+
 base-mode : (m : Mode) (order : Order) (contents : List Cell) (z : Located) (s : UnitState) (p : List Cell) → ModeStands m order contents s p
     → Each IsPlacedBase (bases_by m order z s p)
-base-mode (at_values number tag (x ∷ xs)) order contents z s p h = by (is_base number x.name) refl
-  where
-    by : (b : Bool) → is_base number x.name ≡ b → Each IsPlacedBase (if b then base_said s.unit order z (kind_in s.header.params x.form) p else [])
-    by false is = tt
-    by true is =
-        said-placed s.unit (base_placed order (kind_in s.header.params x.form) p) (base_value order z (kind_in s.header.params x.form) p)
-        (base-kind (kind_in s.header.params x.form) order contents s.place (is_section_offset number tag x.name) p
-        (or-right (names_start (use_of number tag x.name)) (is_base number x.name) is) h)
-base-mode (at_chosen number tag start x xs) order contents z s p h = by (is_base number x.name) refl
-  where
-    by : (b : Bool) → is_base number x.name ≡ b → Each IsPlacedBase (if b then base_said s.unit order z (kind_in s.header.params x.form) p else [])
-    by false is = tt
-    by true is =
-        said-placed s.unit (base_placed order (kind_in s.header.params x.form) p) (base_value order z (kind_in s.header.params x.form) p)
-        (base-kind (kind_in s.header.params x.form) order contents s.place (is_section_offset number tag x.name) p
-        (or-right (names_start (use_of number tag x.name)) (is_base number x.name) is) h)
+base-mode (at_values number tag (x ∷ xs)) order contents z s p h = value-bases (kind_in s.header.params x.form) number tag x.name order contents z s p h
+base-mode (at_chosen number tag start x xs) order contents z s p h = value-bases (kind_in s.header.params x.form) number tag x.name order contents z s p h
 base-mode (at_values number tag []) order contents z s p h = tt
 base-mode at_header order contents z s p h = tt
 base-mode at_code order contents z s p h = tt
