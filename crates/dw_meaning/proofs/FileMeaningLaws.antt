@@ -139,7 +139,7 @@ data-back m b r out w back small =
     ∙ edited-parts m b r
 
 -- what the data law asks for
-data-moves : (m : PathMap) (b : List ℕ) (r : DataReadings) (out : List ℕ) → CanMap m b r → ReadsBack b (file_body m b r) out → length out ≤ output_limit
+pub data-moves : (m : PathMap) (b : List ℕ) (r : DataReadings) (out : List ℕ) → CanMap m b r → ReadsBack b (file_body m b r) out → length out ≤ output_limit
     → DataMoves m (file_data b) r
 data-moves m b r out w back small = record {
   map = w.map;

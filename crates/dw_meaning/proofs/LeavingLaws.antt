@@ -42,11 +42,10 @@ five m a b c d e as_ bs cs ds es f g h i j =
     (after-append m b (c ++ (d ++ e)) ∙ ap (λ (ms : List Mention). all_after m b ++ ms)
     (after-append m c (d ++ e) ∙ ap (λ (ms : List Mention). all_after m c ++ ms) (after-append m d e)))))
 
--- what a file names after an edit, where line tables name so
+-- what a file names after an edit
 pub file-after : (m : PathMap) (d : DebugData) (r : DataReadings) (w : DataMoves m d r) (table : TextSection)
-    → all_texts_mentions (source_around (data_shift m d r).new) table (lines-data m d r w).readings ≡ all_after m (all_texts_mentions (source_around (around_of d r)) table r.lines)
     → file_mentions table (around_of (edited_data (changes_of m (around_of d r) r) d r) (after_reads m d r w)) (after_reads m d r w) ≡ all_after m (file_mentions table (around_of d r) r)
-file-after m d r w table lines =
+file-after m d r w table =
     let c : TableChanges = changes_of m (around_of d r) r in
     let s : Shift = data_shift m d r in
     ap (λ (a : Around). file_mentions table a (after_reads m d r w)) (around-edited m d r w)
@@ -57,6 +56,6 @@ file-after m d r w table lines =
     (mentions_with name_role table s.new (names_after c (around_of d r) r))
     (readings-after table s r.units (edited_readings c (around_of d r) r.units) (units-changed-all m d r w))
     (with-after (slot_role (path_slots (around_of d r))) table s r.offsets (offsets_after c (around_of d r) r) (offsets-changed m d r w))
-    lines
+    (ap (λ (a : Around). all_texts_mentions (source_around a) table (lines-data m d r w).readings) (sym (around-edited m d r w)) ∙ (lines-data m d r w).mentions table)
     (macros-after table s r.macros (macros_after c (around_of d r) r) (macros-changed-all m d r w))
     (with-after name_role table s r.names (names_after c (around_of d r) r) (names-changed-all m d r w))

@@ -54,6 +54,7 @@ pub mod LineReadLaws
 pub mod LineWalkLaws
 pub mod LineChangeLaws
 pub mod LineColumnLaws
+pub mod TextMentionLaws
 pub mod LineValueLaws
 pub mod LineMoveLaws
 pub mod LineEntryLaws
@@ -118,6 +119,8 @@ pub mod WorkedMeanings
 pub mod RebuiltLaws
 pub mod MentionLaws
 pub mod LeavingLaws
+pub mod BareMentionLaws
+pub mod LeftNoneLaws
 pub mod LineTextLaws
 pub mod FurtherLaws
 pub mod TextCellLaws

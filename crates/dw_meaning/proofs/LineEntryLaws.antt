@@ -32,6 +32,7 @@ use Rattle.dw_meaning.proofs.LineColumnLaws.{edited_with, SourceMoves, TextMoves
 use Rattle.dw_meaning.proofs.LineMoveLaws.{LinePlaces, moved_header, Sides, column-from, column-kept, column-moved, column-own, column-place}
 use Rattle.dw_meaning.proofs.LineReadLaws.{first-stand}
 use Rattle.dw_meaning.proofs.LineWalkLaws.{bound-ok, made-ok}
+use Rattle.dw_meaning.proofs.TextMentionLaws.{MentionsMoved, mentions-both, mentions-none, text_as, text-as}
 
 -- each text of an entry, or of more, moves
 abbrev pub EachMoves : LineSource → PathMap → List ℕ → List ℕ → Width → (LineText → Option ℕ) → List LineText → Type 0
@@ -171,6 +172,7 @@ record StepMoved (g k : LineSource) (m : PathMap) (h : LineHeader) (n : LinePlac
   rest : Rest old new end cs c.next column.next
   cells : CellRest g.cells k.cells end us tail c.next column.next
   clear : Clear k.cells (clear_from spec q) column.next
+  mentions : MentionsMoved g k m (text_as spec o c.text) (text_as spec f column.text)
   further : (r s : Bool → ℕ → List LineColumn)
       → s (is_there (text_with (spec.name == DW_LNCT_path) o c.text)) column.next ≡ r (is_there (text_with (spec.name == DW_LNCT_path) o c.text)) c.next
       → column_there k new spec (is_there o) q s (Ok column) ≡ column_there g old spec (is_there o) p r (Ok c)
@@ -227,6 +229,8 @@ step-value g m bytes cells s l old new h n end cs us tail spec o f p q c w sides
       rest = subst (λ (i : ℕ). Rest old new end cs c.next i) (sym kept.next) k.rest;
       cells = subst (λ (i : ℕ). CellRest g.cells cells end us tail c.next i) (sym kept.next) d.rest;
       clear = subst (λ (i : ℕ). Clear cells (clear_from spec q) i) (sym kept.next) (column-clear spec g.cells cells p q c.next d.same clear);
+      mentions = subst (λ (x : Option TextPlace). MentionsMoved g (edited_with g bytes cells s l) m (text_as spec o x) (text_as spec f kept.column.text)) (sym none)
+          (subst (λ (x : Option TextPlace). MentionsMoved g (edited_with g bytes cells s l) m [] (text_as spec f x)) (sym kept.text) (mentions-none g (edited_with g bytes cells s l) m));
       further = λ r s_ e.
           let there : is_there (text_with (spec.name == DW_LNCT_path) o c.text) ≡ is_there o = ap (λ (x : Option TextPlace). is_there x) (no-text (spec.name == DW_LNCT_path) o c.text none) in
           let rest_same : s_ (is_there o) kept.column.next ≡ r (is_there o) c.next =
@@ -241,6 +245,13 @@ step-value g m bytes cells s l old new h n end cs us tail spec o f p q c w sides
           (ap (λ (v : _). record { name = spec.name; value = v } ∷ s_ (is_there o) kept.column.next) value
           ∙ ap (λ (cs_ : List LineColumn). record { name = spec.name; value = column_value g spec.form c.text c.number (part old p c.next) } ∷ cs_) rest_same);
     }
+
+-- where there is a text there is its mapped one
+some-moved : (g k : LineSource) (m : PathMap) (o f : Option TextPlace) → MovedText g k m o f → is_some f ≡ is_some o
+some-moved g k m None None h = refl
+some-moved g k m None (Some u) h = absurd h
+some-moved g k m (Some t) None h = absurd h
+some-moved g k m (Some t) (Some u) h = refl
 
 -- one that has one, which is the path of its entry or isn't
 moved-with : (g k : LineSource) (m : PathMap) (b : Bool) (o f : Option TextPlace) (t u : TextPlace) → MovedText g k m o f
@@ -314,6 +325,10 @@ step-text g m bytes cells s l old new h n places end cs us tail spec o f p q c t
       rest = d.rest;
       cells = d.cells;
       clear = d.clear;
+      mentions = subst (λ (x : Option TextPlace). MentionsMoved g (edited_with g bytes cells s l) m (text_as spec o x) (text_as spec f d.column.text)) (sym some)
+          (subst (λ (x : Option TextPlace). MentionsMoved g (edited_with g bytes cells s l) m (text_as spec o (Some t)) (text_as spec f x)) (sym d.text)
+          (subst (λ (b : Bool). MentionsMoved g (edited_with g bytes cells s l) m (text_as spec o (Some t)) (record { place = d.place; path = not b && spec.name == DW_LNCT_path } ∷ []))
+          (sym (some-moved g (edited_with g bytes cells s l) m o f moved)) d.mentions));
       further = λ r s_ e.
           subst (λ (x : Option TextPlace). column_there (edited_with g bytes cells s l) new spec (is_there o) q s_ (Ok d.column)
           ≡ column_there g old spec (is_there o) p r (Ok (record { text = x; number = c.number; next = c.next }))) (sym some)
@@ -336,6 +351,7 @@ pub record EntryMoved (g k : LineSource) (m : PathMap) (h : LineHeader) (n : Lin
   pub rest : Rest old new end cs last.next entry.next
   pub cells : CellRest g.cells k.cells end us tail last.next entry.next
   pub clear : ColumnsClear k (moved_header h n) new specs f.next
+  pub mentions : MentionsMoved g k m (entry_texts g h old specs e) (entry_texts k (moved_header h n) new specs f)
   pub further : further_columns k (moved_header h n) new specs (is_there e.text) f.next ≡ further_columns g h old specs (is_there e.text) e.next
 
 pub columns-moved : (g : LineSource) (m : PathMap) (bytes : List ℕ) (cells : List Cell) (s l old new : List ℕ) (h : LineHeader) (n : LinePlaces) (places : LineText → Option ℕ) (end : ℕ) (cs : List Change)
@@ -354,6 +370,7 @@ columns-moved g m bytes cells s l old new h n places end cs us tail [] e f last 
       rest = subst (λ (x : Entry). Rest old new end cs x.next f.next) same rest;
       cells = subst (λ (x : Entry). CellRest g.cells cells end us tail x.next f.next) same cell;
       clear = tt;
+      mentions = mentions-none g (edited_with g bytes cells s l) m;
       further = refl;
     }
 columns-moved g m bytes cells s l old new h n places end cs us tail (spec ∷ specs) e f last w sides plain is moves dir text rest cell both from clear =
@@ -418,5 +435,12 @@ columns-moved g m bytes cells s l old new h n places end cs us tail (spec ∷ sp
           clear = λ d read.
               subst (λ (y : Column). Clear cells (clear_from spec f.next) y.next × ColumnsClear (edited_with g bytes cells s l) (moved_header h n) new specs y.next)
               (same-column st.column d (sym st.is ∙ read)) (st.clear, r.clear);
+          mentions = subst (λ (xs : List LineText). MentionsMoved g (edited_with g bytes cells s l) m xs (entry_texts (edited_with g bytes cells s l) (moved_header h n) new (spec ∷ specs) f))
+              (sym (texts-step g h old spec specs e c at ∙ ap (λ (xs : List LineText). xs ++ entry_texts g h old specs (with_column spec e c)) (text-as spec e c.text)))
+              (subst (λ (ys : List LineText). MentionsMoved g (edited_with g bytes cells s l) m (text_as spec e.text c.text ++ entry_texts g h old specs (with_column spec e c)) ys)
+              (sym (texts-step (edited_with g bytes cells s l) (moved_header h n) new spec specs f st.column st.is
+              ∙ ap (λ (ys : List LineText). ys ++ entry_texts (edited_with g bytes cells s l) (moved_header h n) new specs (with_column spec f st.column)) (text-as spec f st.column.text)))
+              (mentions-both g (edited_with g bytes cells s l) m (text_as spec e.text c.text) (text_as spec f.text st.column.text) (entry_texts g h old specs (with_column spec e c))
+              (entry_texts (edited_with g bytes cells s l) (moved_header h n) new specs (with_column spec f st.column)) st.mentions r.mentions));
           further = rw (st.is, at) (st.further (λ t_ p_. further_columns g h old specs t_ p_) (λ t_ p_. further_columns (edited_with g bytes cells s l) (moved_header h n) new specs t_ p_) r.further);
         }

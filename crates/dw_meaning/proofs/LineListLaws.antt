@@ -35,6 +35,7 @@ use Rattle.dw_meaning.proofs.LineEntryLaws.{AreColumns, EachMoves, MovedText, ce
 use Rattle.dw_meaning.proofs.LineMoveLaws.{LinePlaces, moved_header, Sides}
 use Rattle.dw_meaning.proofs.LineReadLaws.{Both, both-behind, uleb-both, bound, made, if-some, some-same}
 use Rattle.dw_meaning.proofs.LineWalkLaws.{NewFiles, bound-ok, entries-read, entries-run}
+use Rattle.dw_meaning.proofs.TextMentionLaws.{MentionsMoved, mentions-both, mentions-none}
 
 -- an entry by its columns
 pub record EntryIs (g : LineSource) (h : LineHeader) (table : List ℕ) (specs : List Spec) (p : ℕ) (f : FilePlace) (next : ℕ) : Type 0 where
@@ -98,6 +99,7 @@ record FileMoved (g k : LineSource) (m : PathMap) (h : LineHeader) (n : LinePlac
   rest : Rest old new end cs next behind
   cells : CellRest g.cells k.cells end us tail next behind
   clear : ColumnsClear k (moved_header h n) new specs q
+  mentions : MentionsMoved g k m (entry_texts g h old specs (record { text = None; dir = None; next = p })) (entry_texts k (moved_header h n) new specs (record { text = None; dir = None; next = q }))
   further : further_columns k (moved_header h n) new specs false q ≡ further_columns g h old specs false p
 
 file-from : (g : LineSource) (m : PathMap) (s l old : List ℕ) (h : LineHeader) (places : LineText → Option ℕ) (end : ℕ) (cs : List Change) (specs : List Spec) (p : ℕ) (f : FilePlace) (next : ℕ)
@@ -122,15 +124,17 @@ file-moved g m bytes cells s l old new h n places end cs us tail specs p q f nex
     x.columns_are moves refl tt rest cell both (subst (λ (i : ℕ). From end i cs) (sym x.behind) from) clear in
     by_text r.entry r.entry.text refl r.is r.dir (subst (λ (o : Option TextPlace). MovedText g (edited_with g bytes cells s l) m o r.entry.text) x.text r.text)
     (subst (λ (i : ℕ). Rest old new end cs i r.entry.next) x.behind r.rest)
-    (subst (λ (i : ℕ). CellRest g.cells cells end us tail i r.entry.next) x.behind r.cells) r.clear r.further x.dir
+    (subst (λ (i : ℕ). CellRest g.cells cells end us tail i r.entry.next) x.behind r.cells) r.clear r.mentions r.further x.dir
   where
     by_text : (y : Entry) → (o : Option TextPlace) → y.text ≡ o → columns (edited_with g bytes cells s l) (moved_header h n) new specs (record { text = None; dir = None; next = q }) ≡ Ok y
         → {d : Option ℕ} → y.dir ≡ d → MovedText g (edited_with g bytes cells s l) m (Some f.text) y.text → Rest old new end cs next y.next
         → CellRest g.cells cells end us tail next y.next → ColumnsClear (edited_with g bytes cells s l) (moved_header h n) new specs q
+        → MentionsMoved g (edited_with g bytes cells s l) m (entry_texts g h old specs (record { text = None; dir = None; next = p }))
+        (entry_texts (edited_with g bytes cells s l) (moved_header h n) new specs (record { text = None; dir = None; next = q }))
         → further_columns (edited_with g bytes cells s l) (moved_header h n) new specs false q ≡ further_columns g h old specs false p → f.dir ≡ unwrap_or d 0
         → FileMoved g (edited_with g bytes cells s l) m h n old new end cs us tail specs p q f next
-    by_text y None t is dir moved r cell_rest none further own = absurd (subst (λ (o : Option TextPlace). MovedText g (edited_with g bytes cells s l) m (Some f.text) o) t moved)
-    by_text y (Some u) t is dir moved r cell_rest none further own = record {
+    by_text y None t is dir moved r cell_rest none mentions further own = absurd (subst (λ (o : Option TextPlace). MovedText g (edited_with g bytes cells s l) m (Some f.text) o) t moved)
+    by_text y (Some u) t is dir moved r cell_rest none mentions further own = record {
       file = record { text = u; dir = unwrap_or y.dir 0 };
       behind = y.next;
       entry = entry-there (edited_with g bytes cells s l) (moved_header h n) new specs q y u is t;
@@ -139,6 +143,7 @@ file-moved g m bytes cells s l old new h n places end cs us tail specs p q f nex
       rest = r;
       cells = cell_rest;
       clear = none;
+      mentions = mentions;
       further = further;
     }
 
@@ -179,6 +184,7 @@ record NewMoved (g k : LineSource) (m : PathMap) (h : LineHeader) (n : LinePlace
   rest : Rest old new end cs e behind
   cells : CellRest g.cells k.cells end us tail e behind
   clear : EntriesClear k (moved_header h n) new specs (length files) q
+  mentions : MentionsMoved g k m (entries_texts g h old specs (length fs) p) (entries_texts k (moved_header h n) new specs (length fs) q)
   further : entries_columns k (moved_header h n) new specs (length fs) q ≡ entries_columns g h old specs (length fs) p
 
 -- the further columns of one entry more
@@ -199,7 +205,7 @@ files-moved : (g : LineSource) (m : PathMap) (bytes : List ℕ) (cells : List Ce
     → SameChanges us cs → From end e cs → EntriesClear g h old specs (length fs) p
     → NewMoved g (edited_with g bytes cells s l) m h n old new end cs us tail specs p q e fs
 files-moved g m bytes cells s l old new h n places end cs us tail specs p q e [] w sides plain are moves rest cell both from clear =
-    record { files = []; behind = q; are = refl; moved = tt; count = refl; rest = subst (λ (i : ℕ). Rest old new end cs i q) are rest; cells = subst (λ (i : ℕ). CellRest g.cells cells end us tail i q) are cell; clear = tt; further = refl }
+    record { files = []; behind = q; are = refl; moved = tt; count = refl; rest = subst (λ (i : ℕ). Rest old new end cs i q) are rest; cells = subst (λ (i : ℕ). CellRest g.cells cells end us tail i q) are cell; clear = tt; mentions = mentions-none g (edited_with g bytes cells s l) m; further = refl }
 files-moved g m bytes cells s l old new h n places end cs us tail specs p q e (f ∷ fs) w sides plain are moves rest cell both from clear =
     let front : List LineText = entry_texts g h old specs (record { text = None; dir = None; next = p }) in
     let next : List LineText = entries_texts g h old specs (length fs) are.0.next in
@@ -236,6 +242,12 @@ files-moved g m bytes cells s l old new h n places end cs us tail specs p q e (f
         λ d next read.
             subst (EntriesClear (edited_with g bytes cells s l) (moved_header h n) new specs (length more.files)) (same-next one.file d one.behind next (sym one.entry ∙ read)) more.clear,
       );
+      mentions = subst (λ (xs : List LineText). MentionsMoved g (edited_with g bytes cells s l) m xs (entries_texts (edited_with g bytes cells s l) (moved_header h n) new specs (suc (length fs)) q)) (sym texts)
+          (subst (λ (ys : List LineText). MentionsMoved g (edited_with g bytes cells s l) m (entry_texts g h old specs (record { text = None; dir = None; next = p }) ++ entries_texts g h old specs (length fs) are.0.next) ys)
+          (sym (files-step (edited_with g bytes cells s l) (moved_header h n) new specs (length fs) q one.file one.behind one.entry))
+          (mentions-both g (edited_with g bytes cells s l) m (entry_texts g h old specs (record { text = None; dir = None; next = p }))
+          (entry_texts (edited_with g bytes cells s l) (moved_header h n) new specs (record { text = None; dir = None; next = q })) (entries_texts g h old specs (length fs) are.0.next)
+          (entries_texts (edited_with g bytes cells s l) (moved_header h n) new specs (length fs) one.behind) one.mentions more.mentions));
       further = further-more g (edited_with g bytes cells s l) h (moved_header h n) old new specs (length fs) p q (f, are.0.next) (one.file, one.behind) are.0.entry one.entry one.further more.further;
     }
 
@@ -414,6 +426,7 @@ pub record ListMoved (g k : LineSource) (m : PathMap) (h : LineHeader) (n : Line
   pub rest : Rest old new end cs e behind
   pub cells : CellRest g.cells k.cells end us tail e behind
   pub clear : ListClear k (moved_header h n) new q
+  pub mentions : MentionsMoved g k m (list_texts g h old p) (list_texts k (moved_header h n) new q)
   pub further : listed_columns k (moved_header h n) new q ≡ listed_columns g h old p
 
 -- the texts of a list that was read
@@ -504,6 +517,11 @@ list-moved g m bytes cells s l old new h n places end cs us tail p q e fs w side
             (subst (λ (y : List Spec × ℕ). EntriesClear (edited_with g bytes cells s l) (moved_header h n) new y.0 x.count.0 (y.1 + x.count.1)) format_same
             (subst (λ (i : ℕ). EntriesClear (edited_with g bytes cells s l) (moved_header h n) new x.format.0 i (q + (x.format.1 - p) + x.count.1)) number r.clear));
       };
+      mentions = subst (λ (xs : List LineText). MentionsMoved g (edited_with g bytes cells s l) m xs (list_texts (edited_with g bytes cells s l) (moved_header h n) new q)) (sym texts)
+          (subst (λ (ys : List LineText). MentionsMoved g (edited_with g bytes cells s l) m (entries_texts g h old x.format.0 (length fs) (x.format.1 + x.count.1)) ys)
+          (sym (ap (λ (o : Option (List Spec × ℕ)). texts_formed (edited_with g bytes cells s l) (moved_header h n) new o) format_new
+          ∙ ap (λ (o : Option (ℕ × ℕ)). texts_counted (edited_with g bytes cells s l) (moved_header h n) new x.format.0 (q + (x.format.1 - p)) o) count_new
+          ∙ ap (λ (i : ℕ). entries_texts (edited_with g bytes cells s l) (moved_header h n) new x.format.0 i (q + (x.format.1 - p) + x.count.1)) (sym x.number))) r.mentions);
       further = list-columns (edited_with g bytes cells s l) (moved_header h n) new q (x.format.0, q + (x.format.1 - p)) x.count format_new count_new
           ∙ ap (λ (i : ℕ). entries_columns (edited_with g bytes cells s l) (moved_header h n) new x.format.0 i (q + (x.format.1 - p) + x.count.1)) (sym x.number) ∙ r.further
           ∙ ap (λ (i : ℕ). entries_columns g h old x.format.0 i (x.format.1 + x.count.1)) x.number

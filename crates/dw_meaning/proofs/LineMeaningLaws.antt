@@ -47,6 +47,7 @@ use Rattle.dw_meaning.proofs.LineProgramLaws.{Same, Counts, KeptFiles, program-m
 use Rattle.dw_meaning.proofs.LineReadLaws.{Both, both-behind, first-stand}
 use Rattle.dw_meaning.proofs.LineTableLaws.{places_of, HeaderPlaces, header-places, header-moved}
 use Rattle.dw_meaning.proofs.LineWalkLaws.{dirs-of, dirs-walk, files-of, files-walk, opcodes-of, opcodes-walk}
+use Rattle.dw_meaning.proofs.TextMentionLaws.{MentionsMoved, mentions-both, own-lists, own-texts}
 
 -- before version 5 the texts are the paths, and their changes those of paths
 paths-changes : (g : LineSource) (m : PathMap) (places : LineText → Option ℕ) (w : Width) (xs : List TextPlace) → texts_changes g m places w (as_paths xs) ≡ all_changes g m (on_paths places) w xs
@@ -122,6 +123,7 @@ pub record ListsMoved (g k : LineSource) (m : PathMap) (h : LineHeader) (n : Lin
   pub rest : Rest old new h.program [] behind new_behind
   pub cells : CellRest g.cells k.cells h.program [] tail behind new_behind
   pub clear : ListsClear k (moved_header h n) new new_behind
+  pub mentions : MentionsMoved g k m (texts_by g h old (dirs ++ texts_of files)) (texts_by k (moved_header h n) new (new_dirs ++ texts_of new_files))
   pub dir_columns_same : (if h.version == 5 then listed_columns k (moved_header h n) new n.lists else []) ≡ (if h.version == 5 then listed_columns g h old h.lists else [])
   pub file_columns_same : (if h.version == 5 then listed_columns k (moved_header h n) new (list_end k (moved_header h n) new n.lists) else map (old_columns new) new_files)
       ≡ (if h.version == 5 then listed_columns g h old (list_end g h old h.lists) else map (old_columns old) files)
@@ -177,6 +179,11 @@ lists-moved g m bytes cells s l old new h n places tail dirs files behind w side
         dirs = λ five. absurd (other five);
         files = λ five. absurd (other five);
       };
+      mentions = subst (λ (xs : List LineText). MentionsMoved g (edited_with g bytes cells s l) m xs (texts_by (edited_with g bytes cells s l) (moved_header h n) new (d1.texts ++ texts_of f1.files))) (sym texts)
+          (subst (λ (ys : List LineText). MentionsMoved g (edited_with g bytes cells s l) m (as_paths (dirs ++ texts_of files)) ys)
+          (sym (old-texts (edited_with g bytes cells s l) (moved_header h n) new (d1.texts ++ texts_of f1.files) other))
+          (own-texts g m bytes cells s l (dirs ++ texts_of files) (d1.texts ++ texts_of f1.files) (own-lists g.number old h.lists place behind dirs files d0 f0)
+          (own-lists g.number new n.lists d1.behind f1.behind d1.texts f1.files d1.are f1.are)));
       dir_columns_same = by_no (h.version == 5) _ _ _ _ (ne_eqb h.version 5 other) refl;
       file_columns_same = by_no (h.version == 5) _ _ _ _ (ne_eqb h.version 5 other) f1.further;
     }
@@ -215,6 +222,11 @@ lists-moved g m bytes cells s l old new h n places tail dirs files behind w side
         dirs = λ is. d1.clear;
         files = λ is. subst (ListClear (edited_with g bytes cells s l) (moved_header h n) new) (sym end_new) f1.clear;
       };
+      mentions = subst (λ (xs : List LineText). MentionsMoved g (edited_with g bytes cells s l) m xs (texts_by (edited_with g bytes cells s l) (moved_header h n) new (texts_of d1.files ++ texts_of f1.files))) (sym texts)
+          (subst (λ (ys : List LineText). MentionsMoved g (edited_with g bytes cells s l) m (list_texts g h old h.lists ++ list_texts g h old place) ys)
+          (sym (new-texts (edited_with g bytes cells s l) (moved_header h n) new (texts_of d1.files ++ texts_of f1.files) d1.behind five end_new))
+          (mentions-both g (edited_with g bytes cells s l) m (list_texts g h old h.lists) (list_texts (edited_with g bytes cells s l) (moved_header h n) new n.lists) (list_texts g h old place)
+          (list_texts (edited_with g bytes cells s l) (moved_header h n) new d1.behind) d1.mentions f1.mentions));
       dir_columns_same = by_five (h.version == 5) d1.further;
       file_columns_same = by_yes (h.version == 5) _ _ _ _ (eq-eqb h.version 5 five) (ap (listed_columns (edited_with g bytes cells s l) (moved_header h n) new) end_new ∙ f1.further ∙ ap (listed_columns g h old) (sym end_old));
     }
@@ -358,6 +370,7 @@ pub record TableMoved (g k : LineSource) (m : PathMap) (start size : ℕ) (r : L
   pub begins : reading.header.start ≡ start
   pub ends : reading.header.end ≡ start + size
   pub says : line_meaning k reading ≡ mapped_line m (line_meaning g r)
+  pub mentions : MentionsMoved g k m (table_read g r).texts (table_read k reading).texts
   pub over : NoneOver g.cells r.header.end → NoneOver k.cells (start + size)
   pub clear : TableClear k reading
   pub tail : TailStays g k r reading
@@ -567,6 +580,7 @@ table-moved g m places bytes cells more s l begin start r w reads fits moves sta
               (program_rows (line_params g.order r.header) (part (take r.header.end g.bytes) r.header.operands r.header.lists) cs)) ce.program_is
               ∙ rows-mapped m r.header.version (dir_texts g r.dirs) (file_texts g r.files ++ file_texts g r.defined)
               (program_rows (line_params g.order r.header) (part (take r.header.end g.bytes) r.header.operands r.header.lists) (drop r.header.program (take r.header.end g.cells))) none);
+          mentions = lm.mentions;
           over = ce.over;
           clear = record {
             front = clear-join cells start (first_place r.header.version (start + length_size r.header.width) r.header.width)

@@ -43,6 +43,7 @@ use Rattle.dw_meaning.proofs.LineChangeLaws.{From, Rest, copied, exchanged, Text
 use Rattle.dw_meaning.proofs.LineColumnLaws.{edited_with, Grows, SourceMoves, OffsetMoves, TakesPlace, TextMoves, moved_text, texts_in, new_texts_in, section-not, offset-says, offset-text, new-offset-text, inline-placed, offset_form, ColumnIs, inline_is, offset_is, value_is}
 use Rattle.dw_meaning.proofs.LineReadLaws.{Both, text-both, inline-here}
 use Rattle.dw_meaning.proofs.LineValueLaws.{column-plain, value-both, value-in}
+use Rattle.dw_meaning.proofs.TextMentionLaws.{MentionsMoved, own-moved, offset-mentions}
 
 -- where the parts of a table lie
 pub record LinePlaces : Type 0 where
@@ -184,6 +185,7 @@ pub record ColumnMoved (g k : LineSource) (m : PathMap) (h : LineHeader) (old ne
   pub place : TextPlace
   pub text : column.text ≡ Some place
   pub says : place_text k place ≡ moved_text m x.path (place_text g x.place)
+  pub mentions : MentionsMoved g k m (x ∷ []) (record { place = place; path = x.path } ∷ [])
   pub rest : Rest old new end cs c.next column.next
   pub cells : CellRest g.cells k.cells end us tail c.next column.next
   pub clear : Clear k.cells (clear_from spec q) column.next
@@ -313,6 +315,7 @@ inline-moved g m bytes cells s l old new h n places end cs us tail spec p q w si
       place = record { section = g.number; at = q; len = length (text_in new q); field = q };
       text = refl;
       says = inline-placed (edited_with g bytes cells s l) new q sides.is r.ends ∙ r.says ∙ ap (mapped_path m) (sym (inline-placed g old p sides.was ends));
+      mentions = own-moved g m bytes cells s l (own_text g old p true) (own_text g new q true) refl refl;
       rest = subst (λ (u : List ℕ). Rest old new end cs (p + length (text_in old p) + 1) (q + length u + 1)) (sym r.says) r.rest;
       cells = subst (λ (u : List ℕ). CellRest g.cells cells end us tail (p + length (text_in old p) + 1) (q + length u + 1)) (sym r.says) d.rest;
       clear = subst (λ (i : ℕ). Clear cells i (q + length (text_in new q) + 1)) (sym (clear-inline spec q form))
@@ -343,6 +346,7 @@ inline-copied g m bytes cells s l old new h n end cs us tail spec p q w sides fo
       place = record { section = g.number; at = q; len = length (text_in new q); field = q };
       text = refl;
       says = inline-placed (edited_with g bytes cells s l) new q sides.is there.0 ∙ there.1 ∙ sym (inline-placed g old p sides.was ends);
+      mentions = own-moved g m bytes cells s l (own_text g old p false) (own_text g new q false) refl refl;
       rest = subst (λ (i : ℕ). Rest old new end cs (p + length (text_in old p) + 1) i) next k.rest;
       cells = subst (λ (i : ℕ). CellRest g.cells cells end us tail (p + length (text_in old p) + 1) i) next d.rest;
       clear = subst (λ (i : ℕ). Clear cells i (q + length (text_in new q) + 1)) (sym (clear-inline spec q form))
@@ -390,6 +394,7 @@ offset-moved g m bytes cells s l old new h n end cs us tail spec z i p q path No
       place = record { section = (texts_in g z).number; at = i; len = length (text_in (new_texts_in g s l z).bytes i); field = q };
       text = refl;
       says = new-offset-text g m bytes cells s l z i i q w ends moves.0 ∙ moves.1 ∙ ap (moved_text m path) (sym (offset-text g m s l z i p w ends));
+      mentions = offset-mentions g m bytes cells s l z i p i (length (text_in (new_texts_in g s l z).bytes i)) q path w ends moves.1;
       rest = subst (λ (j : ℕ). Rest old new end cs (p + width_size h.width) j) next k.rest;
       cells = subst (λ (j : ℕ). CellRest g.cells cells end us tail (p + width_size h.width) j) next d.rest;
       clear = subst (λ (j : ℕ). Clear cells j (q + width_size h.width)) (sym (clear-offset spec z q form)) (subst (Clear cells (suc q)) next tail_clear);
@@ -432,6 +437,7 @@ offset-moved g m bytes cells s l old new h n end cs us tail spec z i p q path (S
       says =
           new-offset-text g m bytes cells s l z i to q w ends moves.1 ∙ moves.2
           ∙ ap (moved_text m path) (sym (offset-text g m s l z i p w ends));
+      mentions = offset-mentions g m bytes cells s l z i p to (length (text_in (new_texts_in g s l z).bytes to)) q path w ends moves.2;
       rest = subst (λ (j : ℕ). Rest old new end cs (p + j) (q + width_size h.width)) old_size (subst (λ (j : ℕ). Rest old new end cs (p + length (bytes_at g.bytes p (width_size h.width))) (q + j)) long x.rest);
       cells = subst (λ (j : ℕ). CellRest g.cells cells end us tail (p + j) (q + width_size h.width)) own_size
           (subst (λ (j : ℕ). CellRest g.cells cells end us tail (p + length (cells_at g.cells p (width_size h.width))) (q + j)) put_size d.rest);

@@ -20,7 +20,9 @@ use Rattle.dw_base.specs.declared.shared.Width.TheVariants.{W32, W64}
 use Rattle.dw_base.proofs.ContributionBackLaws.{StandsAt}
 use Rattle.dw_base.proofs.UnitEditLaws.{length-bytes_of}
 use Rattle.dw_base.specs.declared.debug_sections.DebugSection.TheVariants.{Str, LineStr}
+use Rattle.dw_base.specs.declared.texts.TextSection.{TextSection}
 use Rattle.dw_base.specs.declared.texts.TextSection.TheVariants.{InStr, InLineStr}
+use Rattle.dw_meaning.specs.RebuiltTables.{all_after}
 use Rattle.dw_meaning.specs.TextLineCells.{all_cells_by_texts, table_cells_by_texts}
 use Rattle.dw_meaning.proofs.CellLaidLaws.{stand-behind}
 use Rattle.dw_meaning.proofs.ClearLaws.{NoneOver, over-start}
@@ -34,6 +36,7 @@ use Rattle.dw_meaning.proofs.LineLaidLaws.{stands-first, stands-next, length-byt
 use Rattle.dw_meaning.proofs.LineMeaningLaws.{TailStays, table-moved}
 use Rattle.dw_meaning.proofs.LinePathLaws.{AllTake, BothMove, texts-move}
 use Rattle.dw_meaning.proofs.LineStartLaws.{EachSome}
+use Rattle.dw_meaning.proofs.MentionLaws.{after-append}
 use Rattle.dw_meaning.proofs.TextEditLaws.{TextsAre, behind_piece}
 
 -- each table can be written
@@ -82,6 +85,7 @@ pub record LinesMoved (g k : LineSource) (m : PathMap) (q e : ℕ) (ts : List (L
   pub are : TablesTo k q readings e
   pub starts : table_starts readings ≡ starts_from q ts
   pub says : line_meanings k readings ≡ mapped_lines m (line_meanings g rs)
+  pub mentions : (table : TextSection) → all_texts_mentions k table readings ≡ all_after m (all_texts_mentions g table rs)
   pub some : EachSome ts
   pub count : length ts ≡ length (table_starts rs)
   pub clear : EachClear k readings
@@ -96,7 +100,7 @@ pub lines-moved : (c : TableChanges) (g : LineSource) (bytes : List ℕ) (cells 
     → LinesMoved g (edited_with g bytes cells (new_table (c.new Str).plan (c.new Str).texts) (new_table (c.new LineStr).plan (c.new LineStr).texts)) c.map q
     (q + length (all_lines (tables_by_texts c.map (c.new Str) (c.new LineStr) g rs))) (tables_by_texts c.map (c.new Str) (c.new LineStr) g rs) rs
 lines-moved c g bytes cells more_cells ts us ms ns p e q [] w both reads can all st own there over clear takes =
-    record { readings = []; are = omega arith; starts = refl; says = refl; some = tt; count = refl; clear = tt; tails = tt }
+    record { readings = []; are = omega arith; starts = refl; says = refl; mentions = λ table. refl; some = tt; count = refl; clear = tt; tails = tt }
 lines-moved c g bytes cells more_cells ts us ms ns p e q (r ∷ rs) w both reads can all st own there over clear takes =
     let s : List ℕ = new_table (c.new Str).plan (c.new Str).texts in
     let l : List ℕ = new_table (c.new LineStr).plan (c.new LineStr).texts in
@@ -136,6 +140,10 @@ lines-moved c g bytes cells more_cells ts us ms ns p e q (r ∷ rs) w both reads
       );
       starts = ap (λ (i : ℕ). i ∷ table_starts more.readings) one.begins ∙ ap (λ (is_ : List ℕ). q ∷ is_) more.starts;
       says = ap (λ (x : LineMeaning). x ∷ line_meanings k more.readings) one.says ∙ ap (λ (ys : List LineMeaning). mapped_line c.map (line_meaning g r) ∷ ys) more.says;
+      mentions = λ table.
+          ap (λ (ys : List Mention). ys ++ all_texts_mentions k table more.readings) (one.mentions.are table)
+          ∙ ap (λ (ys : List Mention). all_after c.map (texts_mentions g table (table_read g r).texts) ++ ys) (more.mentions table)
+          ∙ sym (after-append c.map (texts_mentions g table (table_read g r).texts) (all_texts_mentions g table rs));
       some = (written-some g c.map c r, more.some);
       count = ap suc more.count;
       clear = (one.clear, more.clear);
@@ -181,7 +189,7 @@ pub section-moved : (c : TableChanges) (g : LineSource) (ts us : List (List ℕ)
     (new_table (c.new Str).plan (c.new Str).texts) (new_table (c.new LineStr).plan (c.new LineStr).texts)) c.map 0 (length (all_lines (tables_by_texts c.map (c.new Str) (c.new LineStr) g rs)))
     (tables_by_texts c.map (c.new Str) (c.new LineStr) g rs) rs
 section-moved c g ts us ms ns [] read own clear takes both apart tables reads can all =
-    record { readings = []; are = refl; starts = refl; says = refl; some = tt; count = refl; clear = tt; tails = tt }
+    record { readings = []; are = refl; starts = refl; says = refl; mentions = λ table. refl; some = tt; count = refl; clear = tt; tails = tt }
 section-moved c g ts us ms ns (r ∷ rs) read own clear takes both apart tables reads can all =
     subst (λ (e : ℕ). LinesMoved g (edited_with g (all_lines (tables_by_texts c.map (c.new Str) (c.new LineStr) g (r ∷ rs))) (all_cells_by_texts g c.map (text_place c.map (c.new Str) (c.new LineStr) g) (r ∷ rs))
     (new_table (c.new Str).plan (c.new Str).texts) (new_table (c.new LineStr).plan (c.new LineStr).texts)) c.map 0 e (tables_by_texts c.map (c.new Str) (c.new LineStr) g (r ∷ rs)) (r ∷ rs))

@@ -12,7 +12,7 @@ use Rattle.dw_base.specs.SectionTexts.{mentions_with, edited_with}
 use Rattle.dw_base.specs.Paths.{PathMap, IsPathMap, mapped_path}
 use Rattle.dw_base.specs.Pieces.{Piece, Chain, EachPiece}
 use Rattle.dw_base.specs.Roles.{Role, fixed, offset, inline_path, line_start, is_line_start, role_of_kind, role_of_mode, role_of, is_path_use, use_of}
-use Rattle.dw_base.specs.StringTables.{Mention, Plan, new_text, appending, with_mention, texts_after, place_in, new_table, new_place}
+use Rattle.dw_base.specs.StringTables.{Mention, Plan, new_text, appending, rebuilding, with_mention, texts_after, place_in, new_table, new_place}
 use Rattle.dw_base.specs.NewOffsets.{with_offset}
 use Rattle.dw_base.specs.TextChanges.{mention_at, mentions_by, mentions_of, TableChange, TableChanges, change_of, moved_field, moved_start, edited_by, edited_all, NamesTextBy, NamesText, InlineFitsBy, InlineFits}
 use Rattle.dw_base.specs.Texts.{text, has_nul, text_in, ends_in, is_in, same_text, laid_texts}
@@ -64,6 +64,10 @@ appending-text m true t e = same_text-true (mapped_path m t) t (not_false (same_
 
 pub appending-keeps : (m : PathMap) (table : List ℕ) → KeepsTexts (appending m table) m table
 appending-keeps m table = record { text = λ x e. appending-text m x.path x.text e; kept = λ x e. refl }
+
+-- where a table is built anew, each mention asks for a place
+pub rebuilding-keeps : (m : PathMap) (table : List ℕ) → KeepsTexts rebuilding m table
+rebuilding-keeps m table = record { text = λ x e. cc; kept = λ x e. cc }
 
 -- the new text of a mention has no NUL
 pub has_nul-new_text : (m : PathMap) (path : Bool) (t : List ℕ) → IsPathMap m → has_nul t ≡ false → has_nul (new_text m (record { path = path; text = t })) ≡ false
