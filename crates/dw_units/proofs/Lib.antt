@@ -1,0 +1,6 @@
+pub mod UnitTableLaws
+pub mod PlacedLaws
+pub mod KnownLaws
+pub mod HeaderListLaws
+pub mod ListedLaws
+pub mod ExcludeLaws

@@ -1,0 +1,4 @@
+pub mod LentTables
+pub mod PlacedTables
+pub mod UnitLists
+pub mod SectionHeaders
