@@ -1,2 +1,4 @@
 pub mod Rules
+pub mod PlacedLaws
 pub mod PoolLaws
+pub mod LentPoolLaws

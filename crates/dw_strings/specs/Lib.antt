@@ -1,2 +1,3 @@
 pub use Rattle.dw_base.specs.StringTables
 pub mod Pool
+pub mod LentPool

@@ -14,10 +14,12 @@
 //! ```
 #![tactic(auto)]
 
+mod lent_pool;
 mod pool;
 mod pools;
 mod text;
 
+pub use lent_pool::LentPool;
 pub use pool::Pool;
 pub use pools::Pools;
 pub use text::text_at;
