@@ -1,6 +1,7 @@
 -- Laws of forms whose values take as many bytes everywhere.
 use Rattle.std.proofs.Common.{◌≡◌, ℕ, ℤ, zero, suc, ◌+◌, ◌*◌, ◌^◌, ◌<◌, ◌≤◌, ◌==◌, Bool, true, false, if◌then◌else◌, nat_le, List, [], ◌∷◌, ◌++◌, length, take, drop, get_or, Option, Some, None, IfSome, IsTrue, refl, sym, ap, ◌∙◌, arith, subst}
 use Rattle.std.proofs.Math.Nat.{add-mul}
+use Rattle.std.proofs.Math.Seq.{drop-cons}
 use Rattle.std.proofs.lemmas.List.{take_more, take-append-drop}
 use Rattle.dw_base.specs.Forms.{ValueKind, number_of, leb_number, signed_leb, block_of, counted, counted_leb, inline_text, text_offset, present, in_abbreviation, form_in_front, supplementary, unlisted, kind_in, reference_size, width_size}
 use Rattle.dw_base.specs.Values.{block_value, offset_class, signed_bits, value_of, value_size}
@@ -234,8 +235,49 @@ size-none xs i d a s m lt = record {
       (rest-large (values_size params (take (i + 1) xs)) (values_size params (drop (i + 1) xs)) front));
 }
 
+-- the size of attributes from one on, by that of those behind it
+added-turned : (a b : Option ℕ) → added a b ≡ added b a
+added-turned None None = refl
+added-turned None (Some n) = refl
+added-turned (Some m) None = refl
+added-turned (Some m) (Some n) = ap Some (omega arith)
+
+values_size-front : (params : Params) (xs : List Spec) (i : ℕ) (d : Spec) → i < length xs
+    → values_size params (drop i xs) ≡ added (values_size params (drop (i + 1) xs)) (fixed_size (kind_in params (get_or xs i d).form))
+values_size-front params xs i d lt =
+    let next : suc i ≡ i + 1 = omega arith in
+    ap (values_size params) (drop-cons xs i d lt ∙ ap (λ (m : ℕ). get_or xs i d ∷ drop m xs) next)
+    ∙ added-turned (fixed_size (kind_in params (get_or xs i d).form)) (values_size params (drop (i + 1) xs))
+
+pub size-front : (xs : List Spec) (i : ℕ) (x : Spec) (a b : FixedSize) → IsSizeOf (drop (i + 1) xs) a → x ≡ get_or xs i x → Adds a x.form b → i < length xs → IsSizeOf (drop i xs) b
+size-front xs i x a b s is m lt = record {
+  in_unit = λ params.
+      values_size-front params xs i x lt
+      ∙ ap (λ (o : Option ℕ). added o (fixed_size (kind_in params (get_or xs i x).form))) (s.in_unit params)
+      ∙ ap (λ (y : Spec). added (Some (bytes_in params a)) (fixed_size (kind_in params y.form))) (sym is) ∙ m.in_unit params;
+}
+
+pub size-front-none : (xs : List Spec) (i : ℕ) (x : Spec) (a : FixedSize) → IsSizeOf (drop (i + 1) xs) a → x ≡ get_or xs i x → AddsNone a x.form → i < length xs → HasNoSize (drop i xs)
+size-front-none xs i x a s is m lt = record {
+  in_unit = λ params address.
+      subst (λ (o : Option ℕ). IfSome o (λ n. 2 ^ 32 ≤ n))
+      (sym (values_size-front params xs i x lt
+      ∙ ap (λ (o : Option ℕ). added o (fixed_size (kind_in params (get_or xs i x).form))) (s.in_unit params)
+      ∙ ap (λ (y : Spec). added (Some (bytes_in params a)) (fixed_size (kind_in params y.form))) (sym is))) (m.in_unit params address);
+}
+
+pub none-front : (xs : List Spec) (i : ℕ) → HasNoSize (drop (i + 1) xs) → i < length xs → HasNoSize (drop i xs)
+none-front [] i h lt = absurd (omega (arith, lt))
+none-front (x ∷ xs) i h lt = record {
+  in_unit = λ params address.
+      subst (λ (o : Option ℕ). IfSome o (λ n. 2 ^ 32 ≤ n)) (sym (values_size-front params (x ∷ xs) i x lt))
+      (rest-large (values_size params (drop (i + 1) (x ∷ xs))) (fixed_size (kind_in params (get_or (x ∷ xs) i x).form)) (h.in_unit params address));
+}
+
 pub ruleset fixed_laws = (form-fixed, form-size, form-none)
 
 pub ruleset form_laws = (form-adds, form-adds-none, form-large)
 
 pub ruleset list_laws = (size-starts, size-more, size-none)
+
+pub ruleset before_laws = (size-front, size-front-none, none-front)

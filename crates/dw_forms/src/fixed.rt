@@ -4,7 +4,7 @@
 //! This file promises: a size that was found of attributes is that of their values in every unit, whatever
 //! its width, version and address size.
 
-ghost use Rattle.std.specs.Prelude.{◌≡◌, ◌+◌, ◌*◌, ◌^◌, ◌<◌, ◌≤◌, IfNone, IfSome, IsTrue};
+ghost use Rattle.std.specs.Prelude.{◌≡◌, ◌+◌, ◌*◌, ◌^◌, ◌<◌, ◌≤◌, drop, length, IfNone, IfSome, IsTrue};
 ghost use Rattle.dw_base.specs.Forms.{kind_in};
 ghost use Rattle.dw_base.specs.UnitHeaders.{is_address_size};
 ghost use Rattle.dw_forms.specs.Fixed.{Adds, AddsNone, bytes_in, field_parts, fixed_parts, fixed_size, HasNoSize, IsFixedSize, IsSizeOf};
@@ -120,6 +120,21 @@ impl FixedSize {
             size = with_form(size, spec.form)?;
         }
         Some(size)
+    }
+
+    /// How many bytes the values of attributes from one on take together, by how many those behind it take.
+    #[tactic(auto, using(crate::proofs::FixedLaws::before_laws))]
+    pub fn before(specs: &[Spec], at: usize, behind: Option<FixedSize>) -> Option<FixedSize>
+        requires inside { at < length specs.now }
+        requires size { IfSome behind (IsSizeOf (drop (at + 1) specs.now)) }
+        requires none { IfNone behind (HasNoSize (drop (at + 1) specs.now)) }
+        ensures size { IfSome result (IsSizeOf (drop at specs.now)) }
+        ensures none { IfNone result (HasNoSize (drop at specs.now)) }
+    {
+        match behind {
+            Some(size) => with_form(size, specs[at].form),
+            None => None,
+        }
     }
 
     /// How many bytes that are in a unit of these parameters.
