@@ -1,16 +1,14 @@
 -- Laws of tables that are put together of some abbreviations and the rest of another table.
-use Rattle.std.proofs.Common.{Bool, true, false, ◌≡◌, ℕ, zero, suc, ◌+◌, ◌-◌, ◌<◌, ◌≤◌, ◌==◌, not, cond, if◌then◌else◌, nat_lt, List, [], ◌∷◌, ◌++◌, take, drop, get_or, length, slice_get, is_some, Option, Some, None, refl, sym, ap, ◌∙◌, subst, arith, append-nil, append_assoc, take-suc}
+use Rattle.std.proofs.Common.{Bool, true, false, ◌≡◌, ℕ, zero, suc, ◌+◌, ◌-◌, ◌<◌, ◌≤◌, ◌==◌, not, cond, if◌then◌else◌, nat_lt, List, [], ◌∷◌, ◌++◌, take, drop, get_or, length, is_some, Option, Some, None, refl, sym, ap, ◌∙◌, subst, arith, append-nil, append_assoc, take-suc}
 use Rattle.std.proofs.lemmas.Bool.{ltb-false}
 use Rattle.std.proofs.lemmas.Bool.Decides.{nat_tests}
 use Rattle.std.proofs.lemmas.List.{get_or_append_left, length-append, take_all}
 use Rattle.std.proofs.Math.Seq.{get_or-append_right}
-use Rattle.std.proofs.lemmas.Option.{slice_get-get_or, slice_get_within}
-use Rattle.dw_base.specs.AbbreviationTables.{Abbreviation, abbreviation_of, Declares, IsTable, SpellsAbbreviation}
+use Rattle.dw_base.specs.AbbreviationTables.{Abbreviation, abbreviation_of, Declares, IsTable}
 use Rattle.dw_base.specs.AbbreviationTables.Declares.{no_abbreviations, more_abbreviations}
 use Rattle.dw_abbrev.specs.Coded.{index_of_code}
 use Rattle.dw_abbrev.specs.Fronts.{GoesOn}
-use Rattle.dw_abbrev.specs.Rests.{AreApart, Opened, or_empty}
-use Rattle.dw_abbrev.specs.declared.opened.RestPlace.{RestPlace}
+use Rattle.dw_abbrev.specs.Rests.{AreApart, AreTails}
 use Rattle.dw_abbrev.proofs.CodedLaws.{get-none, index-from, index-within, none-cases, or_len, or_len-from}
 
 -- what stands at a place of two lists
@@ -24,13 +22,6 @@ pub second-inside : (xs ys : List Abbreviation) (i : ℕ) → length xs ≤ i �
 second-inside xs ys i le lt = let all : length (xs ++ ys) ≡ length xs + length ys = length-append xs ys in omega (arith, le, lt, all)
 
 pub ruleset at_rules = (at-first, at-second, second-inside)
-
--- nothing stands in no rest
-pub never-there : (i : ℕ) (o : Option (List Abbreviation)) → o ≡ None → i < length (or_empty o) → ⊥
-never-there i None e lt = omega (arith, lt)
-never-there i (Some l) e lt = cc
-
-pub ruleset rest_at_rules = (never-there)
 
 -- a code is found in the first of two lists that has it
 or_len-past : (xs : List Abbreviation) (code : ℕ) → or_len xs code ≤ length xs
@@ -174,33 +165,53 @@ declares-joined bytes at place last xs all d (more_abbreviations zs a there next
     (more_abbreviations (xs ++ zs) a there next (declares-joined bytes at place there xs zs d e (apart-front xs zs a apart)) spelled
     (none-both xs zs a.code (apart-last xs zs a apart) fresh))
 
-pub table-joined : (bytes : List ℕ) (opened : List Opened) (at : ℕ) (front : List Abbreviation) (rest : RestPlace) (one : Opened) → GoesOn bytes opened at front rest
-    → rest.table < length opened → one ≡ get_or opened rest.table one → AreApart front (drop rest.from one.table) → IsTable bytes at (front ++ drop rest.from one.table)
-table-joined bytes opened at front rest one g lt is apart =
-    let same : g.behind.one ≡ one = once g.behind.one one (sym g.behind.there ∙ slice_get-get_or opened rest.table one lt ∙ ap (λ (o : Opened). Some o) (sym is)) in
-    let behind : IsTable bytes g.last (drop rest.from one.table) = subst (λ (o : Opened). IsTable bytes g.last (drop rest.from o.table)) same g.behind.table in
-    record { last = behind.last; size = behind.size; declares = declares-joined bytes at g.last behind.last front (drop rest.from one.table) g.declares behind.declares apart; ends = behind.ends }
-  where
-    once : (x y : Opened) → Some x ≡ Some y → x ≡ y
-    once x y e = cc
+apart-drop : (i : ℕ) (xs others : List Abbreviation) → AreApart xs others → AreApart (drop i xs) others
+apart-drop zero xs others all = all
+apart-drop (suc i) [] others all = tt
+apart-drop (suc i) (x ∷ xs) others all = apart-drop i xs others all.1
 
-pub rest-there : (bytes : List ℕ) (opened : List Opened) (at : ℕ) (front : List Abbreviation) (rest : RestPlace) → GoesOn bytes opened at front rest
-    → rest.table < length opened
-rest-there bytes opened at front rest g = slice_get_within opened rest.table g.behind.one g.behind.there
+pub apart-same : (xs ys others : List Abbreviation) → AreApart xs others → xs ≡ ys → AreApart ys others
+apart-same xs ys others all same = subst (λ (l : List Abbreviation). AreApart l others) same all
 
-pub rest-inside : (bytes : List ℕ) (opened : List Opened) (at : ℕ) (front : List Abbreviation) (rest : RestPlace) (one : Opened) → GoesOn bytes opened at front rest
-    → rest.table < length opened → one ≡ get_or opened rest.table one → rest.from ≤ length one.table
-rest-inside bytes opened at front rest one g lt is =
-    let same : g.behind.one ≡ one = once g.behind.one one (sym g.behind.there ∙ slice_get-get_or opened rest.table one lt ∙ ap (λ (o : Opened). Some o) (sym is)) in
-    subst (λ (o : Opened). rest.from ≤ length o.table) same g.behind.inside
-  where
-    once : (x y : Opened) → Some x ≡ Some y → x ≡ y
-    once x y e = cc
+-- a table that goes on as another, from its start and from each of its own abbreviations on
+pub goes-table : (bytes : List ℕ) (at : ℕ) (places : List ℕ) (own behind : List Abbreviation) → GoesOn bytes at places own behind → AreApart own behind
+    → IsTable bytes at (own ++ behind)
+goes-table bytes at places own behind g apart = record {
+  last = g.table.last;
+  size = g.table.size;
+  declares = declares-joined bytes at g.last g.table.last own behind g.declares g.table.declares apart;
+  ends = g.table.ends;
+}
 
-pub ruleset rest_rules = (rest-there, rest-inside, table-joined)
+pub goes-tails : (bytes : List ℕ) (at : ℕ) (places : List ℕ) (own behind : List Abbreviation) → GoesOn bytes at places own behind → AreApart own behind
+    → AreTails bytes places own behind
+goes-tails bytes at places own behind g apart = record {
+  as_many = g.rests.as_many;
+  each = λ i o e. record {
+    last = g.table.last;
+    size = g.table.size;
+    declares = declares-joined bytes o g.last g.table.last (drop i own) behind (g.rests.each i o e) g.table.declares (apart-drop i own behind apart);
+    ends = g.table.ends;
+  };
+}
 
-pub same-joined : (bytes : List ℕ) (at : ℕ) (own rest old new : List Abbreviation) → (AreApart own old → IsTable bytes at (own ++ old)) → AreApart own old → rest ≡ old
-    → new ≡ own ++ rest → IsTable bytes at new
-same-joined bytes at own rest old new made apart same is = subst (IsTable bytes at) (sym (is ∙ ap (λ (l : List Abbreviation). own ++ l) same)) (made apart)
+pub joined-table : (bytes : List ℕ) (at : ℕ) (own behind new : List Abbreviation) → IsTable bytes at (own ++ behind) → new ≡ own ++ behind → IsTable bytes at new
+joined-table bytes at own behind new t is = subst (IsTable bytes at) (sym is) t
 
-pub ruleset joined_rules = (same-joined)
+-- all of it stands behind nothing of its own
+pub opened-table : (bytes : List ℕ) (at : ℕ) (own value behind none all new : List Abbreviation) → IsTable bytes at (own ++ behind) → value ≡ own → none ≡ []
+    → all ≡ drop 0 value ++ behind → new ≡ none ++ all → IsTable bytes at new
+opened-table bytes at own value behind none all new t same empty more is =
+    subst (IsTable bytes at) (sym (is ∙ ap (λ (l : List Abbreviation). l ++ all) empty ∙ more ∙ ap (λ (l : List Abbreviation). l ++ behind) same)) t
+
+pub opened-parts : (bytes places : List ℕ) (own value behind : List Abbreviation) → AreTails bytes places own behind → value ≡ own → AreTails bytes places value behind
+opened-parts bytes places own value behind t same = subst (λ (l : List Abbreviation). AreTails bytes places l behind) (sym same) t
+
+pub ruleset opened_rules = (opened-table, opened-parts)
+
+-- nothing stands behind it
+pub alone-table : (bytes : List ℕ) (at : ℕ) (own none new : List Abbreviation) → IsTable bytes at own → none ≡ [] → new ≡ own ++ none → IsTable bytes at new
+alone-table bytes at own none new t empty is =
+    subst (IsTable bytes at) (sym (is ∙ ap (λ (l : List Abbreviation). own ++ l) empty ∙ append-nil own)) t
+
+pub ruleset table_rules = (alone-table)

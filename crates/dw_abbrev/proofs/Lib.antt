@@ -4,3 +4,6 @@ pub mod JoinLaws
 pub mod KeptLaws
 pub mod QuietSpecLaws
 pub mod RestLaws
+pub mod RestsLaws
+pub mod SpotLaws
+pub mod TailLaws

@@ -1,6 +1,5 @@
 -- Laws of the rests of a table: each abbreviation begins a table of its own, and a code is found in a rest where it is found in the whole.
 use Rattle.std.proofs.Common.{◌≡◌, ℕ, zero, suc, ◌+◌, ◌-◌, ◌<◌, ◌≤◌, ◌==◌, ◌⊎◌, inl, inr, not, Bool, true, false, if◌then◌else◌, cond, nat_lt, List, [], ◌∷◌, ◌++◌, drop, get_or, length, slice_get, is_some, Option, Some, None, refl, sym, ap, ◌∙◌, arith, subst}
-use Rattle.std.proofs.lemmas.Option.{slice_get-get_or, slice_get_within}
 use Rattle.std.proofs.lemmas.Bool.{eqb-true, ltb-false}
 use Rattle.std.proofs.lemmas.Bool.Decides.{nat_tests}
 use Rattle.std.proofs.lemmas.List.{length-append, length-drop, drop-append-le, drop_all}
@@ -8,9 +7,8 @@ use Rattle.dw_base.specs.AbbreviationTables.{Abbreviation, abbreviation_of, Decl
 use Rattle.dw_base.specs.AbbreviationTables.Declares.{no_abbreviations, more_abbreviations}
 use Rattle.dw_base.specs.Lebs.{uleb_at}
 use Rattle.dw_abbrev.specs.Coded.{index_of_code, IsCoded}
-use Rattle.dw_abbrev.specs.Fronts.{GoesOn, IsRest}
-use Rattle.dw_abbrev.specs.Rests.{AllRests, AreRests, IsWhole, Opened, RestsDeclare}
-use Rattle.dw_abbrev.specs.declared.opened.RestPlace.{RestPlace}
+use Rattle.dw_abbrev.specs.Fronts.{GoesOn}
+use Rattle.dw_abbrev.specs.Rests.{RestsDeclare}
 use Rattle.dw_abbrev.specs.Spelled.{DeclaresOne}
 use Rattle.dw_abbrev.proofs.CodedLaws.{get-found, index-from, index-within, none-cases, or_len, or_len-from}
 
@@ -31,19 +29,19 @@ absent-drop (suc i) [] code e = refl
 absent-drop (suc i) (a ∷ rest) code e = absent-drop i rest code (absent-tail (a.code == code) a (abbreviation_of rest code) e)
 
 -- what stands at a place of a list with one more at its end
-record Within (xs : List ℕ) (i o : ℕ) : Type 0 where
-  there : slice_get xs i ≡ Some o
-  inside : i < length xs
+pub record Within (xs : List ℕ) (i o : ℕ) : Type 0 where
+  pub there : slice_get xs i ≡ Some o
+  pub inside : i < length xs
 
-record AtEnd (xs : List ℕ) (x i o : ℕ) : Type 0 where
-  end : i ≡ length xs
-  same : x ≡ o
+pub record AtEnd (xs : List ℕ) (x i o : ℕ) : Type 0 where
+  pub end : i ≡ length xs
+  pub same : x ≡ o
 
 further : (y : ℕ) (xs : List ℕ) (x i o : ℕ) → Within xs i o ⊎ AtEnd xs x i o → Within (y ∷ xs) (suc i) o ⊎ AtEnd (y ∷ xs) x (suc i) o
 further y xs x i o (inl w) = inl (record { there = w.there; inside = let lt : i < length xs = w.inside in omega arith })
 further y xs x i o (inr w) = inr (record { end = ap suc w.end; same = w.same })
 
-get_pushed : (xs : List ℕ) (x i o : ℕ) → slice_get (xs ++ x ∷ []) i ≡ Some o → Within xs i o ⊎ AtEnd xs x i o
+pub get_pushed : (xs : List ℕ) (x i o : ℕ) → slice_get (xs ++ x ∷ []) i ≡ Some o → Within xs i o ⊎ AtEnd xs x i o
 get_pushed [] x zero o e = inr (record { end = refl; same = cc })
 get_pushed [] x (suc i) o e = cc
 get_pushed (y ∷ xs) x zero o e = inl (record { there = e; inside = omega arith })
@@ -77,62 +75,29 @@ rests-more bytes places more list new place next r is one =
       each = λ i o e. rest-pushed bytes places list one.one place next i o r one.spelled one.fresh (get_pushed places place i o e);
     }))
 
--- the code 0 behind them ends all
-rest-ended : (bytes : List ℕ) (places : List ℕ) (list : List Abbreviation) (place size i o : ℕ) → RestsDeclare bytes places list place
-    → uleb_at bytes place ≡ Some (0, size) → Within places i o ⊎ AtEnd places place i o → IsTable bytes o (drop i list)
-rest-ended bytes places list place size i o r e (inl w) = record { last = place; size = size; declares = r.each i o w.there; ends = e }
-rest-ended bytes places list place size i o r e (inr w) =
-    let all : length list ≤ i = (let end : i ≡ length places = w.end in let same : length places ≡ length list = r.as_many in omega arith) in
-    subst (λ (l : List Abbreviation). IsTable bytes o l) (sym (drop_all i list all))
-    (subst (λ (n : ℕ). IsTable bytes n []) w.same (record { last = place; size = size; declares = no_abbreviations; ends = e }))
-
-pub rests-end : (bytes : List ℕ) (places more : List ℕ) (list : List Abbreviation) (place code size : ℕ) → RestsDeclare bytes places list place
-    → more ≡ places ++ place ∷ [] → uleb_at bytes place ≡ Some (code, size) → code ≡ 0 → AreRests bytes more list
-rests-end bytes places more list place code size r is e zero_is =
-    let ends : uleb_at bytes place ≡ Some (0, size) = subst (λ (k : ℕ). uleb_at bytes place ≡ Some (k, size)) zero_is e in
-    subst (λ (ps : List ℕ). AreRests bytes ps list) (sym is) (record {
-      as_many = length-append places (place ∷ []) ∙ ap (λ (n : ℕ). n + 1) r.as_many ∙ (let one : length list + 1 ≡ suc (length list) = omega arith in one);
-      each = λ i o g. rest-ended bytes places list place size i o r ends (get_pushed places place i o g);
-    })
-
-pub whole-end : (bytes : List ℕ) (places more : List ℕ) (list : List Abbreviation) (at place code size : ℕ) → Declares bytes at list place
-    → RestsDeclare bytes places list place → more ≡ places ++ place ∷ [] → uleb_at bytes place ≡ Some (code, size) → code ≡ 0 → IsWhole bytes at more list
-whole-end bytes places more list at place code size d r is e zero_is = record {
-  table = record { last = place; size = size; declares = d; ends = subst (λ (k : ℕ). uleb_at bytes place ≡ Some (k, size)) zero_is e };
-  rests = rests-end bytes places more list place code size r is e zero_is;
-}
-
 pub declares-more : (bytes : List ℕ) (start place next : ℕ) (old new : List Abbreviation) → Declares bytes start old place → DeclaresOne bytes place old new next
     → Declares bytes start new next
 declares-more bytes start place next old new d one =
     subst (λ (l : List Abbreviation). Declares bytes start l next) (sym one.appended) (more_abbreviations old one.one place next d one.spelled one.fresh)
 
-pub rest-behind : (bytes : List ℕ) (opened : List Opened) (at place : ℕ) (list : List Abbreviation) (rest : RestPlace) → Declares bytes at list place
-    → IsRest bytes opened place rest → GoesOn bytes opened at list rest
-rest-behind bytes opened at place list rest d r = record { last = place; declares = d; behind = r }
+-- behind them the table goes on, or it ends
+pub goes-on : (bytes : List ℕ) (at place : ℕ) (places : List ℕ) (list run tail behind : List Abbreviation) → Declares bytes at list place
+    → RestsDeclare bytes places list place → IsTable bytes place tail → run ≡ list → behind ≡ tail → GoesOn bytes at places run behind
+goes-on bytes at place places list run tail behind d r t same is =
+    subst (λ (l : List Abbreviation). GoesOn bytes at places l behind) (sym same) (record {
+      last = place;
+      declares = d;
+      rests = r;
+      table = subst (IsTable bytes place) (sym is) t;
+    })
 
-pub ruleset front_rules = (no_abbreviations, rests-start, rests-more, whole-end, declares-more, rest-behind)
+pub goes-end : (bytes : List ℕ) (at place code size : ℕ) (places : List ℕ) (list run behind : List Abbreviation) → Declares bytes at list place
+    → RestsDeclare bytes places list place → uleb_at bytes place ≡ Some (code, size) → code ≡ 0 → run ≡ list → behind ≡ [] → GoesOn bytes at places run behind
+goes-end bytes at place code size places list run behind d r e zero_is same is =
+    goes-on bytes at place places list run [] behind d r
+    (record { last = place; size = size; declares = no_abbreviations; ends = subst (λ (k : ℕ). uleb_at bytes place ≡ Some (k, size)) zero_is e }) same is
 
--- at the place of an abbreviation of one of these stands its rest
-rests-at : (bytes : List ℕ) (list : List Opened) (i : ℕ) (o : Opened) → AllRests bytes list → i < length list → o ≡ get_or list i o → AreRests bytes o.places o.table
-rests-at bytes [] i o all lt is = absurd (omega (arith, lt))
-rests-at bytes (x ∷ xs) zero o all lt is = subst (λ (y : Opened). AreRests bytes y.places y.table) (sym is) all.0
-rests-at bytes (x ∷ xs) (suc i) o all lt is = rests-at bytes xs i o all.1 (omega (arith, lt)) is
-
-pub rest-at : (bytes : List ℕ) (list : List Opened) (at i from : ℕ) (o : Opened) → AllRests bytes list → i < length list → o ≡ get_or list i o
-    → slice_get o.places from ≡ Some at → IsRest bytes list at (record { table = i; from = from })
-rest-at bytes list at i from o all lt is here =
-    let rests : AreRests bytes o.places o.table = rests-at bytes list i o all lt is in
-    let few : from < length o.places = slice_get_within o.places from at here in
-    let many : length o.places ≡ suc (length o.table) = rests.as_many in
-    record {
-      one = o;
-      there = slice_get-get_or list i o lt ∙ ap (λ (x : Opened). Some x) (sym is);
-      inside = omega (arith, few, many);
-      table = rests.each from at here;
-    }
-
-pub ruleset rest_at_rules = (rest-at)
+pub ruleset front_rules = (no_abbreviations, rests-start, rests-more, declares-more, goes-on, goes-end)
 
 -- a code stands in a rest as many places in front as were left out
 or_len-tail : (test : Bool) (m n : ℕ) → suc n ≤ cond (not test) (1 + m) 0 → cond (not test) (1 + m) 0 ≡ suc m

@@ -1,18 +1,11 @@
--- The front of a table of abbreviations, behind which it goes on as the rest of another (DWARF 5, 7.5.3).
-use Rattle.std.specs.Prelude.{◌≡◌, ◌≤◌, ℕ, List, drop, length, slice_get, Some}
+-- The front of a table of abbreviations, behind which it goes on as others do (DWARF 5, 7.5.3).
+use Rattle.std.specs.Prelude.{ℕ, List}
 use Rattle.dw_base.specs.AbbreviationTables.{Abbreviation, Declares, IsTable}
-use Rattle.dw_abbrev.specs.Rests.{Opened}
-use Rattle.dw_abbrev.specs.declared.opened.RestPlace.{RestPlace}
+use Rattle.dw_abbrev.specs.Rests.{RestsDeclare}
 
--- at a place stands the rest of one of these
-pub record IsRest (bytes : List ℕ) (opened : List Opened) (at : ℕ) (rest : RestPlace) : Type 0 where
-  pub one : Opened
-  pub there : slice_get opened rest.table ≡ Some one
-  pub inside : rest.from ≤ length one.table
-  pub table : IsTable bytes at (drop rest.from one.table)
-
--- behind these abbreviations, from a place on, stands the rest of one of these
-pub record GoesOn (bytes : List ℕ) (opened : List Opened) (at : ℕ) (front : List Abbreviation) (rest : RestPlace) : Type 0 where
+-- from a place on these abbreviations stand at these places, and behind them stands the table of those
+pub record GoesOn (bytes : List ℕ) (at : ℕ) (places : List ℕ) (front behind : List Abbreviation) : Type 0 where
   pub last : ℕ
   pub declares : Declares bytes at front last
-  pub behind : IsRest bytes opened last rest
+  pub rests : RestsDeclare bytes places front last
+  pub table : IsTable bytes last behind

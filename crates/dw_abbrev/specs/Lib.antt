@@ -3,4 +3,5 @@ pub mod Coded
 pub mod QuietSpecs
 pub mod Rests
 pub mod Fronts
+pub mod Spots
 pub mod Kept

@@ -1,23 +1,30 @@
 //! The attributes of an abbreviation, which contracts see as a list (DWARF 5, 7.5.3).
 //!
 //! The size of an entry's values is found once for its abbreviation, where all forms say it; so is how many attributes stand up to the
-//! last that may say something of texts, line tables or macros.
+//! last that may say something of texts, line tables or macros. Attributes that stand at a place are the rest of others that stand in
+//! front of it, and abbreviations can share them.
 
 ghost use Rattle.std.specs.Prelude.{◌≡◌, ◌^◌, ◌≤◌, ℕ, List, Some, drop, length, IfNone, IfSome, IsTrue};
 ghost use Rattle.dw_base.specs.UnitHeaders.{is_address_size};
 ghost use Rattle.dw_base.specs.declared.values.Spec.{Spec as SpecOf};
 ghost use Rattle.dw_abbrev.specs.QuietSpecs.{AllQuiet, HasFront};
+ghost use Rattle.dw_abbrev.specs.Spots.{or_shared};
 ghost use Rattle.dw_forms.specs.Fixed.{HasNoSize, IsSizeOf, values_size};
 
 use crate::quiet::quiet_from;
+use crate::shared_specs::SharedSpecs;
 use dw_base::{Params, Spec};
 use dw_forms::FixedSize;
+use std::alloc::Global;
 use std::marker::Model;
 
 /// The attributes of an abbreviation, in order.
 #[derive(Drop, Debug)]
 pub struct Specs {
-    specs: Vec<Spec>,
+    /// Those that it has for itself.
+    own: Vec<Spec>,
+    /// Those that it shares, if it does; then they are all.
+    shared: Option<SharedSpecs>,
     /// How many bytes their values take together, where their forms say it.
     size: Option<FixedSize>,
     /// How many there are up to the last that isn't quiet.
@@ -27,9 +34,9 @@ pub struct Specs {
 impl Model for Specs {
     ghost Value = { List SpecOf };
 
-    ghost view = { λ s. s.specs.items };
+    ghost view = { λ s. or_shared s.own.items s.shared };
 
-    ghost invariant = { λ s. IfSome s.size (IsSizeOf s.specs.items) × IfNone s.size (HasNoSize s.specs.items) × (s.front ≤ length s.specs.items) × AllQuiet (drop s.front s.specs.items) };
+    ghost invariant = { λ s. IfSome s.size (IsSizeOf (or_shared s.own.items s.shared)) × IfNone s.size (HasNoSize (or_shared s.own.items s.shared)) × (s.front ≤ length (or_shared s.own.items s.shared)) × AllQuiet (drop s.front (or_shared s.own.items s.shared)) };
 }
 
 impl Specs {
@@ -39,22 +46,42 @@ impl Specs {
     {
         let size = FixedSize::of(&specs);
         let front = quiet_from(&specs);
-        Specs { specs, size, front }
+        Specs {
+            own: specs,
+            shared: None,
+            size,
+            front,
+        }
     }
 
-    /// The attributes, as a vector.
-    pub fn into_vec(self) -> Vec<Spec>
-        ensures value { result.items ≡ self }
+    /// Attributes that others have, too.
+    #[tactic(auto, using(crate::proofs::QuietSpecLaws::from_rules))]
+    pub(crate) fn sharing(alloc: Global, specs: SharedSpecs) -> Specs
+        ensures value { result ≡ specs }
     {
-        let Specs { specs, .. } = self;
-        specs
+        let size = specs.size();
+        let front = specs.as_slice().len();
+        Specs {
+            own: Vec::new(alloc),
+            shared: Some(specs),
+            size,
+            front,
+        }
+    }
+
+    /// How many attributes it has for itself.
+    pub(crate) fn own_len(&self) -> usize {
+        self.own.len()
     }
 
     /// The attributes.
     pub fn as_slice(&self) -> &[Spec]
         ensures value { result.now ≡ self.now }
     {
-        self.specs.as_slice()
+        match &self.shared {
+            Some(specs) => specs.as_slice(),
+            None => self.own.as_slice(),
+        }
     }
 
     /// The attributes up to the last that may say something of texts, line tables or macros in other entries than a unit's first.
@@ -62,7 +89,7 @@ impl Specs {
     pub fn front(&self) -> &[Spec]
         ensures front { HasFront self.now result.now }
     {
-        let (front, _) = self.specs.split_at(self.front);
+        let (front, _) = self.as_slice().split_at(self.front);
         front
     }
 
@@ -83,6 +110,6 @@ impl Specs {
     pub fn len(&self) -> usize
         ensures value { result ≡ length self.now }
     {
-        self.specs.len()
+        self.as_slice().len()
     }
 }

@@ -1,28 +1,34 @@
 //! The tables of abbreviations that units name, by their places (DWARF 5, 7.5.3).
 //!
 //! This file promises: each table that is given is the one that stands at its place. What they take together is no more than a small
-//! multiple of the section: tables that end alike share what they have in common, and where tables overlap otherwise, and too often, the
-//! further ones aren't given.
+//! multiple of the section: tables that end alike share what they have in common, abbreviations that end alike share their attributes, and
+//! where tables overlap otherwise, and too often, the further ones aren't given.
 
-ghost use Rattle.std.specs.Prelude.{◌≡◌, ◌≤◌, ◌++◌, ◌∷◌, [], drop, length, IfNone, IfOk, IfSome, IsTrue, OnOk};
+ghost use Rattle.std.specs.Bool.{OnTrue};
+ghost use Rattle.std.specs.HashMap.{get};
+ghost use Rattle.std.specs.Prelude.{◌++◌, nat_eq, IfOk, OnOk};
 ghost use Rattle.dw_base.specs.AbbreviationTables.{IsTable};
 ghost use Rattle.dw_abbrev.specs.Fronts.{GoesOn};
-ghost use Rattle.dw_abbrev.specs.Kept.{AllKept};
-ghost use Rattle.dw_abbrev.specs.Rests.{AllRests, AreApart, IsWhole};
+ghost use Rattle.dw_abbrev.specs.Kept.{AllKept, AreKept};
+ghost use Rattle.dw_abbrev.specs.Rests.{AreApart, AreTails};
+ghost use Rattle.dw_abbrev.specs.Spots.{AreSpots};
 
 use crate::abbrev::Abbrev;
 use crate::front::{Front, front_at};
-use crate::opened::{Opened, RestPlace, end_before};
-use crate::rest::Rest;
+use crate::opening::open_all;
+use crate::rests::Rests;
 use crate::run::Run;
+use crate::spots::{Spot, no_spots};
 use crate::stopped::Stopped;
-use crate::table::{AbbrevTable, joined, whole};
+use crate::table::{AbbrevTable, joined};
+use crate::tails::{keep_tails, no_tails};
 use dw_base::NoMemory;
 use std::alloc::Global;
+use std::collections::HashMap;
 use std::rc::Rc;
 
 /// How many times as many bytes as the section has are read at most.
-const MOST_TIMES: u64 = 4;
+const MOST_TIMES: u64 = 8;
 
 /// A table, and where it stands.
 #[derive(Drop)]
@@ -33,14 +39,13 @@ pub struct KeptTable {
     pub table: AbbrevTable,
 }
 
-/// No code of these is one of a run from a number on.
+/// No code of these is one of those.
 #[tactic(auto, using(crate::proofs::JoinLaws::apart_rules))]
-fn are_apart(own: &[Abbrev], run: &Run, from: usize) -> bool
-    requires from { from ≤ length run.now }
-    ensures apart { IsTrue result → AreApart own.now (drop from run.now) }
+fn are_apart(own: &[Abbrev], others: &Rests) -> bool
+    ensures apart { OnTrue result (AreApart own.now others.now) }
 {
     for abbrev in own {
-        if run.index_behind(from, abbrev.code).is_some() {
+        if others.index_of(abbrev.code).is_some() {
             return false;
         }
     }
@@ -63,169 +68,161 @@ fn keep(
     Ok(())
 }
 
-/// Keeps the table of these abbreviations and of the rest of another.
-#[tactic(auto, using(crate::proofs::JoinLaws::joined_rules))]
-fn keep_with(
-    bytes: &[u8],
-    at: u64,
-    own: Run,
-    other: &Opened,
-    from: usize,
-    kept: &mut Vec<KeptTable>,
-) -> Result<(), NoMemory>
-    requires inside { from ≤ length other.now.table }
-    requires table { AreApart own (drop from other.now.table) → IsTable bytes.now at (own ++ drop from other.now.table) }
-    requires kept { AllKept bytes.now kept.old.items }
-    ensures kept { OnOk result (AllKept bytes.now kept.new.items) }
-{
-    if !are_apart(own.as_slice(), other.run.as_ref(), from) {
-        return Ok(());
-    }
-    let rest = Rest::of(&other.run, from)?;
-    keep(bytes, at, joined(own, rest), kept)
-}
-
-/// The same, where the other is one of these.
-#[tactic(auto, using(crate::proofs::JoinLaws::rest_rules))]
-fn keep_joined(
-    bytes: &[u8],
-    at: u64,
-    own: Run,
-    rest: RestPlace,
-    opened: &[Opened],
-    kept: &mut Vec<KeptTable>,
-) -> Result<(), NoMemory>
-    requires goes_on { GoesOn bytes.now opened.now at own rest }
-    requires kept { AllKept bytes.now kept.old.items }
-    ensures kept { OnOk result (AllKept bytes.now kept.new.items) }
-{
-    keep_with(bytes, at, own, &opened[rest.table], rest.from, kept)
-}
-
-/// Keeps a table that was read whole, which others may share.
-#[tactic(auto, using(crate::proofs::KeptLaws::shared_rules))]
-fn keep_shared(
+/// Keeps a table, and the tables from each of its own abbreviations on for others to share.
+#[tactic(auto, using(crate::proofs::JoinLaws::opened_rules))]
+fn keep_opened(
     alloc: Global,
     bytes: &[u8],
     at: u64,
-    run: Run,
-    places: Vec<u64>,
-    opened: &mut Vec<Opened>,
+    own: Run,
+    behind: &Rests,
+    places: &[u64],
+    tails: &mut HashMap<u64, Rests>,
     kept: &mut Vec<KeptTable>,
 ) -> Result<(), NoMemory>
-    requires is { IsWhole bytes.now at places.items run }
-    requires opened { AllRests bytes.now opened.old.items }
+    requires table { IsTable bytes.now at (own ++ behind.now) }
+    requires parts { AreTails bytes.now places.now own behind.now }
+    requires tails { AreKept bytes.now (λ o. get nat_eq tails.old o) }
     requires kept { AllKept bytes.now kept.old.items }
-    ensures opened { OnOk result (AllRests bytes.now opened.new.items) }
+    ensures tails { OnOk result (AreKept bytes.now (λ o. get nat_eq tails.new o)) }
     ensures kept { OnOk result (AllKept bytes.now kept.new.items) }
 {
-    let run = Rc::new(alloc, run)?;
-    let rest = Rest::of(&run, 0)?;
-    keep(bytes, at, joined(Run::empty(alloc), rest), kept)?;
-    opened.push(Opened { run, places })?;
+    let own = Rc::new(alloc, own)?;
+    let Some(all) = behind.behind(alloc, &own, 0)? else {
+        return Ok(());
+    };
+    keep(bytes, at, joined(Run::empty(alloc), all), kept)?;
+    keep_tails(alloc, bytes, &own, behind, places, tails)?;
     Ok(())
 }
 
-/// Where the last of some places is, `at` where there is none.
-fn end_of(places: &[u64], at: u64) -> u64 {
-    match places.last() {
-        Some(end) => *end,
-        None => at,
+/// How many bytes an abbreviation takes at least, and an attribute.
+const LEAST_ABBREV: u64 = 5;
+
+const LEAST_SPEC: u64 = 2;
+
+/// How many bytes abbreviations take at least, but for attributes that they share.
+fn least_size(own: &[Abbrev]) -> u64 {
+    let mut size = 0u64;
+    for abbrev in own {
+        let specs = (abbrev.specs.own_len() as u64).saturating_mul(LEAST_SPEC);
+        size = size.saturating_add(specs).saturating_add(LEAST_ABBREV);
     }
+    size
 }
 
-/// Keeps a table that was read whole; `next` is the next place at which one is wanted.
-#[tactic(auto, using(crate::proofs::KeptLaws::whole_rules))]
-fn keep_whole(
-    alloc: Global,
-    bytes: &[u8],
-    at: u64,
-    run: Run,
-    places: Vec<u64>,
-    next: Option<u64>,
-    opened: &mut Vec<Opened>,
-    kept: &mut Vec<KeptTable>,
-) -> Result<(), NoMemory>
-    requires is { IsWhole bytes.now at places.items run }
-    requires opened { AllRests bytes.now opened.old.items }
-    requires kept { AllKept bytes.now kept.old.items }
-    ensures opened { OnOk result (AllRests bytes.now opened.new.items) }
-    ensures kept { OnOk result (AllKept bytes.now kept.new.items) }
-{
-    if is_before(next, end_of(places.as_slice(), at)) {
-        return keep_shared(alloc, bytes, at, run, places, opened, kept);
-    }
-    keep(bytes, at, whole(run), kept)
-}
-
-/// A place is there, and not behind another.
+/// A place is there, and in front of another.
 fn is_before(place: Option<u64>, end: u64) -> bool {
     match place {
-        Some(place) => place <= end,
+        Some(place) => place < end,
         None => false,
     }
 }
 
-/// Keeps a table that was read up to its end, or up to the rest of another.
+/// Keeps a table that was read up to its end, or up to where it goes on as another; `next` is the next place at which one is wanted.
 fn keep_front(
     alloc: Global,
     bytes: &[u8],
     at: u64,
     front: Front,
-    places: Vec<u64>,
+    places: &[u64],
     next: Option<u64>,
-    opened: &mut Vec<Opened>,
+    tails: &mut HashMap<u64, Rests>,
+    spots: &mut HashMap<u64, Spot>,
     kept: &mut Vec<KeptTable>,
 ) -> Result<(), NoMemory>
-    requires whole { IfNone front.rest (IsWhole bytes.now at places.items front.run) }
-    requires goes_on { IfSome front.rest (GoesOn bytes.now opened.old.items at front.run) }
-    requires opened { AllRests bytes.now opened.old.items }
+    requires goes_on { GoesOn bytes.now at places.now front.run front.behind }
+    requires tails { AreKept bytes.now (λ o. get nat_eq tails.old o) }
+    requires spots { AreSpots bytes.now (λ o. get nat_eq spots.old o) }
     requires kept { AllKept bytes.now kept.old.items }
-    ensures opened { OnOk result (AllRests bytes.now opened.new.items) }
+    ensures tails { OnOk result (AreKept bytes.now (λ o. get nat_eq tails.new o)) }
+    ensures spots { OnOk result (AreSpots bytes.now (λ o. get nat_eq spots.new o)) }
     ensures kept { OnOk result (AllKept bytes.now kept.new.items) }
 {
-    let Front { run, rest } = front;
-    match rest {
-        Some(rest) => keep_joined(bytes, at, run, rest, opened.as_slice(), kept),
-        None => keep_whole(alloc, bytes, at, run, places, next, opened, kept),
+    let Front { run, behind, end } = front;
+    if !are_apart(run.as_slice(), &behind) {
+        return Ok(());
     }
+    if !is_before(next, end) {
+        return keep(bytes, at, joined(run, behind), kept);
+    }
+    open_all(alloc, bytes, places, spots)?;
+    keep_opened(alloc, bytes, at, run, &behind, places, tails, kept)
 }
 
-/// Keeps the table at a place. Gives how many bytes were read for it; where none can be read it is left out, and all bytes count.
+/// What was read of a table.
+#[derive(Clone, Copy)]
+struct Taken {
+    /// How many bytes at least.
+    size: u64,
+    /// Where it ended.
+    end: u64,
+}
+
+/// Keeps the table at a place, and tells what was read for it; where none can be read it is left out, and all bytes count.
 fn keep_one(
     alloc: Global,
     bytes: &[u8],
     at: u64,
     next: Option<u64>,
-    opened: &mut Vec<Opened>,
+    tails: &mut HashMap<u64, Rests>,
+    spots: &mut HashMap<u64, Spot>,
     kept: &mut Vec<KeptTable>,
-) -> Result<u64, NoMemory>
-    requires opened { AllRests bytes.now opened.old.items }
+) -> Result<Taken, NoMemory>
+    requires tails { AreKept bytes.now (λ o. get nat_eq tails.old o) }
+    requires spots { AreSpots bytes.now (λ o. get nat_eq spots.old o) }
     requires kept { AllKept bytes.now kept.old.items }
-    ensures opened { OnOk result (AllRests bytes.now opened.new.items) }
+    ensures tails { OnOk result (AreKept bytes.now (λ o. get nat_eq tails.new o)) }
+    ensures spots { OnOk result (AreSpots bytes.now (λ o. get nat_eq spots.new o)) }
     ensures kept { OnOk result (AllKept bytes.now kept.new.items) }
 {
     let mut places = Vec::new(alloc);
-    match front_at(alloc, bytes, at, opened.as_slice(), &mut places) {
+    match front_at(alloc, bytes, at, tails, spots, &mut places) {
         Ok(front) => {
-            let taken = end_of(places.as_slice(), at).saturating_sub(at);
-            keep_front(alloc, bytes, at, front, places, next, opened, kept)?;
+            let taken = Taken {
+                size: least_size(front.run.as_slice()),
+                end: front.end,
+            };
+            keep_front(
+                alloc,
+                bytes,
+                at,
+                front,
+                places.as_slice(),
+                next,
+                tails,
+                spots,
+                kept,
+            )?;
             Ok(taken)
         }
-        Err(Stopped::Unspelled) => Ok(bytes.len() as u64),
+        Err(Stopped::Unspelled) => Ok(Taken {
+            size: bytes.len() as u64,
+            end: at,
+        }),
         Err(Stopped::NoMemory) => Err(NoMemory),
     }
 }
 
-/// Forgets these tables, where all of them end in front of a place.
-#[tactic(auto, using(crate::proofs::KeptLaws::none_rules))]
-fn close_before(bytes: &[u8], at: u64, opened: &mut Vec<Opened>)
-    requires opened { AllRests bytes.now opened.old.items }
-    ensures opened { AllRests bytes.now opened.new.items }
+/// Forgets what is kept for others to share, where the next table stands behind all that were read.
+fn close_before(
+    alloc: Global,
+    bytes: &[u8],
+    at: u64,
+    end: u64,
+    tails: &mut HashMap<u64, Rests>,
+    spots: &mut HashMap<u64, Spot>,
+)
+    requires tails { AreKept bytes.now (λ o. get nat_eq tails.old o) }
+    requires spots { AreSpots bytes.now (λ o. get nat_eq spots.old o) }
+    ensures tails { AreKept bytes.now (λ o. get nat_eq tails.new o) }
+    ensures spots { AreSpots bytes.now (λ o. get nat_eq spots.new o) }
 {
-    if end_before(opened.as_slice(), at) {
-        opened.clear();
+    if at < end || tails.is_empty() {
+        return;
     }
+    *tails = no_tails(alloc, bytes);
+    *spots = no_spots(alloc, bytes);
 }
 
 /// The tables at places of these bytes, which rise. One that can't be read is left out, and where tables overlap so much that more than
@@ -235,16 +232,21 @@ pub fn tables_at(alloc: Global, bytes: &[u8], starts: &[u64]) -> Result<Vec<Kept
     ensures kept { IfOk result (λ kept. AllKept bytes.now kept.items) }
 {
     let mut kept = Vec::new(alloc);
-    let mut opened = Vec::new(alloc);
+    let mut tails = no_tails(alloc, bytes);
+    let mut spots = no_spots(alloc, bytes);
+    let mut end = 0;
     let mut room = (bytes.len() as u64).saturating_mul(MOST_TIMES);
     for (index, start) in starts.iter().enumerate() {
         let next = starts.get(index + 1).copied();
-        close_before(bytes, *start, &mut opened);
-        let taken = keep_one(alloc, bytes, *start, next, &mut opened, &mut kept)?;
-        if taken > room {
+        close_before(alloc, bytes, *start, end, &mut tails, &mut spots);
+        let taken = keep_one(
+            alloc, bytes, *start, next, &mut tails, &mut spots, &mut kept,
+        )?;
+        if taken.size > room {
             return Ok(kept);
         }
-        room -= taken;
+        room -= taken.size;
+        end = end.max(taken.end);
     }
     Ok(kept)
 }

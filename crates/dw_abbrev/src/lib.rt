@@ -25,13 +25,17 @@ mod abbrev;
 mod attributes;
 mod front;
 mod keeping;
-mod opened;
+mod opening;
 mod quiet;
 mod rest;
+mod rests;
 mod run;
+mod shared_specs;
 mod spelled;
+mod spots;
 mod stopped;
 mod table;
+mod tails;
 
 pub use abbrev::Abbrev;
 pub use attributes::Specs;

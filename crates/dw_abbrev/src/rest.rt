@@ -37,6 +37,13 @@ impl Rest {
         Ok(Rest { run, from })
     }
 
+    /// The same once more.
+    pub(crate) fn again(&self) -> Result<Rest, AllocError>
+        ensures value { IfOk result (λ r. r ≡ self.now) }
+    {
+        Rest::of(&self.run, self.from)
+    }
+
     /// How many there are.
     pub(crate) fn len(&self) -> usize
         ensures value { result ≡ length self.now }

@@ -3,19 +3,23 @@
 //! This file promises: what is read from a place on is the table there; a code is found among the abbreviations from one on exactly
 //! where one of them has it.
 
-ghost use Rattle.std.specs.Prelude.{◌≡◌, ◌≢◌, ◌+◌, ◌<◌, ◌≤◌, List, [], drop, length, IfSome, IfOk, IfErr, OnOk};
+ghost use Rattle.std.specs.HashMap.{get};
+ghost use Rattle.std.specs.Prelude.{◌≡◌, ◌≢◌, ◌+◌, ◌<◌, ◌≤◌, List, [], drop, length, nat_eq, IfSome, IfOk, IfErr, OnOk};
 ghost use Rattle.dw_base.specs.AbbreviationTables.{Abbreviation, IsTable};
 ghost use Rattle.dw_base.specs.AbbreviationFails.{DeclarationFails};
 ghost use Rattle.dw_base.specs.Lebs.{uleb_at};
 ghost use Rattle.dw_abbrev.specs.Coded.{index_of_code, IsCoded};
 ghost use Rattle.dw_abbrev.specs.Spelled.{DeclaresOne, StopsFor, TableFails};
+ghost use Rattle.dw_abbrev.specs.Spots.{AreSpots};
 
 use crate::abbrev::Abbrev;
 use crate::spelled::abbrev_at;
+use crate::spots::{Spot, no_spots};
 use crate::stopped::Stopped;
 use dw_base::{Spec, uleb_at};
 use indexmap::IndexSet;
 use std::alloc::Global;
+use std::collections::HashMap;
 use std::marker::Model;
 
 /// Abbreviations, in the order in which they stand.
@@ -44,10 +48,12 @@ pub(crate) fn declare(
     at: u64,
     code: u64,
     size: u64,
+    spots: &HashMap<u64, Spot>,
     list: &mut Vec<Abbrev>,
     codes: &mut IndexSet<u64>,
     scratch: &mut Vec<Spec>,
 ) -> Result<u64, Stopped>
+    requires spots { AreSpots bytes.now (λ o. get nat_eq spots.now o) }
     requires code { uleb_at bytes.now at ≡ Some (code, size) }
     requires inside { at + size ≤ length bytes.now }
     requires declares { code ≢ 0 }
@@ -62,7 +68,7 @@ pub(crate) fn declare(
     if !added {
         return Err(Stopped::Unspelled);
     }
-    let (abbrev, next) = abbrev_at(alloc, bytes, at, code, size, scratch)?;
+    let (abbrev, next) = abbrev_at(alloc, bytes, at, code, size, spots, scratch)?;
     list.push(abbrev)?;
     Ok(next)
 }
@@ -74,6 +80,7 @@ pub(crate) fn run_at(alloc: Global, bytes: &[u8], at: u64) -> Result<Run, Stoppe
     ensures table { IfOk result (IsTable bytes.now at) }
     ensures stopped { IfErr result (StopsFor (TableFails bytes.now at)) }
 {
+    let spots = no_spots(alloc, bytes);
     let mut list = Vec::new(alloc);
     let mut codes = IndexSet::new(alloc);
     let mut scratch = Vec::new(alloc);
@@ -91,6 +98,7 @@ pub(crate) fn run_at(alloc: Global, bytes: &[u8], at: u64) -> Result<Run, Stoppe
             place,
             code,
             size,
+            &spots,
             &mut list,
             &mut codes,
             &mut scratch,

@@ -4,30 +4,34 @@
 //! This file promises, of each step: what it gives stands there, and it gives nothing only where
 //! nothing of its kind stands there.
 
-ghost use Rattle.std.specs.Prelude.{◌≡◌, ◌≢◌, ◌+◌, ◌<◌, ◌≤◌, [], Some, length, IfSome, IfNone, IfOk, IfErr};
+ghost use Rattle.std.specs.HashMap.{get};
+ghost use Rattle.std.specs.Prelude.{◌≡◌, ◌≢◌, ◌+◌, ◌<◌, ◌≤◌, [], Some, length, nat_eq, IfSome, IfNone, IfOk, IfErr};
 ghost use Rattle.dw_base.specs.AbbreviationTables.{HeadsAbbreviation, SpellsPair, SpellsSpec, SpellsAbbreviation};
 ghost use Rattle.dw_base.specs.AbbreviationFails.{DeclarationFails, SpecFails};
 ghost use Rattle.dw_base.specs.Lebs.{uleb_at};
 ghost use Rattle.dw_abbrev.specs.Spelled.{SpecsEnd, SpecsFail, StopsFor};
+ghost use Rattle.dw_abbrev.specs.Spots.{AreSpots};
 
 use crate::abbrev::Abbrev;
 use crate::attributes::Specs;
+use crate::spots::{Spot, spot_at};
 use crate::stopped::Stopped;
 use dw_base::dwarf_numbers::DW_FORM_implicit_const;
 use dw_base::{Spec, sleb_at, uleb_at};
 use std::alloc::{AllocError, Global};
+use std::collections::HashMap;
 
 /// The name and the form of an attribute, and the place behind them.
 #[derive(Clone, Copy)]
-struct Pair {
-    name: u64,
-    form: u64,
-    next: u64,
+pub(crate) struct Pair {
+    pub name: u64,
+    pub form: u64,
+    pub next: u64,
 }
 
 /// The pair at a place. `None` only where one of its numbers passes the end.
 #[tactic(auto, using(crate::proofs::Rows::pair_rows))]
-fn pair_at(bytes: &[u8], at: u64) -> Option<Pair>
+pub(crate) fn pair_at(bytes: &[u8], at: u64) -> Option<Pair>
     ensures found { IfSome result (λ p. SpellsPair bytes.now at p.name p.form p.next) }
     ensures further { IfSome result (λ p. at < p.next) }
     ensures within { IfSome result (λ p. p.next ≤ length bytes.now) }
@@ -49,7 +53,7 @@ fn pair_at(bytes: &[u8], at: u64) -> Option<Pair>
 /// The attribute of a pair, and the place behind it: behind `DW_FORM_implicit_const` stands its value.
 /// `None` only where the name or the form is 0, or the value passes the end.
 #[tactic(auto, using(crate::proofs::Rows::spec_rows))]
-fn spec_of(bytes: &[u8], at: u64, pair: &Pair) -> Option<(Spec, u64)>
+pub(crate) fn spec_of(bytes: &[u8], at: u64, pair: &Pair) -> Option<(Spec, u64)>
     requires pair { SpellsPair bytes.now at pair.now.name pair.now.form pair.now.next }
     requires further { at < pair.now.next }
     requires within { pair.now.next ≤ length bytes.now }
@@ -129,17 +133,42 @@ fn specs_at(
     }
 }
 
+/// The attributes at a place, and the place behind the pair that ends them: those that are kept there, or else they are read. Stopped
+/// only where none stands behind some of them, or for want of memory.
+#[tactic(auto, using(crate::proofs::SpotLaws::list_rules))]
+fn list_at(
+    alloc: Global,
+    bytes: &[u8],
+    at: u64,
+    spots: &HashMap<u64, Spot>,
+    scratch: &mut Vec<Spec>,
+) -> Result<(Specs, u64), Stopped>
+    requires inside { at ≤ length bytes.now }
+    requires spots { AreSpots bytes.now (λ o. get nat_eq spots.now o) }
+    ensures found { IfOk result (λ s. SpecsEnd bytes.now at s.0 s.1) }
+    ensures further { IfOk result (λ s. at < s.1) }
+    ensures within { IfOk result (λ s. s.1 ≤ length bytes.now) }
+    ensures stopped { IfErr result (StopsFor (SpecsFail bytes.now at)) }
+{
+    if let Some(spot) = spot_at(bytes, spots, at) {
+        let specs = spot.specs.again()?;
+        return Ok((Specs::sharing(alloc, specs), spot.next));
+    }
+    let list = specs_at(alloc, bytes, at, scratch)?;
+    Ok(list)
+}
+
 /// What stands in front of an abbreviation's attributes.
 #[derive(Clone, Copy)]
-struct Head {
-    tag: u64,
-    flag: u8,
-    next: u64,
+pub(crate) struct Head {
+    pub tag: u64,
+    pub flag: u8,
+    pub next: u64,
 }
 
 /// The tag and the flag for children, behind a code that was read. `None` only where they pass the end.
 #[tactic(auto, using(crate::proofs::Rows::head_rows))]
-fn head_at(bytes: &[u8], at: u64, code: u64, size: u64) -> Option<Head>
+pub(crate) fn head_at(bytes: &[u8], at: u64, code: u64, size: u64) -> Option<Head>
     requires code { uleb_at bytes.now at ≡ Some (code, size) }
     requires inside { at + size ≤ length bytes.now }
     requires declares { code ≢ 0 }
@@ -171,8 +200,10 @@ pub(crate) fn abbrev_at(
     at: u64,
     code: u64,
     size: u64,
+    spots: &HashMap<u64, Spot>,
     scratch: &mut Vec<Spec>,
 ) -> Result<(Abbrev, u64), Stopped>
+    requires spots { AreSpots bytes.now (λ o. get nat_eq spots.now o) }
     requires code { uleb_at bytes.now at ≡ Some (code, size) }
     requires inside { at + size ≤ length bytes.now }
     requires declares { code ≢ 0 }
@@ -188,7 +219,7 @@ pub(crate) fn abbrev_at(
     if head.flag > 1 {
         return Err(Stopped::Unspelled);
     }
-    let (specs, next) = specs_at(alloc, bytes, head.next, scratch)?;
+    let (specs, next) = list_at(alloc, bytes, head.next, spots, scratch)?;
     let abbrev = Abbrev {
         code,
         tag: head.tag,

@@ -1,18 +1,17 @@
 //! A table of abbreviations (DWARF 5, 7.5.3), and the abbreviation of a code.
 //!
-//! A table has its abbreviations for itself, but where many overlap: then those at its end may be the rest of others that were read once.
+//! A table has its abbreviations for itself, but where many overlap: then those at its end may be the rests of others that were read once.
 
-ghost use Rattle.std.specs.Prelude.{◌≡◌, ◌^◌, ◌++◌, ◌<◌, List, get_or, length, option_copied, IfSome, IfOk, IfErr, OnOk};
+ghost use Rattle.std.specs.Prelude.{◌≡◌, ◌++◌, ◌<◌, List, get_or, length, option_copied, IfSome, IfOk, IfErr, OnOk};
 ghost use Rattle.dw_base.specs.AbbreviationTables.{Abbreviation, abbreviation_of, IsTable};
 ghost use Rattle.dw_base.specs.AbbreviationFails.{AbbreviationFails};
 ghost use Rattle.dw_base.specs.Refusals.{Blames};
 ghost use Rattle.dw_base.specs.declared.fault.Refusal.{Refusal as RefusalOf};
 ghost use Rattle.dw_abbrev.specs.Coded.{index_of_code};
-ghost use Rattle.dw_abbrev.specs.Rests.{or_empty};
 ghost use Rattle.dw_abbrev.specs.Spelled.{StopsFor, TableFails};
 
 use crate::abbrev::Abbrev;
-use crate::rest::Rest;
+use crate::rests::Rests;
 use crate::run::{Run, run_at};
 use crate::stopped::Stopped;
 use dw_base::{Fault, Kind, Refusal};
@@ -24,41 +23,32 @@ use std::marker::Model;
 pub struct AbbrevTable {
     /// Those that it doesn't share.
     own: Run,
-    /// Those behind, which it shares with another table.
-    rest: Option<Rest>,
+    /// Those behind, which it shares with other tables.
+    behind: Rests,
 }
 
 impl Model for AbbrevTable {
     ghost Value = { List Abbreviation };
 
-    ghost view = { λ t. t.own ++ or_empty t.rest };
+    ghost view = { λ t. t.own ++ t.behind };
 }
 
-/// The table of these abbreviations.
-pub(crate) fn whole(own: Run) -> AbbrevTable
-    ensures value { result ≡ own }
+/// The table of these abbreviations, and of those behind them.
+pub(crate) fn joined(own: Run, behind: Rests) -> AbbrevTable
+    ensures value { result ≡ own ++ behind }
 {
-    AbbrevTable { own, rest: None }
-}
-
-/// The table of these abbreviations, and of those of a rest behind them.
-pub(crate) fn joined(own: Run, rest: Rest) -> AbbrevTable
-    ensures value { result ≡ own ++ rest }
-{
-    AbbrevTable {
-        own,
-        rest: Some(rest),
-    }
+    AbbrevTable { own, behind }
 }
 
 /// The table at a place. Stopped only where something else than an abbreviation or the end stands behind some of them, or for want
 /// of memory.
+#[tactic(auto, using(crate::proofs::JoinLaws::table_rules))]
 fn table_at(alloc: Global, bytes: &[u8], at: u64) -> Result<AbbrevTable, Stopped>
     ensures table { IfOk result (IsTable bytes.now at) }
     ensures stopped { IfErr result (StopsFor (TableFails bytes.now at)) }
 {
     let run = run_at(alloc, bytes, at)?;
-    Ok(whole(run))
+    Ok(joined(run, Rests::none(alloc)))
 }
 
 /// The fault of the table at a place.
@@ -73,50 +63,16 @@ fn fault_of(bytes: &[u8], section: u32, at: u64, stopped: Stopped) -> Fault
     }
 }
 
-/// Where the abbreviation of a code stands in a rest, if there is one.
-fn rest_index(rest: &Option<Rest>, code: u64) -> Option<usize>
-    ensures value { result ≡ index_of_code (or_empty rest.now) code }
-    ensures few { IfSome result (λ i. i < 2 ^ 63) }
-{
-    match rest {
-        Some(rest) => rest.index_of(code),
-        None => None,
-    }
-}
-
-/// How many abbreviations a rest has, if there is one.
-fn rest_len(rest: &Option<Rest>) -> usize
-    ensures value { result ≡ length (or_empty rest.now) }
-    ensures few { result < 2 ^ 63 }
-{
-    match rest {
-        Some(rest) => rest.len(),
-        None => 0,
-    }
-}
-
-/// The abbreviation of a number in a rest.
-#[tactic(auto, using(crate::proofs::JoinLaws::rest_at_rules))]
-fn rest_at(rest: &Option<Rest>, index: usize) -> &Abbrev
-    requires inside { index < length (or_empty rest.now) }
-    ensures value { result.now ≡ get_or (or_empty rest.now) index result.now }
-{
-    match rest {
-        Some(rest) => rest.at(index),
-        None => unreachable!(),
-    }
-}
-
-/// The abbreviation of a number among these and those of a rest behind them.
+/// The abbreviation of a number among these and those behind them.
 #[tactic(auto, using(crate::proofs::JoinLaws::at_rules))]
-fn joined_at<'t>(own: &'t [Abbrev], rest: &'t Option<Rest>, index: usize) -> &'t Abbrev
-    requires inside { index < length (own.now ++ or_empty rest.now) }
-    ensures value { result.now ≡ get_or (own.now ++ or_empty rest.now) index result.now }
+fn joined_at<'t>(own: &'t [Abbrev], behind: &'t Rests, index: usize) -> &'t Abbrev
+    requires inside { index < length (own.now ++ behind.now) }
+    ensures value { result.now ≡ get_or (own.now ++ behind.now) index result.now }
 {
     if index < own.len() {
         return &own[index];
     }
-    rest_at(rest, index - own.len())
+    behind.at(index - own.len())
 }
 
 impl AbbrevTable {
@@ -138,7 +94,7 @@ impl AbbrevTable {
     pub fn len(&self) -> usize
         ensures value { result ≡ length self.now }
     {
-        self.own.as_slice().len() + rest_len(&self.rest)
+        self.own.as_slice().len() + self.behind.len()
     }
 
     /// The abbreviation of a number, from 0 on, in the order in which they stand.
@@ -146,7 +102,7 @@ impl AbbrevTable {
         requires inside { index < length self.now }
         ensures value { result.now ≡ get_or self.now index result.now }
     {
-        joined_at(self.own.as_slice(), &self.rest, index)
+        joined_at(self.own.as_slice(), &self.behind, index)
     }
 
     /// Where the abbreviation of a code stands among them, from 0 on. `None` exactly where the table
@@ -159,7 +115,7 @@ impl AbbrevTable {
         if let Some(index) = self.own.index_of(code) {
             return Some(index);
         }
-        let Some(index) = rest_index(&self.rest, code) else {
+        let Some(index) = self.behind.index_of(code) else {
             return None;
         };
         Some(self.own.as_slice().len() + index)

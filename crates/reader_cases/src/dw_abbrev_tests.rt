@@ -25,6 +25,10 @@ fn a_table_has_what_its_bytes_spell(rt: HostRuntime) -> Result<(), Fault> {
     Ok(())
 }
 
+/// Code 1 with four attributes, of which the second reads as a code 8 of a tag 0x12 with children, in front of the others; code 2 for a
+/// variable without attributes.
+const LIST: &[u8] = b"\x01\x11\x01\x03\x08\x12\x01\x1b\x08\x49\x21\x7e\0\0\x02\x34\0\0\0\0";
+
 /// The tag of the abbreviation of a code in a table of a number, 0 where there is none.
 fn tag_in(tables: &[KeptTable], number: usize, code: u64) -> u64 {
     match tables.get(number) {
@@ -53,5 +57,35 @@ fn a_table_at_a_later_place_has_what_stands_from_there_on(rt: HostRuntime) -> Re
         (tag_in(&tables, 2, 1), tag_in(&tables, 2, 0x4000)),
         (0x34, 0)
     );
+    Ok(())
+}
+
+/// The names and numbers of the attributes of a code in a table of a number, where there are two.
+fn two_in(tables: &[KeptTable], number: usize, code: u64) -> Option<(u64, u64, i64)> {
+    let abbrev = tables.get(number)?.table.get(code)?;
+    let [first, second] = abbrev.specs.as_slice() else {
+        return None;
+    };
+    Some((first.name, second.name, second.implicit))
+}
+
+#[test]
+fn attributes_at_a_later_place_are_those_from_there_on(rt: HostRuntime) -> Result<(), Fault> {
+    // The code 8 stands at 4, its attributes at 7, which are the third and the fourth of the first.
+    let tables = tables_at(rt.alloc(), LIST, &[0, 4])?;
+    assert_eq!(rt; tables.len(), 2);
+    assert_eq!(rt;
+        (tag_in(&tables, 0, 1), tag_in(&tables, 0, 2)),
+        (0x11, 0x34)
+    );
+    assert_eq!(rt;
+        (
+            tag_in(&tables, 1, 1),
+            tag_in(&tables, 1, 8),
+            tag_in(&tables, 1, 2)
+        ),
+        (0, 0x12, 0x34)
+    );
+    assert_eq!(rt; two_in(&tables, 1, 8), Some((0x1b, 0x49, -2)));
     Ok(())
 }

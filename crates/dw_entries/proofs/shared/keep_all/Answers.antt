@@ -7,10 +7,3 @@ loop-one-preserved-in_ok-insert c = record {
   left = popped-left _ _ _ c.in-Some.one c.loop-one.invariant.left c.in-Some.ensures.items;
   shared = one-kept _ _ _ _ _ c.loop-one.invariant.shared (popped-table _ _ _ c.in-Some.one c.loop-one.invariant.left c.in-Some.ensures.items) c.in_ok-insert.ensures.updates.0;
 }
-
--- src/shared.rt:76:5
-pub loop-one-preserved-in_ok-insert-2 : goal.loop-one-preserved-in_ok-insert-2
-loop-one-preserved-in_ok-insert-2 c = record {
-  left = popped-left _ _ _ c.in-Some.one c.loop-one.invariant.left c.in-Some.ensures.items;
-  shared = one-kept _ _ _ _ _ c.loop-one.invariant.shared (popped-table _ _ _ c.in-Some.one c.loop-one.invariant.left c.in-Some.ensures.items) c.in_ok-insert.ensures.updates.0;
-}
