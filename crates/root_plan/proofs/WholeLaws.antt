@@ -141,7 +141,7 @@ kind-bare kinds.DefinedPath = refl
 kind-bare kinds.FileType = refl
 
 -- a text, a number and what follows
-part-bare : (t : List ℕ) (n : ℕ) (rest : List ℕ) → has_nul t ≡ false → has_nul rest ≡ false → has_nul (t ++ (decimal n ++ rest)) ≡ false
+pub part-bare : (t : List ℕ) (n : ℕ) (rest : List ℕ) → has_nul t ≡ false → has_nul rest ≡ false → has_nul (t ++ (decimal n ++ rest)) ≡ false
 part-bare t n rest e f = has_nul-append_false t (decimal n ++ rest) e (has_nul-append_false (decimal n) rest (decimal-bare n) f)
 
 jobs-bare : (two one : ℕ) → has_nul (job_counts two one) ≡ false
@@ -209,13 +209,13 @@ fields-parts : (p : PlanData) → front_of p ++ (flat_map job_fields p.jobs ++ (
 fields-parts p =
     ap (λ (fs : List Field). codes "dbgplan 2" ∷ fs) (append_assoc (keyed_fields false p.key) (p.report ∷ decimal (length p.jobs) ∷ []) (flat_map job_fields p.jobs ++ (mid_of p ++ (p.sources ++ end_of))))
 
-fewer-jobs : (p : PlanData) → plan_length p ≤ text_limit → length p.jobs ≤ text_limit
+pub fewer-jobs : (p : PlanData) → plan_length p ≤ text_limit → length p.jobs ≤ text_limit
 fewer-jobs p within =
     let some : length (flat_map job_fields p.jobs) ≤ length (plan_fields p) =
     subst (λ (fs : List Field). length (flat_map job_fields p.jobs) ≤ length fs) (fields-parts p) (first-long (front_of p) (flat_map job_fields p.jobs) (mid_of p) p.sources end_of) in
     omega (arith, within, jobs-long p.jobs, some, laid-long (plan_fields p))
 
-fewer-sources : (p : PlanData) → plan_length p ≤ text_limit → length p.sources ≤ text_limit
+pub fewer-sources : (p : PlanData) → plan_length p ≤ text_limit → length p.sources ≤ text_limit
 fewer-sources p within =
     let some : length p.sources ≤ length (plan_fields p) =
     subst (λ (fs : List Field). length p.sources ≤ length fs) (fields-parts p) (second-long (front_of p) (flat_map job_fields p.jobs) (mid_of p) p.sources end_of) in
@@ -271,7 +271,7 @@ split-fits jobs path bytes id plain may all few = record {
       number-by (length id == 0) (count_of_id jobs id) (omega (arith, low, few));
 }
 
-edited-fits : (path bytes : List ℕ) → IsTrue (is_job_path path) → IsJob (edited_job path bytes)
+pub edited-fits : (path bytes : List ℕ) → IsTrue (is_job_path path) → IsJob (edited_job path bytes)
 edited-fits path bytes plain =
     record { path = plain; digest = sha1-length bytes; digest_bytes = sha1-bytes bytes; id = refl; id_bytes = bytes-none; number = omega arith }
 

@@ -32,7 +32,7 @@ fn push_path(out: &mut Vec<u8>, path: &str) -> Result<(), AllocError>
 
 /// The list of the sources.
 #[tactic(auto, using(crate::proofs::ListLaws::list_rules))]
-pub(crate) fn source_list(alloc: Global, names: &[Vec<u8>]) -> Result<Vec<u8>, AllocError>
+pub fn source_list(alloc: Global, names: &[Vec<u8>]) -> Result<Vec<u8>, AllocError>
     ensures value { IfOk result (λ v. v.items ≡ source_list (map bytes_of names.now)) }
 {
     let mut out = Vec::new(alloc);

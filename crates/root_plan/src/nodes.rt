@@ -203,14 +203,14 @@ fn edited_nodes<J: Judge>(
 }
 
 /// The digest of a file.
-fn digest_of(bytes: &Blob) -> [u8; 20]
+pub fn digest_of(bytes: &Blob) -> [u8; 20]
     ensures value { result ≡ sha1 bytes.now }
 {
     Sha1::digest(bytes.as_slice())
 }
 
 /// Whether a file has this digest.
-fn has_digest(bytes: &Blob, digest: &[u8; 20]) -> bool
+pub fn has_digest(bytes: &Blob, digest: &[u8; 20]) -> bool
     ensures value { result ≡ same_text (sha1 bytes.now) digest.now }
 {
     digest_of(bytes).as_slice() == digest.as_slice()

@@ -41,7 +41,7 @@ pub fn run_key(alloc: Global, options: &Options) -> Result<RunKey, AllocError>
 }
 
 /// The names of a set, in byte order.
-fn in_order(alloc: Global, names: BTreeSet<Vec<u8>>) -> Result<Vec<Vec<u8>>, AllocError>
+pub fn in_order(alloc: Global, names: BTreeSet<Vec<u8>>) -> Result<Vec<Vec<u8>>, AllocError>
     ensures value { IfOk result (λ v. v.items ≡ names.keys) }
 {
     let mut list = Vec::new(alloc);

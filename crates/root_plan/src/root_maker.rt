@@ -28,7 +28,7 @@ pub struct RootMaker<J> {
 
 /// The job of a number.
 #[tactic(auto, using(crate::proofs::MakerLaws::view_rules))]
-fn job_of(plan: &PlanData, job: u32) -> &JobLine
+pub fn job_of(plan: &PlanData, job: u32) -> &JobLine
     requires there { job < length plan.now.jobs }
     ensures value { result.now ≡ job_at plan.now.jobs job }
 {

@@ -110,7 +110,7 @@ fn add_sources(sources: &mut BTreeSet<Vec<u8>>, names: Vec<Vec<u8>>) -> Result<(
 }
 
 /// The job of a file that is edited.
-fn edited_job(alloc: Global, path: &str, bytes: &[u8]) -> Result<JobLine, AllocError>
+pub fn edited_job(alloc: Global, path: &str, bytes: &[u8]) -> Result<JobLine, AllocError>
     ensures value { IfOk result (λ job. job ≡ edited_job path.now bytes.now) }
 {
     let path = Text::copy_of(alloc, path)?;

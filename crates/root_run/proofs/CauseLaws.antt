@@ -39,21 +39,21 @@ pub record Kept (root : List ℕ) (old new : Seen) : Type 0 where
   pub later : old.faults ≤ new.faults
   pub others : old.tells ≡ true → (q : List ℕ) → is_below root q ≡ false → fin.get (map_now new.past) q ≡ fin.get (map_now old.past) q
 
-kept-then : (root : List ℕ) (a b c : Seen) → Kept root a b → Kept root b c → Kept root a c
+pub kept-then : (root : List ℕ) (a b c : Seen) → Kept root a b → Kept root b c → Kept root a c
 kept-then root a b c x y = record {
   tells = y.tells ∙ x.tells;
   later = omega (arith, x.later, y.later);
   others = λ t q out. y.others (x.tells ∙ t) q out ∙ x.others t q out;
 }
 
-kept-now : (root : List ℕ) (old new : Seen) → new.tells ≡ old.tells → old.faults ≤ new.faults → now_of new ≡ now_of old → Kept root old new
+pub kept-now : (root : List ℕ) (old new : Seen) → new.tells ≡ old.tells → old.faults ≤ new.faults → now_of new ≡ now_of old → Kept root old new
 kept-now root old new tells later now = record {
   tells = tells;
   later = later;
   others = λ t q out. ap (λ (m : TreeMap). fin.get m q) (maps-same new old (tells ∙ t) t now);
 }
 
-kept-ran : {A : Type 0} (root work : List ℕ) (hits : List ℕ → Type 0) (n : ℕ) (may : Wanted → Type 0) (c : CoreState) (old new : Seen) (r : Result A JournalErr)
+pub kept-ran : {A : Type 0} (root work : List ℕ) (hits : List ℕ → Type 0) (n : ℕ) (may : Wanted → Type 0) (c : CoreState) (old new : Seen) (r : Result A JournalErr)
     → ((q : List ℕ) → hits q → is_below root q ≡ true) → FinishRan hits n work may c old new r → Kept root old new
 kept-ran root work hits n may c old new r within f = record {
   tells = f.came.tells;

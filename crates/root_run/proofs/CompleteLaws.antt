@@ -196,6 +196,19 @@ or-by : (P : Type 0) (a b : Bool) → (a || b) ≡ true → (a ≡ true → P) �
 or-by P true b e f g = f refl
 or-by P false b e f g = g e
 
+rest-of : (folder path : List ℕ) → is_below folder path ≡ true → path ≡ folder ++ 47 ∷ drop (length (folder ++ 47 ∷ [])) path
+rest-of folder path e = starts-rest path (folder ++ 47 ∷ []) e ∙ append_assoc folder (47 ∷ []) (drop (length (folder ++ 47 ∷ [])) path)
+
+-- a path in a work folder, and one that isn't in it, nor is anything behind it, don't lie below each other
+pub never-nested : (work path other : List ℕ) → ((more : List ℕ) → is_below work (path ++ more) ≡ false) → is_below work other ≡ true → is_nested path other ≡ true → ⊥
+never-nested work path other out inside e =
+    or-by ⊥ (is_below path other) (is_below other path) e
+    (λ f. both-never (is_below work other) inside
+    (subst (λ (q : List ℕ). is_below work q ≡ false) (sym (rest-of path other f)) (out (47 ∷ drop (length (path ++ 47 ∷ [])) other))))
+    (λ f. both-never (is_below work path)
+    (subst (λ (q : List ℕ). is_below work q ≡ true) (sym (rest-of other path f)) (longer-below work other (47 ∷ drop (length (other ++ 47 ∷ [])) path) inside))
+    (subst (λ (q : List ℕ). is_below work q ≡ false) (append-nil path) (out [])))
+
 module _ (root : List ℕ) (start t : TreeMap) (keys : keys_below start root ≡ filter (is_outside root) (keys_below t root)) where
   in-start : (path : List ℕ) → is_below (work_folder root) path ≡ false → Contains (keys_below t root) path → Contains (keys_below start root) path
   in-start path e c = subst (λ (ks : List (List ℕ)). Contains ks path) (sym keys) (contains-kept (is_outside root) (keys_below t root) path (ap not e) c)
@@ -204,22 +217,9 @@ module _ (root : List ℕ) (start t : TreeMap) (keys : keys_below start root ≡
     new-outside : (path : List ℕ) → Contains (new_paths root jobs) path → is_below (work_folder root) path ≡ false
     new-outside path c = subst (λ (p : List ℕ). is_below (work_folder root) p ≡ false) (append-nil path) (new-below root jobs path [] c)
 
-    rest-of : (folder path : List ℕ) → is_below folder path ≡ true → path ≡ folder ++ 47 ∷ drop (length (folder ++ 47 ∷ [])) path
-    rest-of folder path e = starts-rest path (folder ++ 47 ∷ []) e ∙ append_assoc folder (47 ∷ []) (drop (length (folder ++ 47 ∷ [])) path)
-
-    -- a path of the work folder and a new one don't lie below each other
-    never-nested : (path other : List ℕ) → Contains (new_paths root jobs) path → is_below (work_folder root) other ≡ true → is_nested path other ≡ true → ⊥
-    never-nested path other c inside e =
-        or-by ⊥ (is_below path other) (is_below other path) e
-        (λ f. both-never (is_below (work_folder root) other) inside
-        (subst (λ (q : List ℕ). is_below (work_folder root) q ≡ false) (sym (rest-of path other f)) (new-below root jobs path (47 ∷ drop (length (path ++ 47 ∷ [])) other) c)))
-        (λ f. both-never (is_below (work_folder root) path)
-        (subst (λ (q : List ℕ). is_below (work_folder root) q ≡ true) (sym (rest-of other path f))
-        (longer-below (work_folder root) other (47 ∷ drop (length (other ++ 47 ∷ [])) path) inside)) (new-outside path c))
-
     nested-back : (path other : List ℕ) (b : Bool) → is_below (work_folder root) other ≡ b → Contains (new_paths root jobs) path → Contains (keys_below t root) other → is_nested path other ≡ true
         → IsTaken (keys_below start root) (new_paths root jobs) path
-    nested-back path other true inside c d e = absurd (never-nested path other c inside e)
+    nested-back path other true inside c d e = absurd (never-nested (work_folder root) path other (λ more. new-below root jobs path more c) inside e)
     nested-back path other false outside c d e = taken.nested {other = other} c (in-start other outside d) e
 
     taken-back : (path : List ℕ) → IsTaken (keys_below t root) (new_paths root jobs) path → IsTaken (keys_below start root) (new_paths root jobs) path
@@ -257,7 +257,7 @@ module _ (root : List ℕ) (start t : TreeMap) (keys : keys_below start root ≡
 
 -- ### The run
 
-none-by : (o : Option Node) (b : Bool) → b ≡ is_some o → b ≡ false → o ≡ None
+pub none-by : (o : Option Node) (b : Bool) → b ≡ is_some o → b ≡ false → o ≡ None
 none-by None b e f = refl
 none-by (Some n) b e f = absurd (both-never b e f)
 

@@ -51,6 +51,7 @@ use Rattle.root_run.proofs.FirstLaws.{now-tells, maps-same, looked-first}
 use Rattle.root_run.proofs.GivenLaws.{wanted-given}
 use Rattle.root_run.proofs.JournaledLaws.{Journaled}
 use Rattle.root_run.proofs.MildLaws.{opens-mild}
+use Rattle.root_run.proofs.OldLaws.{root-texts}
 use Rattle.root_run.proofs.RootStartLaws.{finished-found, resumed-found, fresh-found, fresh-keeps, root-names, root-run, root-plan-fits}
 use Rattle.root_run.proofs.TextLaws.{resumed-own, finished-own}
 use Rattle.root_run.proofs.WaysLaws.{over_core, shown_over, shown_new, shown_resumed}
@@ -205,7 +206,7 @@ twice-more : (n : ℕ) → 2 ≤ n + 3
 twice-more n = omega arith
 
 -- the finished text of a plan is the one that is put anew
-end-wanted : (p : PlanData) (key : RunKey) (report : List ℕ) → p.key ≡ key → report ≡ p.report → finished_text p ≡ end_text key report
+pub end-wanted : (p : PlanData) (key : RunKey) (report : List ℕ) → p.key ≡ key → report ≡ p.report → finished_text p ≡ end_text key report
 end-wanted p key report same is = ap (λ (k : RunKey). end_text k p.report) same ∙ ap (λ (r : List ℕ). end_text key r) (sym is)
 
 -- a key that a text says can be said
@@ -249,7 +250,7 @@ module _ (start : TreeMap) (root : List ℕ) (s : Settings) (v : JudgeView) (fai
           let x = finished-opened (work_folder root) paths (key_of s) at report earlier o in
           let g = finished-found start root s v fails u.clean old.past f.mid.past mid paths u.partway (f.settled u.tells) mid-looks mid-walked x.there in
           let fits : IsPlan g.p = root-plan-fits start root s v fails u.clean g.p g.made judge maps within (key-kept s x.fits) g.planned in
-          let own = finished-own start root (work_folder root) g.p g.made at (at_tells ∙ u.tells) fits
+          let own = finished-own (wanted_of start root (work_folder root) g.p g.made) g.p (root-texts start root (work_folder root) g.p g.made) at (at_tells ∙ u.tells) fits
           (subst (IsPartway (wanted_of start root (work_folder root) g.p g.made)) at-same g.partway) (key_of s) report earlier x.kept in
           let is_old : is_old_end (map_now mid.past) (work_folder root) ≡ earlier = ap (λ (t : TreeMap). is_old_end t (work_folder root)) at-same ∙ sym own.old_is in
           record {
@@ -292,7 +293,7 @@ module _ (start : TreeMap) (root : List ℕ) (s : Settings) (v : JudgeView) (fai
           let x = plan-opened (work_folder root) paths (key_of s) at p o in
           let g = resumed-found start root s v fails u.clean old.past f.mid.past mid paths u.partway (f.settled u.tells) mid-looks mid-walked x.none x.there in
           let fits : IsPlan g.p = root-plan-fits start root s v fails u.clean g.p g.made judge maps within (key-kept s x.key_fits) g.planned in
-          let own = resumed-own start root (work_folder root) g.p g.made at (at_tells ∙ u.tells) fits
+          let own = resumed-own (wanted_of start root (work_folder root) g.p g.made) g.p (root-texts start root (work_folder root) g.p g.made) at (at_tells ∙ u.tells) fits
           (subst (IsPartway (wanted_of start root (work_folder root) g.p g.made)) at-same g.partway) (key_of s) p x.kept in
           let planned : IsRootPlan start root s v fails p g.made = subst (λ (q : PlanData). IsRootPlan start root s v fails q g.made) (sym own.0) g.planned in
           let keeps : Keeps (wanted_of start root (work_folder root) p g.made) (core_from false (work_folder root) paths (steps_of p)) (state_of mid.past) =

@@ -46,10 +46,10 @@ use Rattle.root_run.proofs.WantedLaws.{jobs-in, steps-at}
 
 -- ### Paths in lists
 
-has-from : (paths : List (List ℕ)) (q : List ℕ) → Contains paths q → has_path paths q ≡ true
+pub has-from : (paths : List (List ℕ)) (q : List ℕ) → Contains paths q → has_path paths q ≡ true
 has-from paths q c = any-compared q paths ∙ list_any-from_Contains (eq_by_cmp_equiv nat_list_cmp_total) q paths c
 
-has-in : (paths : List (List ℕ)) (q : List ℕ) → has_path paths q ≡ true → Contains paths q
+pub has-in : (paths : List (List ℕ)) (q : List ℕ) → has_path paths q ≡ true → Contains paths q
 has-in paths q h = Contains-from_any same_text-true q paths h
 
 -- paths that differ, all of which are in a list, are at most as many as it has

@@ -85,7 +85,7 @@ settle-failed root s old new tree.NoMemory failed now tells cause = record {
   ends = early.no_memory;
 }
 
-err-failed : (r : Result (Unit {0}) TreeErr) (e : TreeErr) → r ≡ Err e → e ≡ tree.Failed → IsErrOf r tree.Failed
+pub err-failed : (r : Result (Unit {0}) TreeErr) (e : TreeErr) → r ≡ Err e → e ≡ tree.Failed → IsErrOf r tree.Failed
 err-failed r e is same = is ∙ ap (λ (x : TreeErr). Err x) same
 
 pub settle-early : (root : List ℕ) (s : Settings) (old new : Seen) (r : Result (Unit {0}) TreeErr) (e : TreeErr) → r ≡ Err e

@@ -82,7 +82,7 @@ ended-mild : (r : Result (Unit {0}) JournalErr) (report : List ℕ) → IfErr r 
 ended-mild (Ok a) report h = tt
 ended-mild (Err e) report h = h
 
-at-ok : {A : Type 0} (r : Result A JournalErr) (a : A) (X : Type 0) → r ≡ Ok a → OnOk r X → X
+pub at-ok : {A : Type 0} (r : Result A JournalErr) (a : A) (X : Type 0) → r ≡ Ok a → OnOk r X → X
 at-ok (Ok b) a X e h = h
 at-ok (Err d) a X e h = absurd (no-ok d a e)
   where

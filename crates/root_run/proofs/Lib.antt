@@ -25,6 +25,7 @@ pub mod EnteredLaws
 pub mod RunLaws
 pub mod CauseLaws
 pub mod EndsLaws
+pub mod ShownLaws
 pub mod DueLaws
 pub mod StatusLaws
 pub mod StartEndsLaws

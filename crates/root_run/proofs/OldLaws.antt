@@ -10,7 +10,7 @@ use Rattle.file_tree.specs.declared.node.Node.TheVariants as node
 use Rattle.file_tree.specs.Seen.{Seen}
 use Rattle.file_tree.specs.Trees.{TreeMap}
 use Rattle.journal_core.specs.Marks.{Mark, Marking, absent, first, whole, any, earlier, is_earlier, is_kept, is_own}
-use Rattle.journal_core.specs.Names.{fresh, final}
+use Rattle.journal_core.specs.Names.{plan, fresh, final}
 use Rattle.journal_core.specs.Shapes.{HasShape}
 use Rattle.journal_core.specs.Shapes.{HasShape as shape}
 use Rattle.journal_core.specs.Table.{closed_core, old_core}
@@ -20,13 +20,14 @@ use Rattle.work_texts.specs.declared.plan.FinishedData.{FinishedData}
 use Rattle.work_texts.specs.declared.plan.PlanData.{PlanData}
 use Rattle.work_texts.specs.Fields.{Field, text_of, key_fields, more_fields, more_pairs, keyed_fields, finished_word, finished_fields, plan_rest, plan_fields}
 use Rattle.work_journal.specs.Ending.{text_file}
-use Rattle.work_journal.specs.Wanted.{IsPartway, MarkHas}
+use Rattle.work_journal.specs.Finishing.{plan_node}
+use Rattle.work_journal.specs.Wanted.{Wanted, IsPartway, MarkHas}
 use Rattle.work_journal.specs.Work.{work_path}
 use Rattle.root_run.specs.declared.run_err.RunErr.{RunErr}
 use Rattle.root_run.specs.Cores.{says_old, is_old_end}
 use Rattle.root_run.specs.Starts.{ClearEnded, ClearRan, IsEndRun, end_text, report_of}
 use Rattle.root_run.specs.Starts.{ClearEnded as over}
-use Rattle.root_run.specs.Wholes.{wanted_of, steps_of, end_of, finished_text, is_one, old_plan_text, old_finished_text, older_text}
+use Rattle.root_run.specs.Wholes.{wanted_of, end_of, finished_text, is_one, old_plan_text, old_finished_text, older_text}
 
 -- ### The version's digit
 
@@ -88,12 +89,25 @@ older-says : (b : Bool) (text : List ℕ) → (get_or text 12 0 == 49) ≡ true 
 older-says true text digit some = digit
 older-says false text digit some = absurd (some refl)
 
-pub marked-old : (start : TreeMap) (root work : List ℕ) (p : PlanData) (made : List (List Node)) (t : TreeMap) (partway : IsPartway (wanted_of start root work p made) t)
-    → is_earlier (partway.marking.final 3) ≡ is_old_end t work
-marked-old start root work p made t partway =
-    mark-says (partway.marking.final 3) (fin.get start (work_path work (final 3))) (text_file (finished_text p)) (older_text p (old_finished_text p)) (fin.get t (work_path work (final 3)))
-    (finished-mark (steps_of p) partway.marking partway.shape) (end-digit (end_of false p)) (older-says (is_one p) (old_finished_text p) (end-digit (end_of true p)))
-    (partway.has.named (final 3) (omega arith))
+-- what is wanted has the texts of a plan, as this program and an earlier one write them
+pub record HasTexts (w : Wanted) (p : PlanData) : Type 0 where
+  pub plan_is : w.node plan ≡ plan_node p
+  pub plan_old : w.older plan ≡ older_text p (old_plan_text p)
+  pub end_is : w.node (final 3) ≡ text_file (finished_text p)
+  pub end_old : w.older (final 3) ≡ older_text p (old_finished_text p)
+
+-- so has what is wanted of a root
+pub root-texts : (start : TreeMap) (root work : List ℕ) (p : PlanData) (made : List (List Node)) → HasTexts (wanted_of start root work p made) p
+root-texts start root work p made = record { plan_is = refl; plan_old = refl; end_is = refl; end_old = refl }
+
+pub marked-old : (w : Wanted) (p : PlanData) → HasTexts w p → (t : TreeMap) (partway : IsPartway w t) → is_earlier (partway.marking.final 3) ≡ is_old_end t w.work
+marked-old w p texts t partway =
+    let has : MarkHas (partway.marking.final 3) (fin.get w.start (work_path w.work (final 3))) (w.node (final 3)) (older_text p (old_finished_text p)) (fin.get t (work_path w.work (final 3))) =
+    subst (λ (o : Option Node). MarkHas (partway.marking.final 3) (fin.get w.start (work_path w.work (final 3))) (w.node (final 3)) o (fin.get t (work_path w.work (final 3)))) texts.end_old
+    (partway.has.named (final 3) (omega arith)) in
+    mark-says (partway.marking.final 3) (fin.get w.start (work_path w.work (final 3))) (text_file (finished_text p)) (older_text p (old_finished_text p)) (fin.get t (work_path w.work (final 3)))
+    (finished-mark w.steps partway.marking partway.shape) (end-digit (end_of false p)) (older-says (is_one p) (old_finished_text p) (end-digit (end_of true p)))
+    (subst (λ (n : Node). MarkHas (partway.marking.final 3) (fin.get w.start (work_path w.work (final 3))) n (older_text p (old_finished_text p)) (fin.get t (work_path w.work (final 3)))) texts.end_is has)
 
 -- ### What is read of an older text
 

@@ -43,7 +43,7 @@ use Rattle.root_run.specs.RootRuns.{IsRootWanted, IsPartwayRun}
 use Rattle.root_run.specs.Wholes.{IsClean, IsRootPlan, wanted_of, steps_of, lists_of, finished_text}
 use Rattle.root_run.proofs.GivenLaws.{wanted-given}
 use Rattle.root_run.proofs.KeysLaws.{keys-order, keys-have, root-below, work-below}
-use Rattle.root_run.proofs.OldLaws.{marked-old}
+use Rattle.root_run.proofs.OldLaws.{marked-old, root-texts}
 use Rattle.root_run.proofs.PlanLaws.{run-fits}
 use Rattle.root_run.proofs.RootLaws.{HasRootPlan, root-planned, plan-wanted, plan-final, same-jobs}
 use Rattle.root_run.proofs.StartLaws.{HasNames, way-finished, way-resumed, way-unstarted, way-fresh, settled-partway, start-leaves}
@@ -77,7 +77,7 @@ module _ (start : TreeMap) (root : List ℕ) (s : Settings) (v : JudgeView) (fai
   root-old : (w : Wanted) → Root w → (t : TreeMap) (p : IsPartway w t) → is_earlier (p.marking.final 3) ≡ is_old_end t (work_folder root)
   root-old w is =
       subst (λ (x : Wanted). (t : TreeMap) (p : IsPartway x t) → is_earlier (p.marking.final 3) ≡ is_old_end t (work_folder root)) (sym is.is)
-      (marked-old start root (work_folder root) is.plan is.made)
+      (marked-old (wanted is.plan is.made) is.plan (root-texts start root (work_folder root) is.plan is.made))
 
   pub root-names : (t : TreeMap) (paths : List (List ℕ)) → AreWalked (Some t) root paths → HasNames (work_folder root) t paths
   root-names t paths walked = subst (HasNames (work_folder root) t) (sym (walked.all.are t refl))

@@ -144,7 +144,7 @@ walk-refused root old new e walk.memory is = cc
 -- ### A text of the work folder
 
 -- an end that names a text
-abbrev is_of_text : JournalErr → Bool
+abbrev pub is_of_text : JournalErr → Bool
 is_of_text (journal.Changed path planned digest) = false
 is_of_text (journal.Refused path r) = false
 is_of_text journal.Tree = false
@@ -152,7 +152,7 @@ is_of_text journal.NoMemory = false
 is_of_text (journal.PlanText file at) = true
 is_of_text (journal.OtherRun field kept given) = true
 
-abbrev err_of : JournalErr → Result Opened JournalErr
+abbrev pub err_of : JournalErr → Result Opened JournalErr
 err_of e = Err e
 
 no-ok : (o : Opened) (e : JournalErr) → Ok o ≡ err_of e → ⊥
@@ -208,7 +208,7 @@ ended-text seen path key r e (finished_kept.finished_not_there {e = d} b) h hard
 ended-text seen path key r e (finished_kept.finished_bad {e = d} bytes stands b) h hard = as-err d e h (finished-text bytes d e h hard b)
 ended-text seen path key r e (finished_kept.finished_other {e = d} bytes x stands is b) h hard = as-err d e h (key-text x.key key d e h hard b)
 
-opens-text : (work : List ℕ) (paths : List (List ℕ)) (key : RunKey) (seen : Seen) (r : Result Opened JournalErr) (e : JournalErr) → Opens work paths key seen r → r ≡ err_of e → is_mild_run e ≡ false
+pub opens-text : (work : List ℕ) (paths : List (List ℕ)) (key : RunKey) (seen : Seen) (r : Result Opened JournalErr) (e : JournalErr) → Opens work paths key seen r → r ≡ err_of e → is_mild_run e ≡ false
     → is_of_text e ≡ true
 opens-text work paths key seen r e opens.opens_memory h hard = absurd (mild-not journal.NoMemory e h hard refl)
 opens-text work paths key seen r e (opens.opens_empty a b) h hard = absurd (no-ok opened.Empty e h)

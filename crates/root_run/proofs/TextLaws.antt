@@ -28,9 +28,9 @@ use Rattle.work_journal.specs.Opening.{PlanKept as plan_kept, FinishedKept as fi
 use Rattle.work_journal.specs.Wanted.{Wanted, IsPartway, IsThere, MarkHas}
 use Rattle.work_journal.specs.Work.{work_path}
 use Rattle.root_run.specs.Cores.{is_old_end}
-use Rattle.root_run.specs.Wholes.{wanted_of, end_of, finished_text, older_text, old_plan_text, old_finished_text}
+use Rattle.root_run.specs.Wholes.{end_of, finished_text, older_text, old_plan_text, old_finished_text}
 use Rattle.root_run.proofs.MadeLaws.{Stands, read-stands}
-use Rattle.root_run.proofs.OldLaws.{IsOlder, file-says, plan-mark, finished-mark, older-read, old-plan-shorter, old-end-shorter}
+use Rattle.root_run.proofs.OldLaws.{HasTexts, IsOlder, file-says, plan-mark, finished-mark, older-read, old-plan-shorter, old-end-shorter}
 
 -- ### What the marks say
 
@@ -120,27 +120,37 @@ own-plan-within p bytes is short = subst (λ (b : List ℕ). length b ≤ text_l
 pub own-end-within : (p : PlanData) (bytes : List ℕ) → IsOwnEnd p bytes → length (finished_text p) ≤ text_limit → length bytes ≤ text_limit
 own-end-within p bytes is short = subst (λ (b : List ℕ). length b ≤ text_limit) (sym is.text) (end-within p is.old short)
 
-module _ (start : TreeMap) (root work : List ℕ) (p : PlanData) (made : List (List Node)) (t : TreeMap) (partway : IsPartway (wanted_of start root work p made) t) where
-  -- the bytes of a file at the plan's path are the plan's text, of either version
-  pub plan-bytes : (bytes : List ℕ) (mode : ℕ) → stands_at t (work_path work plan) text_limit ≡ found.File bytes mode → IsOwnPlan p bytes
-  plan-bytes bytes mode e =
-      read-plan p (fin.get t (work_path work plan)) bytes mode text_limit (own-plan (wanted_of start root work p made) t partway)
-      (read-stands t (work_path work plan) text_limit bytes mode e)
+module _ (w : Wanted) (p : PlanData) (texts : HasTexts w p) (t : TreeMap) (partway : IsPartway w t) where
+  pub told-plan : IsOwn (plan_node p) (older_text p (old_plan_text p)) (fin.get t (work_path w.work plan))
+  told-plan =
+      subst (λ (n : Node). IsOwn n (older_text p (old_plan_text p)) (fin.get t (work_path w.work plan))) texts.plan_is
+      (subst (λ (o : Option Node). IsOwn (w.node plan) o (fin.get t (work_path w.work plan))) texts.plan_old (own-plan w t partway))
 
-  pub finished-bytes : (bytes : List ℕ) (mode : ℕ) → stands_at t (work_path work (final 3)) text_limit ≡ found.File bytes mode → IsOwnEnd p bytes
+  pub told-end : IsOwn (text_file (finished_text p)) (older_text p (old_finished_text p)) (fin.get t (work_path w.work (final 3)))
+  told-end =
+      subst (λ (n : Node). IsOwn n (older_text p (old_finished_text p)) (fin.get t (work_path w.work (final 3)))) texts.end_is
+      (subst (λ (o : Option Node). IsOwn (w.node (final 3)) o (fin.get t (work_path w.work (final 3)))) texts.end_old (own-finished w t partway))
+
+  -- the bytes of a file at the plan's path are the plan's text, of either version
+  pub plan-bytes : (bytes : List ℕ) (mode : ℕ) → stands_at t (work_path w.work plan) text_limit ≡ found.File bytes mode → IsOwnPlan p bytes
+  plan-bytes bytes mode e =
+      read-plan p (fin.get t (work_path w.work plan)) bytes mode text_limit told-plan
+      (read-stands t (work_path w.work plan) text_limit bytes mode e)
+
+  pub finished-bytes : (bytes : List ℕ) (mode : ℕ) → stands_at t (work_path w.work (final 3)) text_limit ≡ found.File bytes mode → IsOwnEnd p bytes
   finished-bytes bytes mode e =
-      read-end p (fin.get t (work_path work (final 3))) bytes mode text_limit (own-finished (wanted_of start root work p made) t partway)
-      (read-stands t (work_path work (final 3)) text_limit bytes mode e)
+      read-end p (fin.get t (work_path w.work (final 3))) bytes mode text_limit told-end
+      (read-stands t (work_path w.work (final 3)) text_limit bytes mode e)
 
   -- so what is read there is the plan, and the end of its run
-  pub plan-read : (bytes : List ℕ) (mode : ℕ) (q : PlanData) → IsPlan p → stands_at t (work_path work plan) text_limit ≡ found.File bytes mode → IsPlanText bytes q → q ≡ p
+  pub plan-read : (bytes : List ℕ) (mode : ℕ) (q : PlanData) → IsPlan p → stands_at t (work_path w.work plan) text_limit ≡ found.File bytes mode → IsPlanText bytes q → q ≡ p
   plan-read bytes mode q fits e text =
       let is : IsOwnPlan p bytes = plan-bytes bytes mode e in
       ap (λ v. v.plan)
       (one-value plan_text_fields IsVersionedPlan plan_at plan_reader (record { old = text.old; plan = q }) (record { old = is.old; plan = p }) (record { plan = text.plan; one = text.one })
       (own-plan-fits p bytes fits is) (sym text.text ∙ is.text))
 
-  pub finished-read : (bytes : List ℕ) (mode : ℕ) (d : FinishedData) → IsPlan p → stands_at t (work_path work (final 3)) text_limit ≡ found.File bytes mode
+  pub finished-read : (bytes : List ℕ) (mode : ℕ) (d : FinishedData) → IsPlan p → stands_at t (work_path w.work (final 3)) text_limit ≡ found.File bytes mode
       → IsFinishedText bytes d → (d.report ≡ p.report) × (d.key ≡ p.key)
   finished-read bytes mode d fits e text =
       let is : IsOwnEnd p bytes = finished-bytes bytes mode e in
@@ -149,9 +159,9 @@ module _ (start : TreeMap) (root work : List ℕ) (p : PlanData) (made : List (L
       (ap (λ (x : FinishedData). x.report) same, ap (λ (x : FinishedData). x.key) same)
 
   -- and it says whether an earlier program wrote it
-  pub finished-old : (bytes : List ℕ) (mode : ℕ) (d : FinishedData) → stands_at t (work_path work (final 3)) text_limit ≡ found.File bytes mode → IsFinishedText bytes d → d.old ≡ is_old_end t work
+  pub finished-old : (bytes : List ℕ) (mode : ℕ) (d : FinishedData) → stands_at t (work_path w.work (final 3)) text_limit ≡ found.File bytes mode → IsFinishedText bytes d → d.old ≡ is_old_end t w.work
   finished-old bytes mode d e text =
-      sym (file-says (fin.get t (work_path work (final 3))) bytes mode d (read-stands t (work_path work (final 3)) text_limit bytes mode e).there text.text)
+      sym (file-says (fin.get t (work_path w.work (final 3))) bytes mode d (read-stands t (work_path w.work (final 3)) text_limit bytes mode e).there text.text)
 
 -- ### What a start opens
 
@@ -170,39 +180,38 @@ same-report r d a b e = cc
 same-old : (r d : List ℕ) (a b : Bool) → ok_of (opened.Finished r a) ≡ ok_of (opened.Finished d b) → a ≡ b
 same-old r d a b e = cc
 
-module _ (start : TreeMap) (root work : List ℕ) (p : PlanData) (made : List (List Node)) (seen : Seen) (tells : seen.tells ≡ true) (fits : IsPlan p)
-    (partway : IsPartway (wanted_of start root work p made) (map_now seen.past)) where
-  resumed-by : (key : RunKey) (r : Result Opened JournalErr) (q : PlanData) → r ≡ ok_of (opened.Resumed q) → PlanKept seen (work_path work plan) key r → (q ≡ p) × (p.key ≡ key)
+module _ (w : Wanted) (p : PlanData) (texts : HasTexts w p) (seen : Seen) (tells : seen.tells ≡ true) (fits : IsPlan p) (partway : IsPartway w (map_now seen.past)) where
+  resumed-by : (key : RunKey) (r : Result Opened JournalErr) (q : PlanData) → r ≡ ok_of (opened.Resumed q) → PlanKept seen (work_path w.work plan) key r → (q ≡ p) × (p.key ≡ key)
   resumed-by key r q e (plan_kept.plan_read bytes x stands text same) =
-      let own : x ≡ p = plan-read start root work p made (map_now seen.past) partway bytes stands.mode x fits (stands.is tells) text in
+      let own : x ≡ p = plan-read w p texts (map_now seen.past) partway bytes stands.mode x fits (stands.is tells) text in
       (sym (same-plan x q e) ∙ own, ap (λ (y : PlanData). y.key) (sym own) ∙ same)
   resumed-by key r q e (plan_kept.plan_not_there {e = x} h) = absurd (no-err (opened.Resumed q) x e)
   resumed-by key r q e (plan_kept.plan_bad {e = x} bytes stands h) = absurd (no-err (opened.Resumed q) x e)
   resumed-by key r q e (plan_kept.plan_other {e = x} bytes y stands text h) = absurd (no-err (opened.Resumed q) x e)
 
   -- a start that finds the plan takes it up by the plan of the run
-  pub resumed-own : (key : RunKey) (q : PlanData) → PlanKept seen (work_path work plan) key (Ok (opened.Resumed q)) → (q ≡ p) × (p.key ≡ key)
+  pub resumed-own : (key : RunKey) (q : PlanData) → PlanKept seen (work_path w.work plan) key (Ok (opened.Resumed q)) → (q ≡ p) × (p.key ≡ key)
   resumed-own key q kept = resumed-by key (ok_of (opened.Resumed q)) q refl kept
 
   -- the end of this run, as it was read
   pub record IsEndRead (key : RunKey) (report : List ℕ) (old : Bool) : Type 0 where
     pub report_is : report ≡ p.report
     pub key_is : p.key ≡ key
-    pub old_is : old ≡ is_old_end (map_now seen.past) work
+    pub old_is : old ≡ is_old_end (map_now seen.past) w.work
 
-  finished-by : (key : RunKey) (r : Result Opened JournalErr) (report : List ℕ) (old : Bool) → r ≡ ok_of (opened.Finished report old) → FinishedKept seen (work_path work (final 3)) key r
+  finished-by : (key : RunKey) (r : Result Opened JournalErr) (report : List ℕ) (old : Bool) → r ≡ ok_of (opened.Finished report old) → FinishedKept seen (work_path w.work (final 3)) key r
       → IsEndRead key report old
   finished-by key r report old e (finished_kept.finished_read bytes x stands text same) =
-      let is = finished-read start root work p made (map_now seen.past) partway bytes stands.mode x fits (stands.is tells) text in
+      let is = finished-read w p texts (map_now seen.past) partway bytes stands.mode x fits (stands.is tells) text in
       record {
         report_is = sym (same-report x.report report x.old old e) ∙ is.0;
         key_is = sym is.1 ∙ same;
-        old_is = sym (same-old x.report report x.old old e) ∙ finished-old start root work p made (map_now seen.past) partway bytes stands.mode x (stands.is tells) text;
+        old_is = sym (same-old x.report report x.old old e) ∙ finished-old w p texts (map_now seen.past) partway bytes stands.mode x (stands.is tells) text;
       }
   finished-by key r report old e (finished_kept.finished_not_there {e = x} h) = absurd (no-err (opened.Finished report old) x e)
   finished-by key r report old e (finished_kept.finished_bad {e = x} bytes stands h) = absurd (no-err (opened.Finished report old) x e)
   finished-by key r report old e (finished_kept.finished_other {e = x} bytes y stands text h) = absurd (no-err (opened.Finished report old) x e)
 
   -- and one that finds the finished text answers the report of the run
-  pub finished-own : (key : RunKey) (report : List ℕ) (old : Bool) → FinishedKept seen (work_path work (final 3)) key (Ok (opened.Finished report old)) → IsEndRead key report old
+  pub finished-own : (key : RunKey) (report : List ℕ) (old : Bool) → FinishedKept seen (work_path w.work (final 3)) key (Ok (opened.Finished report old)) → IsEndRead key report old
   finished-own key report old kept = finished-by key (ok_of (opened.Finished report old)) report old refl kept

@@ -83,6 +83,17 @@ pub record IsFresh (root work : List ℕ) (t : TreeMap) : Type 0 where
   pub finished : has_path (keys_below t root) (work_path work (final 3)) ≡ false
   pub begun : has_path (keys_below t root) (work_path work plan) ≡ false
 
+-- the status that is due of the finished text, where that is there; or else of the plan's
+pub data TextShown (root work : List ℕ) (key : RunKey) (t : TreeMap) (n : ℕ) : Type 0 where
+  end_shown : IsFinished root work t → TextDue IsFinishedText (λ (d : FinishedData). d.key) key (stands_at t (work_path work (final 3)) text_limit) n
+      → TextShown root work key t n
+  plan_shown : IsBegun root work t → TextDue IsPlanText (λ (p : PlanData). p.key) key (stands_at t (work_path work plan) text_limit) n → TextShown root work key t n
+
+-- a plan of this run
+pub record HasOwnPlan (root work : List ℕ) (key : RunKey) (t : TreeMap) : Type 0 where
+  pub begun : IsBegun root work t
+  pub own : TextDue IsPlanText (λ (p : PlanData). p.key) key (stands_at t (work_path work plan) text_limit) 0
+
 pub data RunDue (root work : List ℕ) (s : Settings) (v : JudgeView) (fails : List ℕ → List ℕ → Refusal → Type 0) (t : TreeMap) (n : ℕ) : Type 0 where
   too_many : most_paths < length (keys_below t root) → n ≡ 8 → RunDue root work s v fails t n
   none : keys_below t root ≡ [] → n ≡ 4 → RunDue root work s v fails t n

@@ -18,3 +18,4 @@ mod ways;
 
 pub use run_err::RunErr;
 pub use running::run_root;
+pub use ways::{Texts, clear_finished, first_core, renew_finished, texts_of};

@@ -33,7 +33,7 @@ use work_journal::{Desk, JournalErr, Maker, Opened, clear, finish, renew, shown,
 use work_texts::{PlanData, write_finished, write_plan};
 
 /// Clears the work folder of a run that is over.
-fn clear_finished<T: Tree>(alloc: Global, tree: &mut T, work: &str) -> Result<(), JournalErr>
+pub fn clear_finished<T: Tree>(alloc: Global, tree: &mut T, work: &str) -> Result<(), JournalErr>
     ensures ran { ClearRan work.now (λ w. ⊤) 1 closed_core (T.seen tree.old) (T.seen tree.new) result }
 {
     let mut desk = Desk::new(tree, Core::closed(alloc));
@@ -62,7 +62,7 @@ fn renew_at<T: Tree>(
 }
 
 /// Does that for a run that an earlier program finished.
-fn renew_finished<T: Tree>(
+pub fn renew_finished<T: Tree>(
     alloc: Global,
     tree: &mut T,
     work: &str,
@@ -88,14 +88,17 @@ fn report_end(ended: Result<(), JournalErr>, report: Blob) -> Result<Blob, RunEr
 
 /// The texts of a plan's run.
 #[derive(Drop)]
-struct Texts {
-    plan: Vec<u8>,
-    finished: Vec<u8>,
-    report: Blob,
+pub struct Texts {
+    /// The plan.
+    pub plan: Vec<u8>,
+    /// The text that tells its end.
+    pub finished: Vec<u8>,
+    /// Its report.
+    pub report: Blob,
 }
 
 /// The plan as a text, the text that tells its end, and its report.
-fn texts_of(alloc: Global, plan: &PlanData) -> Result<Texts, NoMemory>
+pub fn texts_of(alloc: Global, plan: &PlanData) -> Result<Texts, NoMemory>
     ensures are { IfOk result (λ t. AreRunTexts plan.now t.plan.items t.finished.items t.report) }
 {
     let text = write_plan(alloc, plan)?;
@@ -109,7 +112,7 @@ fn texts_of(alloc: Global, plan: &PlanData) -> Result<Texts, NoMemory>
 }
 
 /// The core of a start by a plan: of one that was just made, or of one that was there.
-fn first_core<M: Maker>(
+pub fn first_core<M: Maker>(
     alloc: Global,
     fresh: bool,
     work: &str,
