@@ -1,0 +1,11 @@
+pub mod Asked
+pub mod Listed
+pub mod Errors
+pub mod Gathering
+pub mod GatherEnds
+pub mod Makers
+pub mod Fits
+pub mod Wholes
+pub mod Partways
+pub mod Starts
+pub mod Dues
