@@ -2,7 +2,7 @@
 _deilmuko() {
     local word=${COMP_WORDS[COMP_CWORD]} before=${COMP_WORDS[COMP_CWORD-1]} options=
     if [ "$COMP_CWORD" -eq 1 ]; then
-        mapfile -t COMPREPLY < <(compgen -W 'edit split show unstrip run' -- "$word")
+        mapfile -t COMPREPLY < <(compgen -W 'edit split show unstrip run gather' -- "$word")
         return
     fi
     case $before in
@@ -17,6 +17,7 @@ _deilmuko() {
     case ${COMP_WORDS[1]} in
     edit) options='--base-dir --dest-dir --more-maps --build-id --seed --list-file --max-file' ;;
     run) options='--base-dir --dest-dir --more-maps --build-id --seed --jobs --skip-refused --max-file' ;;
+    gather) options='--dest-dir --jobs' ;;
     esac
     case $word in
     -*) mapfile -t COMPREPLY < <(compgen -W "$options" -- "$word") ;;

@@ -239,7 +239,7 @@ fn told(alloc: Global, command: &Command) -> Result<String, AllocError> {
         } => {
             let root = root.as_str();
             let from = from.as_str();
-            let dest = text(dest.as_slice());
+            let dest = dest.as_str();
             format!(in alloc; "gather {root} {from} {dest} jobs {jobs}")
         }
         Command::Exercise { seed, units } => format!(in alloc; "exercise {seed} {units}"),

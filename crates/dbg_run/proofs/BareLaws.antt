@@ -139,6 +139,13 @@ cleaned-bare w b =
 pub named-bare : (w : List ℕ) → IsBare w → All IsBare (path_named w)
 named-bare w b = all_if IsBare (is_path_word w) (Some (cleaned w)) None (cleaned-bare w b) tt
 
+-- the same of two words and the two paths that they name
+pub pair-bare : (ws : List (List ℕ)) → AreBare ws → All (λ w. IsBare w.0 × IsBare w.1) (two_of ws)
+pair-bare [] bs = tt
+pair-bare (a ∷ []) bs = tt
+pair-bare (a ∷ b ∷ []) bs = (bs.0, bs.1.0)
+pair-bare (a ∷ b ∷ c ∷ ws) bs = tt
+
 -- ### The name of the file at a path
 
 last-bare : (t : List ℕ) (o : Option (List ℕ × List ℕ)) → IsBare t → All (λ s. IsBare s.1) o → IsBare (parent_and_last t o).1
@@ -182,7 +189,7 @@ abbrev DebugBare : Command → Type 0
 DebugBare (Split input stripped debug) = IsBare debug
 DebugBare c = ⊤
 
-other-bare : (p q w : List ℕ) → IsBare w → All IsBare (other_path p q w)
+pub other-bare : (p q w : List ℕ) → IsBare w → All IsBare (other_path p q w)
 other-bare p q w b =
     all_then IsBare IsBare (unless_among p q) (path_named w) (named-bare w b)
     (λ x bare. all_if IsBare (same_text x p || same_text x q) None (Some x) tt bare)

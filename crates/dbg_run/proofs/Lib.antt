@@ -10,6 +10,7 @@ pub mod SplitLaws
 pub mod SplitEndLaws
 pub mod UnstripLaws
 pub mod RootLaws
+pub mod GatherLaws
 pub mod RootKeptLaws
 pub mod AnswerLaws
 pub mod RootWordLaws

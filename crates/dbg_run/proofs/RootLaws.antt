@@ -49,7 +49,7 @@ use Rattle.dbg_run.specs.Roots.{IsReported as reported, ReportEnds as reports, R
 -- ### The status of an end without a report
 
 -- the end has the error's status
-end_status : (root : List ℕ) (e : RunErr) → status_of (run_end root e) ≡ run_status e
+pub end_status : (root : List ℕ) (e : RunErr) → status_of (run_end root e) ≡ run_status e
 end_status root (run.Plan plan.Absent) = refl
 end_status root (run.Plan plan.Entries) = refl
 end_status root (run.Plan (plan.PathTooLong path)) = refl
@@ -87,7 +87,7 @@ journal_each P three six nine ten eleven want (journal.PlanText file at) = eleve
 journal_each P three six nine ten eleven want (journal.OtherRun field kept given) = nine
 
 -- the statuses of a run that gives no report
-abbrev is_unreported : ℕ → Bool
+abbrev pub is_unreported : ℕ → Bool
 is_unreported n = n == 3 || n == 4 || n == 5 || n == 6 || n == 8 || n == 9 || n == 10 || n == 11 || n == 13
 
 err_unreported : (e : RunErr) → is_unreported (run_status e) ≡ true
@@ -98,7 +98,7 @@ end_unreported : (root : List ℕ) (e : RunErr) → is_unreported (status_of (ru
 end_unreported root e = ap is_unreported (end_status root e) ∙ err_unreported e
 
 -- so it is none of the others
-none_of : (n k : ℕ) → is_unreported n ≡ true → is_unreported k ≡ false → n ≡ k → ⊥
+pub none_of : (n k : ℕ) → is_unreported n ≡ true → is_unreported k ≡ false → n ≡ k → ⊥
 none_of n k is other e = true≢false (sym is ∙ ap is_unreported e ∙ other)
 
 pub not_reported : (n : ℕ) → is_unreported n ≡ true → IsReported n → ⊥
@@ -176,14 +176,14 @@ are_unplanned n (unplanned.limit e) = rw e refl
 are_unplanned n (unplanned.other_run e) = rw e refl
 are_unplanned n (unplanned.plan_text e) = rw e refl
 
-not_unplanned : (n k : ℕ) → is_unplanned k ≡ false → n ≡ k → IsUnplanned n → ⊥
+pub not_unplanned : (n k : ℕ) → is_unplanned k ≡ false → n ≡ k → IsUnplanned n → ⊥
 not_unplanned n k other e is = true≢false (sym (are_unplanned n is) ∙ ap is_unplanned e ∙ other)
 
 true_not : (b : Bool) (X : Type 0) → b ≡ true → b ≡ false → X
 true_not b X is other = absurd (true≢false (sym is ∙ other))
 
 -- an end that names a job's file isn't one of them
-blamed_kept : (v : MakerView) (refuses : ℕ → List ℕ → Refusal → Type 0) (seen : Seen) (e : JournalErr) (X : Type 0) → is_mild_run e ≡ false → RunBlames v refuses seen e
+pub blamed_kept : (v : MakerView) (refuses : ℕ → List ℕ → Refusal → Type 0) (seen : Seen) (e : JournalErr) (X : Type 0) → is_mild_run e ≡ false → RunBlames v refuses seen e
     → IsUnplanned (run_status (run.Journal e)) → X
 blamed_kept v refuses seen (journal.Changed path planned digest) X hard blames is = absurd (not_unplanned 10 10 refl refl is)
 blamed_kept v refuses seen (journal.Refused path refusal) X hard blames is = absurd (not_unplanned 3 3 refl refl is)

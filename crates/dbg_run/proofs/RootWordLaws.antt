@@ -1,10 +1,15 @@
--- What the words of a run say: 1 to 64 of its jobs are in work at a time, and its seed has no NUL, as no word has one.
-use Rattle.std.proofs.Common.{◌≡◌, ℕ, ◌≤◌, ◌<◌, ◌+◌, Bool, true, false, ◌&&◌, ◌||◌, ◌==◌, List, [], ◌∷◌, map, Option, Some, None, refl, subst, lit≤}
-use Rattle.std.specs.Prelude.{if◌then◌else◌, codes, is_some, nat_le, option_and_then, unwrap_or, ⊤}
-use Rattle.std.specs.List.{AllByRecursion, list_any, position_or_len}
+-- What the words of a run or of a gather say: 1 to 64 of its jobs are in work at a time, and its seed has no NUL, as no word has one; what a
+-- gather asks for may be asked for.
+use Rattle.std.proofs.Common.{◌≡◌, ℕ, ◌≤◌, ◌<◌, ◌+◌, Bool, true, false, not, ◌&&◌, ◌||◌, ◌==◌, drop, nat_eq, List, [], ◌∷◌, ◌++◌, map, Option, Some, None, refl, sym, ap, subst, arith, lit≤}
+use Rattle.std.specs.Prelude.{if◌then◌else◌, codes, encode_utf8, is_some, nat_le, option_and_then, unwrap_or, ⊤}
+use Rattle.std.specs.List.{AllByRecursion, list_any, position_or_len, starts_with}
+use Rattle.std.specs.Str.{is_utf8}
 use Rattle.std.specs.Str.Parse.{digits_value}
-use Rattle.std.proofs.lemmas.Bool.{leb-true}
-use Rattle.dw_base.specs.Paths.{PathMap}
+use Rattle.std.proofs.lemmas.Bool.{and_from, leb-true}
+use Rattle.std.proofs.lemmas.Str.{IsUtf8-from_is_utf8, IsUtf8-past_char, encode_ascii, is_utf8-from_IsUtf8}
+use Rattle.dw_base.specs.Paths.{PathMap, is_prefix, lies_under, slash, without_end_slashes}
+use Rattle.dw_base.proofs.PathLaws.{is_prefix-parts, is_prefix-without_end_slashes, without_end_slashes-again}
+use Rattle.dw_paths.specs.PlainPaths.{is_plain}
 use Rattle.dw_base.specs.Texts.{has_nul, is_in, same_text}
 use Rattle.dw_base.proofs.TextLaws.{has_nul-drop}
 use Rattle.job_types.specs.Settings.{HasKey, Settings, most_file}
@@ -13,11 +18,13 @@ use Rattle.dbg_words.specs.CommandLines.Look.{plain, ending, optional, short}
 use Rattle.dbg_words.specs.CommandLines.Part.{path, value, flag}
 use Rattle.dbg_words.specs.Decimals.{is_decimal, number_within}
 use Rattle.dbg_words.specs.PathWords.{path_named}
-use Rattle.dbg_words.specs.Words.{command, command_named, edit_listed, edit_named, edit_of, edit_paths, exercise_named, exercise_of, exercise_seeded, is_bare, list_path, number_or, one_of, other_path, run_below, run_named, run_of, run_settled, settings_limited, settings_mapped, settings_of, show_named, show_of, show_one, split_named, split_of, split_paths, three_of, two_of, two_paths, unstrip_named, unstrip_of, unstrip_paths, are_apart, check_mapped, check_named, check_of, check_paths, gather_into, gather_named, gather_of, gather_paths, has_dest_alone, has_no_job, maps_of, target_of}
+use Rattle.dbg_words.specs.Words.{command, command_named, edit_listed, edit_named, edit_of, edit_paths, exercise_named, exercise_of, exercise_seeded, is_bare, list_path, number_or, one_of, other_path, run_below, run_named, run_of, run_settled, settings_limited, settings_mapped, settings_of, show_named, show_of, show_one, split_named, split_of, split_paths, three_of, two_of, two_paths, unstrip_named, unstrip_of, unstrip_paths, are_apart, check_mapped, check_named, check_of, check_paths, gather_into, gather_named, gather_of, gather_paths, has_dest_alone, has_no_job, maps_of, target_named, target_of, beside, is_target}
 use Rattle.dbg_words.specs.declared.command.Command.{Command}
 use Rattle.dbg_words.specs.declared.command.Command.TheVariants.{Edit, Split, Run, Show, Unstrip, Check, Gather, Exercise}
+use Rattle.src_gather.specs.Asked.{IsAsked, IsDest}
+use Rattle.src_gather.proofs.FolderLaws.{folders-apart, slash-by}
 use Rattle.dbg_run.specs.Built.{built, if_built, is_built}
-use Rattle.dbg_run.proofs.BareLaws.{AreBare, IsBare, words-bare}
+use Rattle.dbg_run.proofs.BareLaws.{AreBare, IsBare, LineBare, line-bare, other-bare, pair-bare, words-bare}
 use Rattle.dbg_run.proofs.BuiltLaws.{All, all_if, all_map, all_then, any}
 
 -- ### Numbers within limits
@@ -134,6 +141,7 @@ line-seed ws bs =
 
 abbrev IsRunFit : Command → Type 0
 IsRunFit (Run root o jobs) = (0 < jobs) × (jobs ≤ 64) × HasKey o
+IsRunFit (Gather root from dest jobs) = (0 < jobs) × (jobs ≤ 64) × IsAsked root from dest
 IsRunFit c = ⊤
 
 unwrap-seed : (o : Option (List ℕ)) → All IsBare o → IsBare (unwrap_or o [])
@@ -208,15 +216,81 @@ check-none l =
     all_then (λ a. ⊤) IsRunFit (check_mapped l p) (other_path p.0 p.1 w.2) (any (other_path p.0 p.1 w.2)) (λ debug _.
     all_map (λ a. ⊤) IsRunFit (λ maps. Check p.0 p.1 debug maps) (maps_of l) (any (maps_of l)) (λ maps _. tt))))) tt
 
-gather-none : (l : CommandLine) → All IsRunFit (gather_of l)
+-- ### A gather
+
+target-parts : (p a b : Bool) → (p && not (a || b)) ≡ true → (p ≡ true) × (a ≡ false) × (b ≡ false)
+target-parts true false false e = (refl, refl, refl)
+target-parts true false true e = cc
+target-parts true true b e = cc
+target-parts false a b e = cc
+
+-- what is behind a slash is UTF-8 where all of it is
+utf8-slash : (rest : List ℕ) → is_utf8 (47 ∷ rest) ≡ true → is_utf8 rest ≡ true
+utf8-slash rest e =
+    let first : 47 ∷ rest ≡ encode_utf8 47 ++ rest = ap (λ (bs : List ℕ). bs ++ rest) (sym (encode_ascii 47 (omega arith))) in
+    is_utf8-from_IsUtf8 rest (IsUtf8-past_char (47 ∷ rest) rest 47 (IsUtf8-from_is_utf8 (47 ∷ rest) e) first)
+
+utf8-rest : (dest : List ℕ) → starts_with nat_eq dest (slash ∷ []) ≡ true → is_utf8 dest ≡ true → is_utf8 (drop 1 dest) ≡ true
+utf8-rest dest begins e = utf8-slash (drop 1 dest) (subst (λ (d : List ℕ). is_utf8 d ≡ true) (slash-by dest begins) e)
+
+-- a cut destination may be asked for
+dest-by : (dest : List ℕ) → is_prefix dest ≡ true → without_end_slashes dest ≡ dest → is_target dest ≡ true → is_utf8 dest ≡ true → IsDest dest
+unfolding is_target
+dest-by dest prefix cut target utf8 =
+    let parts = target-parts (is_plain (drop 1 dest)) (lies_under (codes ".dbgsrc") (drop 1 dest)) (lies_under (codes ".dbgwork") (drop 1 dest)) target in
+    record {
+      prefix = prefix;
+      cut = cut;
+      plain = and_from _ _ parts.0 (utf8-rest dest (is_prefix-parts dest prefix).begins utf8);
+      other = parts.1;
+      other_run = parts.2;
+    }
+
+dest-made : (word : List ℕ) → is_prefix word ≡ true → is_target (without_end_slashes word) ≡ true → is_utf8 (without_end_slashes word) ≡ true → IsDest (without_end_slashes word)
+dest-made word prefix target utf8 =
+    dest-by (without_end_slashes word) (is_prefix-without_end_slashes word prefix) (without_end_slashes-again word) target utf8
+
+dest-fit : (word : List ℕ) → All IsDest (target_named word)
+dest-fit word = by_tests (is_prefix word) (is_target (without_end_slashes word)) (is_utf8 (without_end_slashes word)) refl refl refl
+  where
+    by_tests : (a b c : Bool) → is_prefix word ≡ a → is_target (without_end_slashes word) ≡ b → is_utf8 (without_end_slashes word) ≡ c
+        → All IsDest (if a && b && c then Some (without_end_slashes word) else None)
+    by_tests true true true x y z = dest-made word x y z
+    by_tests true true false x y z = tt
+    by_tests true false c x y z = tt
+    by_tests false b c x y z = tt
+
+target-fit : (word : Option (List ℕ)) → All IsDest (target_of word)
+target-fit word = all_then (λ a. ⊤) IsDest target_named word (any word) (λ w _. dest-fit w)
+
+-- the two paths of bare words are bare
+paths-bare : (w : List ℕ × List ℕ) → IsBare w.0 × IsBare w.1 → All (λ p. IsBare p.1) (two_paths w)
+paths-bare w b =
+    all_then (λ a. ⊤) (λ p. IsBare p.1) (beside w.1) (path_named w.0) (any (path_named w.0)) (λ p _.
+    all_map IsBare (λ q. IsBare q.1) (λ q. (p, q)) (other_path p p w.1) (other-bare p p w.1 b.1) (λ q bare. bare))
+
+apart-parts : (a b : Bool) → not (a || b) ≡ true → (a ≡ false) × (b ≡ false)
+apart-parts false false e = (refl, refl)
+apart-parts false true e = cc
+apart-parts true b e = cc
+
+gather-apart : (l : CommandLine) (p : List ℕ × List ℕ) → IsBare p.1 → All IsRunFit (gather_paths l p)
+gather-apart l p bare = by_test (are_apart p) refl
+  where
+    by_test : (t : Bool) → are_apart p ≡ t → All IsRunFit (if t then option_and_then (gather_into l p) (target_of l.dest_dir) else None)
+    by_test true e =
+        let apart = apart-parts (lies_under p.0 p.1) (lies_under p.1 p.0) e in
+        all_then IsDest IsRunFit (gather_into l p) (target_of l.dest_dir) (target-fit l.dest_dir) (λ dest is.
+        all_map (IsIn 1 64) IsRunFit (λ jobs. Gather p.0 p.1 dest jobs) (number_or 1 64 1 l.jobs) (jobs-in l.jobs)
+        (λ jobs n. (n.0, n.1, record { is_dest = is; apart = folders-apart p.0 p.1 apart.0 apart.1; seed = bare })))
+    by_test false e = tt
+
+gather-fit : (l : CommandLine) → LineBare l → All IsRunFit (gather_of l)
 unfolding gather_of
-gather-none l =
+gather-fit l bs =
     all_if IsRunFit (has_dest_alone l) (option_and_then (gather_named l) (two_of l.paths)) None
-    (all_then (λ a. ⊤) IsRunFit (gather_named l) (two_of l.paths) (any (two_of l.paths)) (λ w _.
-    all_then (λ a. ⊤) IsRunFit (gather_paths l) (two_paths w) (any (two_paths w)) (λ p _.
-    all_if IsRunFit (are_apart p) (option_and_then (gather_into l p) (target_of l.dest_dir)) None
-    (all_then (λ a. ⊤) IsRunFit (gather_into l p) (target_of l.dest_dir) (any (target_of l.dest_dir)) (λ dest _.
-    all_map (λ a. ⊤) IsRunFit (λ jobs. Gather p.0 p.1 dest jobs) (number_or 1 64 1 l.jobs) (any (number_or 1 64 1 l.jobs)) (λ jobs _. tt))) tt))) tt
+    (all_then (λ w. IsBare w.0 × IsBare w.1) IsRunFit (gather_named l) (two_of l.paths) (pair-bare l.paths bs) (λ w b.
+    all_then (λ p. IsBare p.1) IsRunFit (gather_paths l) (two_paths w) (paths-bare w b) (λ p bare. gather-apart l p bare))) tt
 
 exercise-none : (l : CommandLine) → All IsRunFit (exercise_of l)
 unfolding exercise_of
@@ -226,17 +300,21 @@ exercise-none l =
     all_then (λ a. ⊤) IsRunFit (exercise_seeded w.1) (number_within 0 18446744073709551615 w.0) (any (number_within 0 18446744073709551615 w.0)) (λ seed _.
     all_map (λ a. ⊤) IsRunFit (λ units. Exercise seed units) (number_within 1 10000 w.1) (any (number_within 1 10000 w.1)) (λ units _. tt)))) tt
 
-named-fit : (name : List ℕ) (l : CommandLine) → SeedBare l → All IsRunFit (command_named name l)
+named-fit : (name : List ℕ) (l : CommandLine) → SeedBare l → LineBare l → All IsRunFit (command_named name l)
 unfolding command_named
-named-fit name l b =
+named-fit name l b paths =
     all_if IsRunFit (same_text name (codes "edit")) (edit_of l) _ (edit-none l)
     (all_if IsRunFit (same_text name (codes "split")) (split_of l) _ (split-none l)
     (all_if IsRunFit (same_text name (codes "run")) (run_of l) _ (run-fit l b)
     (all_if IsRunFit (same_text name (codes "show")) (show_of l) _ (show-none l)
     (all_if IsRunFit (same_text name (codes "unstrip")) (unstrip_of l) _ (unstrip-none l)
     (all_if IsRunFit (same_text name (codes "check")) (check_of l) _ (check-none l)
-    (all_if IsRunFit (same_text name (codes "gather")) (gather_of l) _ (gather-none l)
+    (all_if IsRunFit (same_text name (codes "gather")) (gather_of l) _ (gather-fit l paths)
     (all_if IsRunFit (same_text name (codes "exercise")) (exercise_of l) None (exercise-none l) tt)))))))
+
+all_both : {A : Type 0} (P Q : A → Type 0) (x : Option A) → All P x → All Q x → All (λ a. P a × Q a) x
+all_both P Q None p q = tt
+all_both P Q (Some a) p q = (p, q)
 
 command-fit : (words : List (List ℕ)) → All IsRunFit (command words)
 unfolding command
@@ -250,8 +328,9 @@ command-fit (name ∷ rest) = by_nul (list_any has_nul (name ∷ rest)) refl
     by_nul : (t : Bool) → list_any has_nul (name ∷ rest) ≡ t → All IsRunFit (if t then None else option_and_then (command_named name) (command_line rest))
     by_nul true e = tt
     by_nul false e =
-        all_then SeedBare IsRunFit (command_named name) (command_line rest) (line-seed rest (words-bare rest (behind (has_nul name) (list_any has_nul rest) e)))
-        (λ l b. named-fit name l b)
+        let bare = words-bare rest (behind (has_nul name) (list_any has_nul rest) e) in
+        all_then (λ l. SeedBare l × LineBare l) IsRunFit (command_named name) (command_line rest)
+        (all_both SeedBare LineBare (command_line rest) (line-seed rest bare) (line-bare rest bare)) (λ l b. named-fit name l b.0 b.1)
 
 built-fit : (words : List (List ℕ)) → All IsRunFit (built words)
 unfolding built
@@ -261,3 +340,7 @@ built-fit words =
 pub run-words-fit : (words : List (List ℕ)) (root : List ℕ) (o : Settings) (jobs : ℕ) → built words ≡ Some (Run root o jobs)
     → (0 < jobs) × (jobs ≤ 64) × HasKey o
 run-words-fit words root o jobs is = subst (All IsRunFit) is (built-fit words)
+
+pub gather-words-fit : (words : List (List ℕ)) (root from dest : List ℕ) (jobs : ℕ) → built words ≡ Some (Gather root from dest jobs)
+    → (0 < jobs) × (jobs ≤ 64) × IsAsked root from dest
+gather-words-fit words root from dest jobs is = subst (All IsRunFit) is (built-fit words)

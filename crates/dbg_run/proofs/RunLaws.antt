@@ -29,6 +29,7 @@ use Rattle.job_types.specs.Settings.{Settings, most_file}
 use Rattle.dbg_run.specs.Built.{built}
 use Rattle.dbg_run.specs.Edits.{EditEnds, EditDue, ListedEnds, ListedDue}
 use Rattle.dbg_run.proofs.EditLaws.{calm-at, calm_both, edit_completes, listed_completes, same-at, same_both}
+use Rattle.dbg_run.proofs.GatherLaws.{gather_memory, gather_wanting, memory_cut}
 use Rattle.dbg_run.proofs.RootLaws.{reported_told, root_memory, starts_wanting}
 use Rattle.dbg_run.proofs.ShowLaws.{show_completes, show_memory}
 use Rattle.dbg_run.proofs.SplitLaws.{split_completes, split_memory}
@@ -37,6 +38,7 @@ use Rattle.dbg_run.specs.Shows.{AreElf, AreLinked, HasBegun, IsShowable, ShowDue
 use Rattle.dbg_run.specs.Shows.{HasBegun as begun_}
 use Rattle.dbg_run.specs.Splits.{IsSplittable, SplitDue, SplitEnds}
 use Rattle.dbg_run.specs.Unstrips.{AreRecords, DoMatch, JoinDue, UnstripDue, UnstripEnds}
+use Rattle.dbg_run.specs.Gathers.{GatherCut, GatherDue, GatherStarts, GatherWays}
 use Rattle.dbg_run.specs.Roots.{IsReported, RootCut, RootDue, RootEnds, RootStarts}
 use Rattle.dbg_run.specs.Edits.{EditEnds as edit, ListedEnds as listed}
 use Rattle.dbg_run.specs.Runs.{Cuts, EditWays, Ends, Due, JoinsParts, KeptBy, MayWrite, OutputFails, Starts, Unopposed}
@@ -51,7 +53,7 @@ cuts_memory (Some (Run root o jobs)) t n is = inl (run_cut.no_memory is)
 cuts_memory (Some (Show file debug)) t n is = inl (cut.no_memory is)
 cuts_memory (Some (Unstrip stripped debug output)) t n is = cut.no_memory is
 cuts_memory (Some (Check input stripped debug maps)) t n is = cut.no_memory is
-cuts_memory (Some (Gather root from dest jobs)) t n is = cut.no_memory is
+cuts_memory (Some (Gather root from dest jobs)) t n is = subst (λ (k : ℕ). GatherCut root from dest t k) (sym is) (memory_cut root from dest t)
 cuts_memory (Some (Exercise seed units)) t n is = cut.no_memory is
 
 -- of two numbers, one where P holds and one elsewhere, only one can be
@@ -115,9 +117,10 @@ unstrip-one name what beside there n k =
 
 abbrev IsRun : Option Command → Type 0
 IsRun (Some (Run root o jobs)) = ⊤
+IsRun (Some (Gather root from dest jobs)) = ⊤
 IsRun c = ⊥
 
--- of another command than a run one status is due
+-- of another command than a run and a gather one status is due
 due-one : (c : Option Command) (t : TreeMap) (n k : ℕ) → (IsRun c → ⊥) → Due c t n → Due c t k → n ≡ k
 due-one (Some (Edit input output o None)) t n k other is also = edit-one o (stands_at t input o.max_file) (stands_at t output 0) n k is also
 due-one (Some (Edit input output o (Some list))) t n k other is also =
@@ -128,6 +131,7 @@ due-one (Some (Show file debug)) t n k other is also = show-one file debug t n k
 due-one (Some (Unstrip stripped debug output)) t n k other is also =
     unstrip-one (base_name debug) (stands_at t stripped most_file) (stands_at t debug most_file) (stands_at t output 0) n k is also
 due-one (Some (Run root o jobs)) t n k other is also = absurd (other tt)
+due-one (Some (Gather root from dest jobs)) t n k other is also = absurd (other tt)
 due-one c t n k other is also = is ∙ sym also
 
 -- where nothing is against a command, it is done, or cut
@@ -160,6 +164,12 @@ module _ (words : List (List ℕ)) (old new : Seen) (heard said : Heard) (t : Tr
       s.completes (subst (λ (c : Option Command). Unopposed c old t) command is) calm
       (λ rose. well (subst (λ (c : Option Command). OutputFails c heard said) (sym command) rose))
 
+  gather-completes : (root from dest : List ℕ) (jobs n : ℕ) → built words ≡ Some (Gather root from dest jobs) → Starts (built words) old new heard said n → (n ≡ 0) ⊎ (n ≡ 13)
+  gather-completes root from dest jobs n command starts =
+      let s : GatherStarts root from dest old new heard said n = subst (λ (c : Option Command). Starts c old new heard said n) command starts in
+      s.completes (subst (λ (c : Option Command). Unopposed c old t) command is) calm
+      (λ rose. well (subst (λ (c : Option Command). OutputFails c heard said) (sym command) rose))
+
   all-complete : (e : End) → Ends words old new heard said e → Starts (built words) old new heard said (status_of e)
       → (status_of e ≡ 0) ⊎ (IsCut (status_of e) ⊎ (status_of e ≡ 7))
   all-complete e (ends.usage none same silent) starts = absurd (subst (λ (c : Option Command). Unopposed c old t) none is)
@@ -173,6 +183,8 @@ module _ (words : List (List ℕ)) (old new : Seen) (heard said : Heard) (t : Tr
   all-complete e (ends.unstrip {stripped = stripped} {debug = debug} {output = output} command row silent) starts =
       unwritten (status_of e) (unstrip_completes stripped debug output old new e t tells (subst (λ (c : Option Command). Unopposed c old t) command is) row)
   all-complete e (ends.run {root = root} {o = o} {jobs = jobs} command row) starts = wanting (status_of e) (run-completes root o jobs (status_of e) command starts)
+  all-complete e (ends.gather {root = root} {from = from} {dest = dest} {jobs = jobs} command row) starts =
+      wanting (status_of e) (gather-completes root from dest jobs (status_of e) command starts)
 
   -- where nothing is against a command, and no fault came, it is done, want of memory aside
   pub completed : (before after : Heard) (answer : ℕ) → Ended (Ends words old new heard said) before after answer → Starts (built words) old new heard said answer
@@ -198,9 +210,15 @@ run-exact : (root : List ℕ) (o : Settings) (t : TreeMap) (answer n : ℕ) → 
 run-exact root o t answer n (inl due) comes = record { only = λ is. inl (subst (λ k. RootDue root o t k) is due); comes = comes }
 run-exact root o t answer n (inr cut) comes = record { only = λ is. inr (subst (λ k. RootCut root o t k) is cut); comes = comes }
 
+gather-exact : (root from dest : List ℕ) (t : TreeMap) (answer n : ℕ) → GatherDue root from dest t answer ⊎ GatherCut root from dest t answer
+    → (GatherDue root from dest t n → (answer ≡ n) ⊎ GatherCut root from dest t answer) → Exactly (GatherCut root from dest t) answer n (GatherDue root from dest t n)
+gather-exact root from dest t answer n (inl due) comes = record { only = λ is. inl (subst (λ k. GatherDue root from dest t k) is due); comes = comes }
+gather-exact root from dest t answer n (inr cut) comes = record { only = λ is. inr (subst (λ k. GatherCut root from dest t k) is cut); comes = comes }
+
 pub due_exact : (c : Option Command) (old new : Seen) (heard said : Heard) (t : TreeMap) (answer n : ℕ) → now_of old ≡ Some t → Due c t answer ⊎ Cuts c t answer
     → Starts c old new heard said answer → Exactly (Cuts c t) answer n (Due c t n)
 due_exact (Some (Run root o jobs)) old new heard said t answer n tells due starts = run-exact root o t answer n due (starts.comes t n tells)
+due_exact (Some (Gather root from dest jobs)) old new heard said t answer n tells due starts = gather-exact root from dest t answer n due (starts.comes t n tells)
 due_exact c old new heard said t answer n tells due starts = exact-by c t answer n (λ is. is) due
 
 edit-memory : (input output : List ℕ) (s : Settings) (limit : ℕ) (old new : Seen) (e : End) → EditEnds input output s limit old new e → e ≢ end.Done → EditEnds input output s limit old new end.NoMemory
@@ -269,6 +287,14 @@ pub run_due : (c : Option Command) (old : Seen) (n : ℕ) (root : List ℕ) (o :
     → ForSome (now_of old) (λ t. RootDue root o t n ⊎ RootCut root o t n) → ForSome (now_of old) (λ t. Due c t n ⊎ Cuts c t n)
 run_due c old n root o jobs is due = λ t tells. subst (λ (k : Option Command). Due k t n ⊎ Cuts k t n) (sym is) (due t tells)
 
+pub gather_ends : (words : List (List ℕ)) (old new : Seen) (heard said : Heard) (e : End) (root from dest : List ℕ) (jobs : ℕ) → built words ≡ Some (Gather root from dest jobs)
+    → GatherWays root from dest old new heard said e → Ends words old new heard said e
+gather_ends words old new heard said e root from dest jobs is row = ends.gather is row
+
+pub gather_due : (c : Option Command) (old : Seen) (n : ℕ) (root from dest : List ℕ) (jobs : ℕ) → c ≡ Some (Gather root from dest jobs)
+    → ForSome (now_of old) (λ t. GatherDue root from dest t n ⊎ GatherCut root from dest t n) → ForSome (now_of old) (λ t. Due c t n ⊎ Cuts c t n)
+gather_due c old n root from dest jobs is due = λ t tells. subst (λ (k : Option Command). Due k t n ⊎ Cuts k t n) (sym is) (due t tells)
+
 -- where a command isn't done, and no text of it has begun to go out, it may as well want memory
 ends-memory : (words : List (List ℕ)) (old new : Seen) (heard said : Heard) (e : End) → Ends words old new heard said e → e ≢ end.Done → e ≢ end.OutputFault
     → Ends words old new heard said end.NoMemory
@@ -279,6 +305,8 @@ ends-memory words old new heard said e (ends.split is row silent) undone well = 
 ends-memory words old new heard said e (ends.show is row) undone well = ends.show is (show_memory _ _ old new heard said e row undone)
 ends-memory words old new heard said e (ends.unstrip is row silent) undone well = ends.unstrip is (unstrip_memory _ _ _ old new e row) silent
 ends-memory words old new heard said e (ends.run {root = root} {o = o} is row) undone well = ends.run is (root_memory root o old new heard said e row undone well)
+ends-memory words old new heard said e (ends.gather {root = root} {from = from} {dest = dest} is row) undone well =
+    ends.gather is (gather_memory root from dest old new heard said e row undone well)
 
 -- what went to the output sink is said by the status that is told
 pub silent_told : (c : Option Command) (e : End) (before after : Heard) (answer : ℕ) → Told e before after answer → (MayWrite c answer → ⊥) → MayWrite c (status_of e) → ⊥
@@ -286,6 +314,8 @@ silent_told (Some (Show file debug)) e before after answer (told.as_it_is same g
 silent_told (Some (Show file debug)) e before after answer (told.out_of_memory undone well want goes) un begun = un (begun_.wanting want)
 silent_told (Some (Run root o jobs)) e before after answer (told.as_it_is same goes) un begun = un (subst IsReported (sym same) begun)
 silent_told (Some (Run root o jobs)) e before after answer (told.out_of_memory undone well want goes) un begun = reported_told e undone well begun
+silent_told (Some (Gather root from dest jobs)) e before after answer (told.as_it_is same goes) un begun = un (subst IsReported (sym same) begun)
+silent_told (Some (Gather root from dest jobs)) e before after answer (told.out_of_memory undone well want goes) un begun = reported_told e undone well begun
 silent_told c e before after answer told un begun = begun
 
 -- so is what a start does
@@ -295,6 +325,10 @@ starts_told (Some (Run root o jobs)) old new heard said e before after answer (t
     subst (λ (n : ℕ). RootStarts root o jobs old new heard said n) (sym same) starts
 starts_told (Some (Run root o jobs)) old new heard said e before after answer (told.out_of_memory undone well want goes) starts =
     subst (λ (n : ℕ). RootStarts root o jobs old new heard said n) (sym want) (starts_wanting root o jobs old new heard said (status_of e) starts)
+starts_told (Some (Gather root from dest jobs)) old new heard said e before after answer (told.as_it_is same goes) starts =
+    subst (λ (n : ℕ). GatherStarts root from dest old new heard said n) (sym same) starts
+starts_told (Some (Gather root from dest jobs)) old new heard said e before after answer (told.out_of_memory undone well want goes) starts =
+    subst (λ (n : ℕ). GatherStarts root from dest old new heard said n) (sym want) (gather_wanting root from dest old new heard said (status_of e) starts)
 starts_told c old new heard said e before after answer told starts = starts
 
 -- a refusal that is told came
@@ -323,7 +357,7 @@ kept_memory (Some (Run root o jobs)) kept = unplanned_memory kept
 kept_memory (Some (Show file debug)) kept = refusal_memory kept
 kept_memory (Some (Unstrip stripped debug output)) kept = refusal_memory kept
 kept_memory (Some (Check input stripped debug maps)) kept = refusal_memory kept
-kept_memory (Some (Gather root from dest jobs)) kept = refusal_memory kept
+kept_memory (Some (Gather root from dest jobs)) kept = unplanned_memory kept
 kept_memory (Some (Exercise seed units)) kept = refusal_memory kept
 
 pub kept_told : (c : Option Command) (answer status : ℕ) → (answer ≡ status) ⊎ (answer ≡ 13) → KeptBy c answer → KeptBy c status

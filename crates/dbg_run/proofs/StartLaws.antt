@@ -1,10 +1,10 @@
--- Laws on starts of the command `run`: what one does is what the clauses of a run of the program say; no other command is one.
+-- Laws on starts of the commands `run` and `gather`: what one does is what the clauses of a run of the program say; no other command is one.
 use Rattle.std.proofs.Common.{◌≡◌, ℕ, Bool, true, false, List, [], refl, sym, ap, subst, ◌∙◌, inl, inr, arith}
 use Rattle.std.specs.Prelude.{Option, Some, None, if◌then◌else◌, is_some, unwrap_or}
 use Rattle.std.specs.FinMap as fin
 use Rattle.std.proofs.lemmas.List.{append-nil}
 use Rattle.dbg_words.specs.declared.command.Command.{Command}
-use Rattle.dbg_words.specs.declared.command.Command.TheVariants.{Edit, Split, Run, Show, Unstrip}
+use Rattle.dbg_words.specs.declared.command.Command.TheVariants.{Edit, Split, Run, Show, Unstrip, Gather}
 use Rattle.file_tree.specs.declared.call.Call.{Call}
 use Rattle.file_tree.specs.Heard.{Heard}
 use Rattle.file_tree.specs.Seen.{Seen, map_now, now_of}
@@ -15,18 +15,22 @@ use Rattle.work_journal.specs.Runs.{Runs}
 use Rattle.work_journal.specs.Runs.{Runs as runs}
 use Rattle.root_plan.specs.Roots.{work_folder}
 use Rattle.root_run.specs.Dues.{RunCut as cuts}
+use Rattle.dbg_run.specs.Gathers.{GatherStarts}
 use Rattle.dbg_run.specs.Roots.{OnlyBelow, RootStarts}
 use Rattle.dbg_run.specs.Runs.{EndsFinal, EndsMild, LeavesPartway, RefusesPlanned, SettlesSeldom, Starts, StepsOfCore}
+use Rattle.dbg_run.proofs.GatherLaws.{memory_cut, quiet_mild}
 use Rattle.dbg_run.proofs.RootLaws.{not_reported, wanting_mild, wanting_passed}
 
 -- ### Clauses of a run of the program
 
 pub starts_leave : (c : Option Command) (old new : Seen) (heard said : Heard) (n : ℕ) → Starts c old new heard said n → (start : TreeMap) → LeavesPartway c start old new
 starts_leave (Some (Run root o jobs)) old new heard said n s = s.images
+starts_leave (Some (Gather root from dest jobs)) old new heard said n s = s.images
 starts_leave c old new heard said n s = λ start. tt
 
 pub starts_end : (c : Option Command) (old new : Seen) (heard said : Heard) (n : ℕ) → Starts c old new heard said n → (start : TreeMap) → EndsFinal c n start old new heard said
 starts_end (Some (Run root o jobs)) old new heard said n s = s.ended
+starts_end (Some (Gather root from dest jobs)) old new heard said n s = s.ended
 starts_end c old new heard said n s = λ start. tt
 
 pub starts_step : (c : Option Command) (old new : Seen) (heard said : Heard) (n : ℕ) → Starts c old new heard said n → (start : TreeMap) → StepsOfCore c n start old new
@@ -39,6 +43,7 @@ starts_settle c old new heard said n s = λ start. tt
 
 pub starts_mild : (c : Option Command) (old new : Seen) (heard said : Heard) (n : ℕ) → Starts c old new heard said n → (start : TreeMap) → EndsMild c n start old
 starts_mild (Some (Run root o jobs)) old new heard said n s = s.mild
+starts_mild (Some (Gather root from dest jobs)) old new heard said n s = s.mild
 starts_mild c old new heard said n s = λ start. tt
 
 pub starts_pass : (c : Option Command) (old new : Seen) (heard said : Heard) (n : ℕ) → Starts c old new heard said n → RefusesPlanned c n old
@@ -50,6 +55,10 @@ starts_pass c old new heard said n s = tt
 pub run_starts : (c : Option Command) (old new : Seen) (heard said : Heard) (n : ℕ) (root : List ℕ) (o : Settings) (jobs : ℕ) → c ≡ Some (Run root o jobs)
     → RootStarts root o jobs old new heard said n → Starts c old new heard said n
 run_starts c old new heard said n root o jobs is s = subst (λ (k : Option Command). Starts k old new heard said n) (sym is) s
+
+pub gather_starts : (c : Option Command) (old new : Seen) (heard said : Heard) (n : ℕ) (root from dest : List ℕ) (jobs : ℕ) → c ≡ Some (Gather root from dest jobs)
+    → GatherStarts root from dest old new heard said n → Starts c old new heard said n
+gather_starts c old new heard said n root from dest jobs is s = subst (λ (k : Option Command). Starts k old new heard said n) (sym is) s
 
 pub none_starts : (c : Option Command) (old new : Seen) (heard said : Heard) (n : ℕ) → c ≡ None → Starts c old new heard said n
 none_starts c old new heard said n is = subst (λ (k : Option Command). Starts k old new heard said n) (sym is) tt
@@ -97,8 +106,19 @@ wanting_starts root o jobs seen heard = record {
   completes = λ un calm well. inr refl;
 }
 
+wanting_gather : (root from dest : List ℕ) (seen : Seen) (heard : Heard) → GatherStarts root from dest seen seen heard heard 13
+wanting_gather root from dest seen heard = record {
+  images = λ start under. record { rest = []; first = refl; log = sym (append-nil seen.past.log); each = under.partway };
+  ended = λ start under is. absurd (not_reported 13 refl is);
+  mild = λ start under. quiet_mild 13 refl;
+  due = λ t tells. inr (memory_cut root from dest t);
+  comes = λ t k tells due. inr (memory_cut root from dest t);
+  completes = λ un calm well. inr refl;
+}
+
 pub memory_starts : (c : Option Command) (seen : Seen) (heard : Heard) → Starts c seen seen heard heard 13
 memory_starts (Some (Run root o jobs)) seen heard = wanting_starts root o jobs seen heard
+memory_starts (Some (Gather root from dest jobs)) seen heard = wanting_gather root from dest seen heard
 memory_starts c seen heard = tt
 
 -- ### Paths outside the root

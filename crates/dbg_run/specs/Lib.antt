@@ -4,4 +4,5 @@ pub mod Shows
 pub mod Splits
 pub mod Unstrips
 pub mod Roots
+pub mod Gathers
 pub mod Runs

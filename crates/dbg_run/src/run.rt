@@ -15,6 +15,7 @@ ghost use Rattle.dbg_run.specs.Runs.{Cuts, EditWays, Ends, EndsFinal, EndsMild, 
 
 use crate::built::built;
 use crate::edit::{edit, edit_listed};
+use crate::gather::gather_into;
 use crate::run_root::run_over;
 use crate::show::show;
 use crate::split::split;
@@ -114,6 +115,12 @@ fn run_command<T: Tree, O: Sink>(alloc: Global, words: &[String], tree: &mut T, 
             options,
             jobs,
         } => run_over(alloc, root, &options, jobs, tree, out),
+        Command::Gather {
+            root,
+            from,
+            dest,
+            jobs,
+        } => gather_into(alloc, &root, &from, &dest, jobs, tree, out),
         _ => End::Usage,
     }
 }

@@ -35,7 +35,7 @@ fn plan_end(root: Text, failure: PlanErr) -> End
 }
 
 /// The end of a run that couldn't be taken up, or brought to its end.
-fn journal_end(failure: JournalErr) -> End
+pub(crate) fn journal_end(failure: JournalErr) -> End
     ensures end { result ≡ journal_end failure }
 {
     match failure {
@@ -77,7 +77,7 @@ fn root_answer<T: Tree>(
 
 /// Writes the report of a run that has come to its end, by one call.
 #[tactic(auto, using(crate::proofs::RootLaws::report_rows))]
-fn write_report<O: Sink>(report: &Blob, out: &mut O) -> End
+pub(crate) fn write_report<O: Sink>(report: &Blob, out: &mut O) -> End
     ensures ends { ReportEnds report.now (O.heard out.old) (O.heard out.new) result }
 {
     match out.write(report.as_slice()) {

@@ -14,3 +14,4 @@ pub mod StrayLaws
 pub mod ParsedLaws
 pub mod LineLaws
 pub mod WordLaws
+pub mod Utf8Laws

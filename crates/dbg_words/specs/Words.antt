@@ -2,6 +2,7 @@
 use Rattle.std.specs.Prelude.{Bool, ◌&&◌, ◌||◌, not, if◌then◌else◌, ℕ, List, [], ◌∷◌, drop, map, String, Option, Some, None, is_some, option_map, option_and_then, unwrap_or, codes}
 use Rattle.std.specs.declared.alloc.Global.{Global}
 use Rattle.std.specs.List.{list_any}
+use Rattle.std.specs.Str.{is_utf8}
 use Rattle.std.specs.String.{string_bytes}
 use Rattle.dw_base.specs.Paths.{PathMap, is_prefix, lies_under, path_map, without_end_slashes}
 use Rattle.dw_base.specs.Texts.{has_nul, same_text}
@@ -171,14 +172,16 @@ has_dest_alone l =
     not (is_some l.base_dir || is_some l.more_maps || l.build_id || is_some l.seed)
     && not (is_some l.list_file || is_some l.max_file || l.skip_refused || l.grow_inline)
 
--- a destination below a root: it may be one of a map, without its first slash it is plain, and it doesn't lie in a work folder
+-- a destination below a root: it may be one of a map, without its first slash it is plain, and it doesn't lie in a work folder; it is a text, as
+-- each word is
 unfoldable pub is_target : List ℕ → Bool
 is_target dest =
     is_plain (drop 1 dest)
     && not (lies_under (codes ".dbgsrc") (drop 1 dest) || lies_under (codes ".dbgwork") (drop 1 dest))
 
 abbrev pub target_named : List ℕ → Option (List ℕ)
-target_named word = if is_prefix word && is_target (without_end_slashes word) then Some (without_end_slashes word) else None
+target_named word =
+    if is_prefix word && is_target (without_end_slashes word) && is_utf8 (without_end_slashes word) then Some (without_end_slashes word) else None
 
 abbrev pub target_of : Option (List ℕ) → Option (List ℕ)
 target_of o = option_and_then target_named o

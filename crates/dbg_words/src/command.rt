@@ -10,7 +10,7 @@ use crate::named::{
 };
 use dw_base::NoMemory;
 use dw_paths::Maps;
-use file_tree::{Blob, Text};
+use file_tree::Text;
 use job_types::Options;
 use std::alloc::Global;
 
@@ -62,7 +62,7 @@ pub enum Command {
     Gather {
         root: Text,
         from: Text,
-        dest: Blob,
+        dest: Text,
         jobs: u8,
     },
     /// A file is made of a seed, with so many units, rewritten, and counted.

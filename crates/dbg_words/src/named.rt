@@ -1,5 +1,6 @@
 //! Each command, of the command line behind its name.
-ghost use Rattle.std.specs.Prelude.{◌≡◌, ◌||◌, not, codes, IfOk, option_map, map};
+ghost use Rattle.std.specs.Prelude.{◌≡◌, ◌||◌, false, true, not, codes, IfOk, MatchOption, option_map, map};
+ghost use Rattle.std.specs.Str.{is_utf8};
 ghost use Rattle.dw_base.specs.Paths.{lies_under};
 ghost use Rattle.dbg_words.specs.Words.{are_apart, check_mapped, check_named, check_of, check_paths, edit_listed, edit_named, edit_of, edit_paths, exercise_named, exercise_of, gather_into, gather_named, gather_of, gather_paths, has_dest_alone, has_no_job, is_bare, is_target, list_path, run_below, run_named, run_of, show_named, show_of, show_one, show_two, split_named, split_of, split_paths, target_named, target_of, two_of, unstrip_named, unstrip_of, unstrip_paths};
 
@@ -11,7 +12,7 @@ use crate::settings::{maps_of, number_or, settings_of};
 use crate::several::{one_of, three_of, two_of};
 use dw_base::NoMemory;
 use dw_paths::{is_plain, is_prefix, lies_under, without_slashes};
-use file_tree::{Blob, Text};
+use file_tree::Text;
 use std::alloc::Global;
 
 /// Whether no option is given.
@@ -378,8 +379,19 @@ fn is_target(dest: &[u8]) -> bool
     }
 }
 
+/// The text that the bytes are, where they are UTF-8.
+#[tactic(auto, using(crate::proofs::Utf8Laws::utf8_rules))]
+fn text_of(bytes: &[u8]) -> Option<&str>
+    ensures value { MatchOption result (is_utf8 bytes.now ≡ false) (λ text. (text.now ≡ bytes.now) × (is_utf8 bytes.now ≡ true)) }
+{
+    match str::from_utf8(bytes) {
+        Ok(text) => Some(text),
+        Err(_) => None,
+    }
+}
+
 /// The destination that a word names, without the slashes at its end.
-fn target_named(alloc: Global, word: &[u8]) -> Result<Option<Blob>, NoMemory>
+fn target_named(alloc: Global, word: &[u8]) -> Result<Option<Text>, NoMemory>
     ensures value { IfOk result (λ o. o ≡ target_named word.now) }
 {
     let dest = without_slashes(word);
@@ -389,12 +401,15 @@ fn target_named(alloc: Global, word: &[u8]) -> Result<Option<Blob>, NoMemory>
     if !is_target(dest) {
         return Ok(None);
     }
-    let dest = Blob::from_slice(alloc, dest)?;
-    Ok(Some(dest))
+    let Some(text) = text_of(dest) else {
+        return Ok(None);
+    };
+    let text = Text::copy_of(alloc, text)?;
+    Ok(Some(text))
 }
 
 /// The same of a word that may be given.
-fn target_of(alloc: Global, word: Option<&str>) -> Result<Option<Blob>, NoMemory>
+fn target_of(alloc: Global, word: Option<&str>) -> Result<Option<Text>, NoMemory>
     ensures value { IfOk result (λ o. o ≡ target_of (option_map (λ w. w.now) word.entry)) }
 {
     match word {
@@ -413,7 +428,7 @@ fn are_apart(paths: &(Text, Text)) -> bool
 }
 
 /// Sources gathered below a destination.
-fn gather_into(line: &Line<'_>, paths: (Text, Text), dest: Blob) -> Option<Command>
+fn gather_into(line: &Line<'_>, paths: (Text, Text), dest: Text) -> Option<Command>
     ensures value { result ≡ gather_into line.now paths dest }
 {
     let jobs = number_or(1, 64, 1, line.jobs)?;

@@ -1,4 +1,4 @@
--- The edit, the split, the showing, the joining and the run of the words, and that no other command is carried out.
+-- The edit, the split, the showing, the joining, the run and the gather of the words, and that no other command is carried out.
 use Rattle.std.proofs.Common.{◌≡◌, ℕ, List, false, Some, sym, ap, ◌∙◌, subst}
 use Rattle.dw_base.specs.Texts.{has_nul}
 use Rattle.dbg_words.specs.declared.command.Command.{Command}
@@ -6,18 +6,18 @@ use Rattle.dbg_words.specs.Words.{texts}
 use Rattle.dbg_run.specs.Shows.{base_name}
 use Rattle.dbg_run.proofs.BareLaws.{debug-name-bare}
 use Rattle.dbg_run.proofs.BuiltLaws.{built_these}
-use Rattle.dbg_run.proofs.RootWordLaws.{run-words-fit}
-use Rattle.dbg_run.proofs.RunLaws.{edit_ends, run_due, run_ends, show_ends, split_ends, unstrip_ends}
-use Rattle.dbg_run.proofs.StartLaws.{edit_starts, run_starts, show_starts, split_starts, unstrip_starts}
+use Rattle.dbg_run.proofs.RootWordLaws.{gather-words-fit, run-words-fit}
+use Rattle.dbg_run.proofs.RunLaws.{edit_ends, gather_due, gather_ends, run_due, run_ends, show_ends, split_ends, unstrip_ends}
+use Rattle.dbg_run.proofs.StartLaws.{edit_starts, gather_starts, run_starts, show_starts, split_starts, unstrip_starts}
 use Rattle.dbg_run.proofs.run.run_command.Goals as goal
 
 pub returns-clause-ends : goal.returns-clause-ends
 returns-clause-ends g c =
-    absurd (built_these (texts c.args.words.now) c.in-Some.command (sym c.in-Some.is ∙ c.in-Ok.ensures.command) c.in_default-command.not-Edit c.in_default-command.not-Split c.in_default-command.not-Show c.in_default-command.not-Unstrip c.in_default-command.not-Run)
+    absurd (built_these (texts c.args.words.now) c.in-Some.command (sym c.in-Some.is ∙ c.in-Ok.ensures.command) c.in_default-command.not-Edit c.in_default-command.not-Split c.in_default-command.not-Show c.in_default-command.not-Unstrip c.in_default-command.not-Run c.in_default-command.not-Gather)
 
 pub returns-clause-usage : goal.returns-clause-usage
 returns-clause-usage g c =
-    absurd (built_these (texts c.args.words.now) c.in-Some.command (sym c.in-Some.is ∙ c.in-Ok.ensures.command) c.in_default-command.not-Edit c.in_default-command.not-Split c.in_default-command.not-Show c.in_default-command.not-Unstrip c.in_default-command.not-Run)
+    absurd (built_these (texts c.args.words.now) c.in-Some.command (sym c.in-Some.is ∙ c.in-Ok.ensures.command) c.in_default-command.not-Edit c.in_default-command.not-Split c.in_default-command.not-Show c.in_default-command.not-Unstrip c.in_default-command.not-Run c.in_default-command.not-Gather)
 
 pub returns-in-Run-clause-due : goal.returns-in-Run-clause-due
 returns-in-Run-clause-due g c =
@@ -85,3 +85,24 @@ pub returns-in-Unstrip-clause-starts : goal.returns-in-Unstrip-clause-starts
 returns-in-Unstrip-clause-starts g c =
     unstrip_starts _ _ _ _ _ _ c.in-Unstrip.stripped c.in-Unstrip.debug c.in-Unstrip.output
     (sym c.in-Ok.ensures.command ∙ c.in-Some.is ∙ ap (λ (k : Command). Some k) c.in-Unstrip.is)
+
+pub gather_into-requires : goal.gather_into-requires
+gather_into-requires g c =
+    let fit = gather-words-fit (texts c.args.words.now) c.in-Gather.root c.in-Gather.from c.in-Gather.dest c.in-Gather.jobs
+    (sym c.in-Ok.ensures.command ∙ c.in-Some.is ∙ ap (λ (k : Command). Some k) c.in-Gather.is) in
+    record { some = fit.0; most = fit.1; asked = fit.2 }
+
+pub returns-in-Gather-clause-ends : goal.returns-in-Gather-clause-ends
+returns-in-Gather-clause-ends g c =
+    gather_ends (texts c.args.words.now) _ _ _ _ _ c.in-Gather.root c.in-Gather.from c.in-Gather.dest c.in-Gather.jobs
+    (sym c.in-Ok.ensures.command ∙ c.in-Some.is ∙ ap (λ (k : Command). Some k) c.in-Gather.is) c.gather_into.ensures.ends
+
+pub returns-in-Gather-clause-due : goal.returns-in-Gather-clause-due
+returns-in-Gather-clause-due g c =
+    gather_due _ (g.T.Tree.seen c.args.tree.now) _ c.in-Gather.root c.in-Gather.from c.in-Gather.dest c.in-Gather.jobs
+    (sym c.in-Ok.ensures.command ∙ c.in-Some.is ∙ ap (λ (k : Command). Some k) c.in-Gather.is) c.gather_into.ensures.due
+
+pub returns-in-Gather-clause-starts : goal.returns-in-Gather-clause-starts
+returns-in-Gather-clause-starts g c =
+    gather_starts _ _ _ _ _ _ c.in-Gather.root c.in-Gather.from c.in-Gather.dest c.in-Gather.jobs
+    (sym c.in-Ok.ensures.command ∙ c.in-Some.is ∙ ap (λ (k : Command). Some k) c.in-Gather.is) c.gather_into.ensures.starts
