@@ -1,0 +1,1 @@
+int trial_more(void) { return 11; }
