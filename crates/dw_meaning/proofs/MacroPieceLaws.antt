@@ -55,21 +55,57 @@ abbrev pub line_fields : List (Piece MacroState) → List FieldPlace
 line_fields [] = []
 line_fields (x ∷ xs) = line_field_by x.state.mode x.state.place ++ line_fields xs
 
+-- where the offset of a text stands, and how many bytes it has
+abbrev pub use_text : OffsetUse → Width → ℕ → List FieldPlace
+use_text (of_text defines line) width place = record { place = place; size = width_size width } ∷ []
+use_text of_unit width place = []
+
+abbrev pub text_field_by : MacroMode → ℕ → List FieldPlace
+text_field_by (at_offset width names) place = use_text names width place
+text_field_by m place = []
+
+abbrev pub text_fields : List (Piece MacroState) → List FieldPlace
+text_fields [] = []
+text_fields (x ∷ xs) = text_field_by x.state.mode x.state.place ++ text_fields xs
+
+-- that of an operation, and those of operations one after another, of a unit and of units
+abbrev pub operation_text : MacroOperation → Width → List FieldPlace
+operation_text (Named defines line field) width = record { place = field; size = width_size width } ∷ []
+operation_text o width = []
+
+abbrev pub operation_texts : (v : View) (section start : ℕ) (width : Width) (first place : ℕ) → OperationsUpTo v section start width first place → List FieldPlace
+operation_texts v section start width first place no_operations = []
+operation_texts v section start width first place (more_operations o at_place end so e more) = operation_texts v section start width first at_place so ++ operation_text o width
+
+abbrev pub unit_texts : (v : View) (section start : ℕ) (u : MacroUnit) → IsMacroUnit v section start u → List FieldPlace
+unit_texts v section start u is = operation_texts v section start is.header.width is.header.first is.last is.operations
+
+abbrev pub units_texts : (v : View) (section : ℕ) (list : List MacroUnit) (place : ℕ) → MacroUnitsUpTo v section list place → List FieldPlace
+units_texts v section list place no_units = []
+units_texts v section list place (more_units before u start so is) = units_texts v section before start so ++ unit_texts v section start u is
+
 fields-append : (xs ys : List (Piece MacroState)) → line_fields (xs ++ ys) ≡ line_fields xs ++ line_fields ys
 fields-append [] ys = refl
 fields-append (x ∷ xs) ys =
     ap (λ (rest : List FieldPlace). line_field_by x.state.mode x.state.place ++ rest) (fields-append xs ys)
     ∙ sym (append_assoc (line_field_by x.state.mode x.state.place) (line_fields xs) (line_fields ys))
 
+texts-append : (xs ys : List (Piece MacroState)) → text_fields (xs ++ ys) ≡ text_fields xs ++ text_fields ys
+texts-append [] ys = refl
+texts-append (x ∷ xs) ys =
+    ap (λ (rest : List FieldPlace). text_field_by x.state.mode x.state.place ++ rest) (texts-append xs ys)
+    ∙ sym (append_assoc (text_field_by x.state.mode x.state.place) (text_fields xs) (text_fields ys))
+
 -- pieces that lead from one state to another, from one place to another; of each this holds, these units start in them, and these are
--- their offsets of line tables
-pub record MacroRun (v : View) (section : ℕ) (cells : List Cell) (P : Piece MacroState → Type 0) (ss : List MacroStart) (fs : List FieldPlace) (s t : MacroState) (a b : ℕ) : Type 0 where
+-- their offsets of line tables, and of texts
+pub record MacroRun (v : View) (section : ℕ) (cells : List Cell) (P : Piece MacroState → Type 0) (ss : List MacroStart) (fs ts : List FieldPlace) (s t : MacroState) (a b : ℕ) : Type 0 where
   pub pieces : List (Piece MacroState)
   pub leads : Leads (macro_grammar v.order) s pieces t
   pub covers : joined pieces ++ drop b cells ≡ drop a cells
   pub each : EachPiece P pieces
   pub starts : starts_in section pieces ≡ ss
   pub lines : line_fields pieces ≡ fs
+  pub texts : text_fields pieces ≡ ts
 
 each-append : (P : Piece MacroState → Type 0) (xs ys : List (Piece MacroState)) → EachPiece P xs → EachPiece P ys → EachPiece P (xs ++ ys)
 each-append P [] ys h k = k
@@ -81,9 +117,9 @@ starts-append section (x ∷ xs) ys =
     ap (λ (rest : List MacroStart). started_by x.state.mode section x.state.place ++ rest) (starts-append section xs ys)
     ∙ sym (append_assoc (started_by x.state.mode section x.state.place) (starts_in section xs) (starts_in section ys))
 
-macro-more : (v : View) (section : ℕ) (cells : List Cell) (P : Piece MacroState → Type 0) (ss us : List MacroStart) (fs hs : List FieldPlace) (s t u : MacroState) (a b c : ℕ)
-    → MacroRun v section cells P ss fs s t a b → MacroRun v section cells P us hs t u b c → MacroRun v section cells P (ss ++ us) (fs ++ hs) s u a c
-macro-more v section cells P ss us fs hs s t u a b c m n = record {
+macro-more : (v : View) (section : ℕ) (cells : List Cell) (P : Piece MacroState → Type 0) (ss us : List MacroStart) (fs hs ts ws : List FieldPlace) (s t u : MacroState) (a b c : ℕ)
+    → MacroRun v section cells P ss fs ts s t a b → MacroRun v section cells P us hs ws t u b c → MacroRun v section cells P (ss ++ us) (fs ++ hs) (ts ++ ws) s u a c
+macro-more v section cells P ss us fs hs ts ws s t u a b c m n = record {
   pieces = m.pieces ++ n.pieces;
   leads = leads-more (macro_grammar v.order) s t u m.pieces n.pieces m.leads n.leads;
   covers =
@@ -92,14 +128,15 @@ macro-more v section cells P ss us fs hs s t u a b c m n = record {
   each = each-append P m.pieces n.pieces m.each n.each;
   starts = starts-append section m.pieces n.pieces ∙ ap (λ (l : List MacroStart). l ++ starts_in section n.pieces) m.starts ∙ ap (λ (l : List MacroStart). ss ++ l) n.starts;
   lines = fields-append m.pieces n.pieces ∙ ap (λ (l : List FieldPlace). l ++ line_fields n.pieces) m.lines ∙ ap (λ (l : List FieldPlace). fs ++ l) n.lines;
+  texts = texts-append m.pieces n.pieces ∙ ap (λ (l : List FieldPlace). l ++ text_fields n.pieces) m.texts ∙ ap (λ (l : List FieldPlace). ts ++ l) n.texts;
 }
 
-macro-none : (v : View) (section : ℕ) (cells : List Cell) (P : Piece MacroState → Type 0) (s : MacroState) (a : ℕ) → MacroRun v section cells P [] [] s s a a
-macro-none v section cells P s a = record { pieces = []; leads = refl; covers = refl; each = tt; starts = refl; lines = refl }
+macro-none : (v : View) (section : ℕ) (cells : List Cell) (P : Piece MacroState → Type 0) (s : MacroState) (a : ℕ) → MacroRun v section cells P [] [] [] s s a a
+macro-none v section cells P s a = record { pieces = []; leads = refl; covers = refl; each = tt; starts = refl; lines = refl; texts = refl }
 
 macro-one : (v : View) (section : ℕ) (cells : List Cell) (P : Piece MacroState → Type 0) (s t : MacroState) (a n : ℕ) → (macro_grammar v.order).Fits s (take n (drop a cells))
     → (macro_grammar v.order).next s (take n (drop a cells)) ≡ t → P (record { state = s; cells = take n (drop a cells) })
-    → MacroRun v section cells P (started_by s.mode section s.place ++ []) (line_field_by s.mode s.place ++ []) s t a (a + n)
+    → MacroRun v section cells P (started_by s.mode section s.place ++ []) (line_field_by s.mode s.place ++ []) (text_field_by s.mode s.place ++ []) s t a (a + n)
 macro-one v section cells P s t a n fits next holds = record {
   pieces = record { state = s; cells = take n (drop a cells) } ∷ [];
   leads = (refl, fits, next);
@@ -109,6 +146,7 @@ macro-one v section cells P s t a n fits next holds = record {
   each = (holds, tt);
   starts = refl;
   lines = refl;
+  texts = refl;
 }
 
 -- the bytes of a part of the section
@@ -214,7 +252,7 @@ pub record UnitHolds (v : View) (section : ℕ) (cells : List Cell) (P : Piece M
 -- the cells in front of an offset, or of a whole operation
 front-run : (v : View) (section : ℕ) (cells : List Cell) (P : Piece MacroState → Type 0) (width : Width) (place : ℕ) (o : MacroOperation) (next : ℕ) → CellsOf v section cells → HoldsElse P
     → (c : FrontCut (section_bytes v section) width place o next)
-    → MacroRun v section cells P [] [] (macros_at place (at_operation width)) (macros_at (place + c.size) (after_operation width (Some c.kind))) place (place + c.size)
+    → MacroRun v section cells P [] [] [] (macros_at place (at_operation width)) (macros_at (place + c.size) (after_operation width (Some c.kind))) place (place + c.size)
 front-run v section cells P width place o next cells_are else_ c =
     let bytes : bytes_of (take c.size (drop place cells)) ≡ take c.size (drop place (section_bytes v section)) = part-is v section cells place c.size cells_are in
     let size : length (take c.size (drop place cells)) ≡ c.size = part-size v section cells place c.size cells_are c.within in
@@ -228,7 +266,7 @@ front-run v section cells P width place o next cells_are else_ c =
 -- an offset
 offset-run : (v : View) (section : ℕ) (cells : List Cell) (P : Piece MacroState → Type 0) (width : Width) (names : OffsetUse) (place : ℕ) → CellsOf v section cells
     → place + width_size width ≤ length (section_bytes v section) → P (offset_piece cells (at_offset width names) width place)
-    → MacroRun v section cells P [] [] (macros_at place (at_offset width names)) (macros_at (place + width_size width) (at_operation width)) place (place + width_size width)
+    → MacroRun v section cells P [] [] (use_text names width place ++ []) (macros_at place (at_offset width names)) (macros_at (place + width_size width) (at_operation width)) place (place + width_size width)
 offset-run v section cells P width names place cells_are h holds =
     let size : length (take (width_size width) (drop place cells)) ≡ width_size width = part-size v section cells place (width_size width) cells_are h in
     macro-one v section cells P (macros_at place (at_offset width names)) (macros_at (place + width_size width) (at_operation width)) place (width_size width) size
@@ -244,24 +282,24 @@ behind_operation o width = at_operation width
 
 whole-run : (v : View) (section : ℕ) (cells : List Cell) (P : Piece MacroState → Type 0) (width : Width) (place next size : ℕ) (f kind : OperationFront) (m : MacroMode) → kind ≡ f
     → after_operation width (Some f) ≡ m → next ≡ place + size
-    → MacroRun v section cells P [] [] (macros_at place (at_operation width)) (macros_at (place + size) (after_operation width (Some kind))) place (place + size)
-    → MacroRun v section cells P [] [] (macros_at place (at_operation width)) (macros_at next m) place next
+    → MacroRun v section cells P [] [] [] (macros_at place (at_operation width)) (macros_at (place + size) (after_operation width (Some kind))) place (place + size)
+    → MacroRun v section cells P [] [] [] (macros_at place (at_operation width)) (macros_at next m) place next
 whole-run v section cells P width place next size f kind m same leads end r =
-    subst (λ (n : ℕ). MacroRun v section cells P [] [] (macros_at place (at_operation width)) (macros_at n m) place n) (sym end)
-    (subst (λ (x : MacroMode). MacroRun v section cells P [] [] (macros_at place (at_operation width)) (macros_at (place + size) x) place (place + size))
+    subst (λ (n : ℕ). MacroRun v section cells P [] [] [] (macros_at place (at_operation width)) (macros_at n m) place n) (sym end)
+    (subst (λ (x : MacroMode). MacroRun v section cells P [] [] [] (macros_at place (at_operation width)) (macros_at (place + size) x) place (place + size))
     (ap (λ (x : OperationFront). after_operation width (Some x)) same ∙ leads) r)
 
 two-run : (v : View) (section : ℕ) (cells : List Cell) (P : Piece MacroState → Type 0) (width : Width) (place next field size : ℕ) (names : OffsetUse) (kind : OperationFront) → CellsOf v section cells
     → kind ≡ before_offset names → field ≡ place + size → next ≡ field + width_size width → next ≤ length (section_bytes v section)
     → P (offset_piece cells (at_offset width names) width field)
-    → MacroRun v section cells P [] [] (macros_at place (at_operation width)) (macros_at (place + size) (after_operation width (Some kind))) place (place + size)
-    → MacroRun v section cells P [] [] (macros_at place (at_operation width)) (macros_at next (at_operation width)) place next
+    → MacroRun v section cells P [] [] [] (macros_at place (at_operation width)) (macros_at (place + size) (after_operation width (Some kind))) place (place + size)
+    → MacroRun v section cells P [] [] (use_text names width field ++ []) (macros_at place (at_operation width)) (macros_at next (at_operation width)) place next
 two-run v section cells P width place next field size names kind c same at_is end within holds r =
-    let first : MacroRun v section cells P [] [] (macros_at place (at_operation width)) (macros_at field (at_offset width names)) place field =
-    subst (λ (n : ℕ). MacroRun v section cells P [] [] (macros_at place (at_operation width)) (macros_at n (at_offset width names)) place n) (sym at_is)
-    (subst (λ (x : OperationFront). MacroRun v section cells P [] [] (macros_at place (at_operation width)) (macros_at (place + size) (after_operation width (Some x))) place (place + size)) same r) in
-    subst (λ (n : ℕ). MacroRun v section cells P [] [] (macros_at place (at_operation width)) (macros_at n (at_operation width)) place n) (sym end)
-    (macro-more v section cells P [] [] [] [] (macros_at place (at_operation width)) (macros_at field (at_offset width names)) (macros_at (field + width_size width) (at_operation width)) place field (field + width_size width)
+    let first : MacroRun v section cells P [] [] [] (macros_at place (at_operation width)) (macros_at field (at_offset width names)) place field =
+    subst (λ (n : ℕ). MacroRun v section cells P [] [] [] (macros_at place (at_operation width)) (macros_at n (at_offset width names)) place n) (sym at_is)
+    (subst (λ (x : OperationFront). MacroRun v section cells P [] [] [] (macros_at place (at_operation width)) (macros_at (place + size) (after_operation width (Some x))) place (place + size)) same r) in
+    subst (λ (n : ℕ). MacroRun v section cells P [] [] (use_text names width field ++ []) (macros_at place (at_operation width)) (macros_at n (at_operation width)) place n) (sym end)
+    (macro-more v section cells P [] [] [] [] [] (use_text names width field ++ []) (macros_at place (at_operation width)) (macros_at field (at_offset width names)) (macros_at (field + width_size width) (at_operation width)) place field (field + width_size width)
     first (offset-run v section cells P width names field c (omega (arith, end, within)) holds))
 
 -- what is asked of the offset of an operation
@@ -270,7 +308,7 @@ OffsetHolds cells P width o = (names : OffsetUse) (field : ℕ) → offset_use o
 
 operation-run : (v : View) (section : ℕ) (cells : List Cell) (P : Piece MacroState → Type 0) (width : Width) (place : ℕ) (o : MacroOperation) (next : ℕ) → CellsOf v section cells → HoldsElse P
     → o ≢ Foreign → OffsetHolds cells P width o → FrontCut (section_bytes v section) width place o next
-    → MacroRun v section cells P [] [] (macros_at place (at_operation width)) (macros_at next (behind_operation o width)) place next
+    → MacroRun v section cells P [] [] (operation_text o width) (macros_at place (at_operation width)) (macros_at next (behind_operation o width)) place next
 operation-run v section cells P width place End next c q native holds cut =
     whole-run v section cells P width place next cut.size last cut.kind at_unit (kind-is (Some last) cut.kind last cut.is refl) refl cut.end
     (front-run v section cells P width place End next c q cut)
@@ -293,7 +331,7 @@ operation-run v section cells P width place Foreign next c q native holds cut = 
 
 unit-operation-run : (v : View) (section start : ℕ) (cells : List Cell) (P : Piece MacroState → Type 0) (width : Width) (place : ℕ) (o : MacroOperation) (next : ℕ) → CellsOf v section cells → HoldsElse P
     → OffsetHolds cells P width o → unit_operation v section start width place ≡ Ok (o, next)
-    → MacroRun v section cells P [] [] (macros_at place (at_operation width)) (macros_at next (behind_operation o width)) place next
+    → MacroRun v section cells P [] [] (operation_text o width) (macros_at place (at_operation width)) (macros_at next (behind_operation o width)) place next
 unit-operation-run v section start cells P width place o next c q holds e =
     let t : TakenOk v section width place o next = unit-ok v section start place width o next e in
     operation-run v section cells P width place o next c q t.native holds (operation-cut (section_bytes v section) width place o next t.native t.is)
@@ -309,13 +347,13 @@ more-mode (Bring f) width e = refl
 more-mode Foreign width e = refl
 
 operations-run : (v : View) (section start : ℕ) (cells : List Cell) (P : Piece MacroState → Type 0) (h : MacroHeader) (place : ℕ) → CellsOf v section cells → HoldsElse P
-    → UnitHolds v section cells P start h → OperationsUpTo v section start h.width h.first place
-    → MacroRun v section cells P [] [] (macros_at h.first (at_operation h.width)) (macros_at place (at_operation h.width)) h.first place
+    → UnitHolds v section cells P start h → (up : OperationsUpTo v section start h.width h.first place)
+    → MacroRun v section cells P [] [] (operation_texts v section start h.width h.first place up) (macros_at h.first (at_operation h.width)) (macros_at place (at_operation h.width)) h.first place
 operations-run v section start cells P h place c q holds no_operations = macro-none v section cells P (macros_at h.first (at_operation h.width)) h.first
 operations-run v section start cells P h next c q holds (more_operations o place end so e more) =
-    macro-more v section cells P [] [] [] [] (macros_at h.first (at_operation h.width)) (macros_at place (at_operation h.width)) (macros_at next (at_operation h.width)) h.first place next
+    macro-more v section cells P [] [] [] [] (operation_texts v section start h.width h.first place so) (operation_text o h.width) (macros_at h.first (at_operation h.width)) (macros_at place (at_operation h.width)) (macros_at next (at_operation h.width)) h.first place next
     (operations-run v section start cells P h place c q holds so)
-    (subst (λ (m : MacroMode). MacroRun v section cells P [] [] (macros_at place (at_operation h.width)) (macros_at next m) place next) (more-mode o h.width more)
+    (subst (λ (m : MacroMode). MacroRun v section cells P [] [] (operation_text o h.width) (macros_at place (at_operation h.width)) (macros_at next m) place next) (more-mode o h.width more)
     (unit-operation-run v section start cells P h.width place o next c q (λ names field is. holds.offset place o next names field so e is) e))
 
 -- a unit that starts at a place of a section
@@ -325,7 +363,7 @@ start_at section place = record { section = section; place = place } ∷ []
 -- the version and the flags
 flags-run : (v : View) (section : ℕ) (cells : List Cell) (P : Piece MacroState → Type 0) (start : ℕ) → CellsOf v section cells → HoldsElse P → start + 3 ≤ length (section_bytes v section)
     → is_macro_version (spelled v.order (section_bytes v section) start 2) ≡ true → has_flag (slice_index (section_bytes v section) (start + 2)) OPCODE_OPERANDS_TABLE_FLAG ≡ false
-    → MacroRun v section cells P (start_at section start) [] (macros_at start at_unit) (macros_at (start + 3) (after_flags (slice_index (section_bytes v section) (start + 2)))) start (start + 3)
+    → MacroRun v section cells P (start_at section start) [] [] (macros_at start at_unit) (macros_at (start + 3) (after_flags (slice_index (section_bytes v section) (start + 2)))) start (start + 3)
 flags-run v section cells P start c q h version operands =
     let size : length (take 3 (drop start cells)) ≡ 3 = part-size v section cells start 3 c h in
     let bytes : bytes_of (take 3 (drop start cells)) ≡ take 3 (drop start (section_bytes v section)) = part-is v section cells start 3 c in
@@ -357,7 +395,7 @@ header_line h = if h.has_line then line_at h.width h.line_field else []
 -- the offset of a line table
 line-run : (v : View) (section : ℕ) (cells : List Cell) (P : Piece MacroState → Type 0) (width : Width) (place : ℕ) → CellsOf v section cells
     → place + width_size width ≤ length (section_bytes v section) → P (offset_piece cells (at_line width) width place)
-    → MacroRun v section cells P [] (line_at width place) (macros_at place (at_line width)) (macros_at (place + width_size width) (at_operation width)) place (place + width_size width)
+    → MacroRun v section cells P [] (line_at width place) [] (macros_at place (at_line width)) (macros_at (place + width_size width) (at_operation width)) place (place + width_size width)
 line-run v section cells P width place c h holds =
     let size : length (take (width_size width) (drop place cells)) ≡ width_size width = part-size v section cells place (width_size width) c h in
     macro-one v section cells P (macros_at place (at_line width)) (macros_at (place + width_size width) (at_operation width)) place (width_size width) size
@@ -372,7 +410,7 @@ lined_header version w place = record { version = version; width = w; has_line =
 -- a header
 header-run : (v : View) (section : ℕ) (cells : List Cell) (P : Piece MacroState → Type 0) (start : ℕ) (h : MacroHeader) → CellsOf v section cells → HoldsElse P
     → (h.has_line ≡ true → P (offset_piece cells (at_line h.width) h.width h.line_field)) → macro_header v.order (section_bytes v section) start ≡ Some h
-    → MacroRun v section cells P (start_at section start) (header_line h) (macros_at start at_unit) (macros_at h.first (at_operation h.width)) start h.first
+    → MacroRun v section cells P (start_at section start) (header_line h) [] (macros_at start at_unit) (macros_at h.first (at_operation h.width)) start h.first
 unfolding macro_header header_of header_by
 header-run v section cells P start h c q holds e =
     let room = if-some (nat_le (start + 3) (length (section_bytes v section)))
@@ -384,12 +422,12 @@ header-run v section cells P start h c q holds e =
     by_operands (has_flag (slice_index (section_bytes v section) (start + 2)) OPCODE_OPERANDS_TABLE_FLAG) refl (leb-true (start + 3) (length (section_bytes v section)) room.0) version.0 version.1
   where
     Leads_to : MacroHeader → Type 0
-    Leads_to x = MacroRun v section cells P (start_at section start) (header_line x) (macros_at start at_unit) (macros_at x.first (at_operation x.width)) start x.first
+    Leads_to x = MacroRun v section cells P (start_at section start) (header_line x) [] (macros_at start at_unit) (macros_at x.first (at_operation x.width)) start x.first
 
     line_holds : (x : MacroHeader) → x ≡ h → x.has_line ≡ true → P (offset_piece cells (at_line x.width) x.width x.line_field)
     line_holds x same = subst (λ (y : MacroHeader). y.has_line ≡ true → P (offset_piece cells (at_line y.width) y.width y.line_field)) (sym same) holds
 
-    by_line : (b : Bool) (w : Width) → MacroRun v section cells P (start_at section start) [] (macros_at start at_unit) (macros_at (start + 3) (if b then at_line w else at_operation w)) start (start + 3)
+    by_line : (b : Bool) (w : Width) → MacroRun v section cells P (start_at section start) [] [] (macros_at start at_unit) (macros_at (start + 3) (if b then at_line w else at_operation w)) start (start + 3)
         → header_by (section_bytes v section) (spelled v.order (section_bytes v section) start 2) w b (start + 3) ≡ Some h → Leads_to h
     by_line false w r g = subst Leads_to (some-same (plain_header (spelled v.order (section_bytes v section) start 2) w (start + 3)) h g) r
     by_line true w r g =
@@ -398,7 +436,7 @@ header-run v section cells P start h c q holds e =
         let same : lined_header (spelled v.order (section_bytes v section) start 2) w (start + 3) ≡ h =
         some-same (lined_header (spelled v.order (section_bytes v section) start 2) w (start + 3)) h both.1 in
         subst Leads_to same
-        (macro-more v section cells P (start_at section start) [] [] (line_at w (start + 3)) (macros_at start at_unit) (macros_at (start + 3) (at_line w)) (macros_at (start + 3 + width_size w) (at_operation w)) start (start + 3) (start + 3 + width_size w) r
+        (macro-more v section cells P (start_at section start) [] [] (line_at w (start + 3)) [] [] (macros_at start at_unit) (macros_at (start + 3) (at_line w)) (macros_at (start + 3 + width_size w) (at_operation w)) start (start + 3) (start + 3 + width_size w) r
         (line-run v section cells P w (start + 3) c (leb-true (start + 3 + width_size w) (length (section_bytes v section)) both.0)
         (line_holds (lined_header (spelled v.order (section_bytes v section) start 2) w (start + 3)) same refl)))
 
@@ -429,18 +467,21 @@ header-unit v section start end h = by_line h.has_line
 
 -- a unit
 unit-run : (v : View) (section : ℕ) (cells : List Cell) (P : Piece MacroState → Type 0) (start : ℕ) (u : MacroUnit) → CellsOf v section cells → HoldsElse P → (is : IsMacroUnit v section start u)
-    → UnitHolds v section cells P start is.header → MacroRun v section cells P (start_at section start) (unit_line u) (macros_at start at_unit) (macros_at u.end at_unit) start u.end
+    → UnitHolds v section cells P start is.header
+    → MacroRun v section cells P (start_at section start) (unit_line u) (unit_texts v section start u is) (macros_at start at_unit) (macros_at u.end at_unit) start u.end
 unit-run v section cells P start u c q is holds =
     let end : u.end ≡ is.end = ap (λ (x : MacroUnit). x.end) is.is in
     let line : header_line is.header ≡ unit_line u = header-unit v section start is.end is.header ∙ ap unit_line (sym is.is) in
     let none : header_line is.header ++ [] ≡ header_line is.header = append-nil (header_line is.header) in
     let both : header_line is.header ++ [] ++ [] ≡ unit_line u = ap (λ (l : List FieldPlace). l ++ []) none ∙ none ∙ line in
-    subst (λ (n : ℕ). MacroRun v section cells P (start_at section start) (unit_line u) (macros_at start at_unit) (macros_at n at_unit) start n) (sym end)
-    (subst (λ (fs : List FieldPlace). MacroRun v section cells P (start_at section start) fs (macros_at start at_unit) (macros_at is.end at_unit) start is.end) both
-    (macro-more v section cells P (start_at section start) [] (header_line is.header ++ []) [] (macros_at start at_unit) (macros_at is.last (at_operation is.header.width)) (macros_at is.end at_unit) start is.last is.end
-    (macro-more v section cells P (start_at section start) [] (header_line is.header) [] (macros_at start at_unit) (macros_at is.header.first (at_operation is.header.width)) (macros_at is.last (at_operation is.header.width)) start is.header.first is.last
+    subst (λ (n : ℕ). MacroRun v section cells P (start_at section start) (unit_line u) (unit_texts v section start u is) (macros_at start at_unit) (macros_at n at_unit) start n) (sym end)
+    (subst (λ (ts : List FieldPlace). MacroRun v section cells P (start_at section start) (unit_line u) ts (macros_at start at_unit) (macros_at is.end at_unit) start is.end)
+    (append-nil (unit_texts v section start u is))
+    (subst (λ (fs : List FieldPlace). MacroRun v section cells P (start_at section start) fs (unit_texts v section start u is ++ []) (macros_at start at_unit) (macros_at is.end at_unit) start is.end) both
+    (macro-more v section cells P (start_at section start) [] (header_line is.header ++ []) [] (unit_texts v section start u is) [] (macros_at start at_unit) (macros_at is.last (at_operation is.header.width)) (macros_at is.end at_unit) start is.last is.end
+    (macro-more v section cells P (start_at section start) [] (header_line is.header) [] [] (unit_texts v section start u is) (macros_at start at_unit) (macros_at is.header.first (at_operation is.header.width)) (macros_at is.last (at_operation is.header.width)) start is.header.first is.last
     (header-run v section cells P start is.header c q holds.line is.header_is) (operations-run v section start cells P is.header is.last c q holds is.operations))
-    (unit-operation-run v section start cells P is.header.width is.last End is.end c q (λ names field e. absurd (no_offset names field e)) is.ends)))
+    (unit-operation-run v section start cells P is.header.width is.last End is.end c q (λ names field e. absurd (no_offset names field e)) is.ends))))
   where
     no_offset : (names : OffsetUse) (field : ℕ) → offset_use End ≡ Some (names, field) → ⊥
     no_offset names field e = cc
@@ -479,31 +520,32 @@ abbrev pub Asked : View → ℕ → List Cell → (Piece MacroState → Type 0) 
 Asked v section cells P start u = (is : IsMacroUnit v section start u) → UnitHolds v section cells P start is.header
 
 units-run : (v : View) (section : ℕ) (cells : List Cell) (P : Piece MacroState → Type 0) (list : List MacroUnit) (place : ℕ) → CellsOf v section cells → HoldsElse P
-    → EachUnit (Asked v section cells P) list → MacroUnitsUpTo v section list place
-    → MacroRun v section cells P (unit_starts section list) (unit_lines list) (macros_at 0 at_unit) (macros_at place at_unit) 0 place
+    → EachUnit (Asked v section cells P) list → (up : MacroUnitsUpTo v section list place)
+    → MacroRun v section cells P (unit_starts section list) (unit_lines list) (units_texts v section list place up) (macros_at 0 at_unit) (macros_at place at_unit) 0 place
 units-run v section cells P list place c q each no_units = macro-none v section cells P (macros_at 0 at_unit) 0
 units-run v section cells P all place c q each (more_units list u start so is) =
     let both = each-front (Asked v section cells P) list u each in
     let begins : u.start ≡ start = ap (λ (x : MacroUnit). x.start) is.is in
     let starts : unit_starts section list ++ start_at section start ≡ unit_starts section (list ++ u ∷ []) =
     ap (λ (n : ℕ). unit_starts section list ++ start_at section n) (sym begins) ∙ sym (starts-last section list u) in
-    subst (λ (ss : List MacroStart). MacroRun v section cells P ss (unit_lines (list ++ u ∷ [])) (macros_at 0 at_unit) (macros_at u.end at_unit) 0 u.end) starts
-    (subst (λ (fs : List FieldPlace). MacroRun v section cells P (unit_starts section list ++ start_at section start) fs (macros_at 0 at_unit) (macros_at u.end at_unit) 0 u.end) (sym (lines-last list u))
-    (macro-more v section cells P (unit_starts section list) (start_at section start) (unit_lines list) (unit_line u) (macros_at 0 at_unit) (macros_at start at_unit) (macros_at u.end at_unit) 0 start u.end
+    subst (λ (ss : List MacroStart). MacroRun v section cells P ss (unit_lines (list ++ u ∷ [])) (units_texts v section list start so ++ unit_texts v section start u is) (macros_at 0 at_unit) (macros_at u.end at_unit) 0 u.end) starts
+    (subst (λ (fs : List FieldPlace). MacroRun v section cells P (unit_starts section list ++ start_at section start) fs (units_texts v section list start so ++ unit_texts v section start u is) (macros_at 0 at_unit) (macros_at u.end at_unit) 0 u.end) (sym (lines-last list u))
+    (macro-more v section cells P (unit_starts section list) (start_at section start) (unit_lines list) (unit_line u) (units_texts v section list start so) (unit_texts v section start u is) (macros_at 0 at_unit) (macros_at start at_unit) (macros_at u.end at_unit) 0 start u.end
     (units-run v section cells P list start c q both.0 so) (unit-run v section cells P start u c q is (both.1 start is))))
 
 -- the pieces of a section, and where units start in them
-pub record PiecesRead (v : View) (section : ℕ) (cells : List Cell) (P : Piece MacroState → Type 0) (list : List MacroUnit) : Type 0 where
+pub record PiecesRead (v : View) (section : ℕ) (cells : List Cell) (P : Piece MacroState → Type 0) (list : List MacroUnit) (are : AreMacroUnits v section list) : Type 0 where
   pub pieces : List (Piece MacroState)
   pub reads : ReadsMacros v.order cells pieces
   pub each : EachPiece P pieces
   pub starts : starts_in section pieces ≡ unit_starts section list
   pub lines : line_fields pieces ≡ unit_lines list
+  pub texts : text_fields pieces ≡ units_texts v section list (length (section_bytes v section)) are
 
 pub units-read : (v : View) (section : ℕ) (cells : List Cell) (P : Piece MacroState → Type 0) (list : List MacroUnit) → CellsOf v section cells → HoldsElse P
-    → EachUnit (Asked v section cells P) list → AreMacroUnits v section list → PiecesRead v section cells P list
+    → EachUnit (Asked v section cells P) list → (are : AreMacroUnits v section list) → PiecesRead v section cells P list are
 units-read v section cells P list c q each are =
-    let r : MacroRun v section cells P (unit_starts section list) (unit_lines list) (macros_at 0 at_unit) (macros_at (length (section_bytes v section)) at_unit) 0 (length (section_bytes v section)) =
+    let r : MacroRun v section cells P (unit_starts section list) (unit_lines list) (units_texts v section list (length (section_bytes v section)) are) (macros_at 0 at_unit) (macros_at (length (section_bytes v section)) at_unit) 0 (length (section_bytes v section)) =
     units-run v section cells P list (length (section_bytes v section)) c q each are in
     let size : length cells ≡ length (section_bytes v section) = cells-length v section cells c in
     let none : drop (length (section_bytes v section)) cells ≡ [] = drop_all (length (section_bytes v section)) cells (omega (arith, size)) in
@@ -516,6 +558,7 @@ units-read v section cells P list c q each are =
       each = r.each;
       starts = r.starts;
       lines = r.lines;
+      texts = r.texts;
     }
 
 -- the text that an offset names, which was read without a refusal
@@ -554,7 +597,7 @@ all-units-read v P [] [] q all = record { readings = []; reads = tt; each = tt; 
 all-units-read v P [] (us ∷ rest) q all = absurd all
 all-units-read v P (z ∷ zs) [] q all = absurd all
 all-units-read v P (z ∷ zs) (us ∷ rest) q all =
-    let here : PiecesRead v z.number z.contents P us = units-read v z.number z.contents P us all.0 q all.1 all.2 in
+    let here : PiecesRead v z.number z.contents P us all.2 = units-read v z.number z.contents P us all.0 q all.1 all.2 in
     let others : MacrosFound v P zs rest = all-units-read v P zs rest q all.3 in
     record {
       readings = record { number = z.number; pieces = here.pieces } ∷ others.readings;
