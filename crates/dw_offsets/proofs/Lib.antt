@@ -6,6 +6,7 @@ pub mod NameListLaws
 pub mod NameExcludeLaws
 pub mod NameViewLaws
 pub mod OffsetPieceLaws
+pub mod NameStringLaws
 pub mod NamePieceLaws
 pub mod SlotNumberLaws
 pub mod SlotMarkLaws

@@ -5,6 +5,7 @@ use Rattle.dw_base.specs.declared.fault.Refusal.{Refusal}
 use Rattle.dw_base.specs.NameTables.{TablesUpTo, no_tables, more_tables}
 use Rattle.dw_base.specs.NameTableFails.{one}
 use Rattle.dw_base.specs.declared.name_tables.NameTable.{NameTable}
+use Rattle.dw_offsets.proofs.NameStringLaws.{none-fit, fits-more, tables-fit}
 use Rattle.dw_base.specs.NameOffsets.{ReadUpTo, none_read, more_read, TableRefuses, table_fails, offset_fails, TablesRefuse, tables, offsets}
 
 -- tables whose string offsets can be read are tables
@@ -27,4 +28,4 @@ pub tables-fill : (v : View) (section : ℕ) (bytes found : List ℕ) (start : �
 tables-fill v section bytes found start list u same within far =
     subst (λ (k : ℕ). ReadUpTo v section bytes list k) (omega (arith, within, subst (λ (bs : List ℕ). length bs ≤ start) same far)) u
 
-pub ruleset list_laws = (none_read, more_read, section-fails, tables-fill)
+pub ruleset list_laws = (none_read, more_read, section-fails, tables-fill, none-fit, fits-more, tables-fit)

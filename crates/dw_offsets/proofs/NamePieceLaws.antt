@@ -1,5 +1,5 @@
 -- From name tables that were read one after another to the pieces of the section.
-use Rattle.std.proofs.Common.{true, ◌≡◌, ◌<◌, ◌∷◌, Option, None, ℕ, zero, suc, ◌+◌, ◌-◌, ◌*◌, ◌≤◌, List, [], ◌++◌, length, take, drop, Some, refl, sym, ap, ◌∙◌, subst, arith, append_assoc}
+use Rattle.std.proofs.Common.{true, false, ◌≡◌, ◌<◌, ◌∷◌, Option, None, ℕ, zero, suc, ◌+◌, ◌-◌, ◌*◌, ◌≤◌, List, [], ◌++◌, length, take, drop, Some, refl, sym, ap, ◌∙◌, subst, arith, append_assoc}
 use Rattle.std.specs.Bool.{⊤}
 use Rattle.std.specs.Prelude.{is_some}
 use Rattle.std.proofs.lemmas.List.{append-nil, drop_all, drop-drop, take-append-drop}
@@ -30,6 +30,9 @@ use Rattle.dw_offsets.proofs.OffsetPieceLaws.{header-length}
 use Rattle.dw_base.proofs.ViewOffsetLaws.{offset-reads, some-named}
 use Rattle.dw_base.specs.NameOffsets.{AreRead, OffsetsRead, ReadUpTo, none_read, more_read}
 use Rattle.dw_base.proofs.RunLaws.{leads-chain, part-bytes, part-length}
+use Rattle.dw_offsets.specs.NameFields.{fields_of_names, piece_strings, string_field, string_fields}
+use Rattle.dw_offsets.specs.declared.fields.OffsetField.{OffsetField}
+use Rattle.dw_offsets.proofs.NameStringLaws.{names-more}
 
 -- the counts of a table are in its front
 pub field-part : (o : Order) (bs : List ℕ) (a n at k : ℕ) → at + k + 4 ≤ n → spelled o (take n (drop a bs)) (at + k) 4 ≡ spelled o bs (a + at + k) 4
@@ -137,12 +140,13 @@ abbrev PieceReads : View → List Cell → Piece NameState → Type 0
 PieceReads v cells x = StringNamesBy x.state.mode v x.cells × StringReadsBy x.state.mode v.order cells x.state.place
 
 -- pieces that lead from one state to another, whose cells stand from one place of some cells to another; each string offset among
--- them can be read and names a text
-record TextRun (v : View) (cells : List Cell) (s t : NameState) (a b : ℕ) : Type 0 where
+-- them can be read and names a text, and these are their fields
+record TextRun (v : View) (cells : List Cell) (s t : NameState) (a b : ℕ) (fs : List OffsetField) : Type 0 where
   pieces : List (Piece NameState)
   leads : Leads (name_grammar v.order) s pieces t
   covers : joined pieces ++ drop b cells ≡ drop a cells
   each : EachPiece (PieceReads v cells) pieces
+  fields : piece_strings pieces ≡ fs
 
 each-more : (P : Piece NameState → Type 0) (xs ys : List (Piece NameState)) → EachPiece P xs → EachPiece P ys → EachPiece P (xs ++ ys)
 each-more P [] ys h k = k
@@ -156,27 +160,37 @@ joined-append : {S : Type 0} (xs ys : List (Piece S)) → joined (xs ++ ys) ≡ 
 joined-append [] ys = refl
 joined-append (x ∷ xs) ys = ap (λ (r : List Cell). x.cells ++ r) (joined-append xs ys) ∙ sym (append_assoc x.cells (joined xs) (joined ys))
 
-text-more : (v : View) (cells : List Cell) (s t u : NameState) (a b c : ℕ) → TextRun v cells s t a b → TextRun v cells t u b c → TextRun v cells s u a c
-text-more v cells s t u a b c m n = record {
+strings-append : (xs ys : List (Piece NameState)) → piece_strings (xs ++ ys) ≡ piece_strings xs ++ piece_strings ys
+strings-append [] ys = refl
+strings-append (x ∷ xs) ys =
+    ap (λ (fs : List OffsetField). string_field x.state.mode x.state.place (length x.cells) ++ fs) (strings-append xs ys)
+    ∙ sym (append_assoc (string_field x.state.mode x.state.place (length x.cells)) (piece_strings xs) (piece_strings ys))
+
+text-more : (v : View) (cells : List Cell) (s t u : NameState) (a b c : ℕ) (fs gs : List OffsetField) → TextRun v cells s t a b fs → TextRun v cells t u b c gs
+    → TextRun v cells s u a c (fs ++ gs)
+text-more v cells s t u a b c fs gs m n = record {
   pieces = m.pieces ++ n.pieces;
   leads = leads-more (name_grammar v.order) s t u m.pieces n.pieces m.leads n.leads;
   covers =
       ap (λ (x : List Cell). x ++ drop c cells) (joined-append m.pieces n.pieces) ∙ append_assoc (joined m.pieces) (joined n.pieces) (drop c cells)
       ∙ ap (λ (x : List Cell). joined m.pieces ++ x) n.covers ∙ m.covers;
   each = each-more (PieceReads v cells) m.pieces n.pieces m.each n.each;
+  fields =
+      strings-append m.pieces n.pieces ∙ ap (λ (x : List OffsetField). x ++ piece_strings n.pieces) m.fields ∙ ap (λ (x : List OffsetField). fs ++ x) n.fields;
 }
 
 -- a piece of so many cells
-text-one : (v : View) (cells : List Cell) (s t : NameState) (a n : ℕ) → (name_grammar v.order).Fits s (take n (drop a cells))
+text-one : (v : View) (cells : List Cell) (s t : NameState) (a n : ℕ) (fs : List OffsetField) → (name_grammar v.order).Fits s (take n (drop a cells))
     → (name_grammar v.order).next s (take n (drop a cells)) ≡ t → StringNamesBy s.mode v (take n (drop a cells)) → StringReadsBy s.mode v.order cells s.place
-    → TextRun v cells s t a (a + n)
-text-one v cells s t a n fits next names reads = record {
+    → string_field s.mode s.place (length (take n (drop a cells))) ≡ fs → TextRun v cells s t a (a + n) fs
+text-one v cells s t a n fs fits next names reads fields = record {
   pieces = record { state = s; cells = take n (drop a cells) } ∷ [];
   leads = (refl, fits, next);
   covers =
       append_assoc (take n (drop a cells)) [] (drop (a + n) cells)
       ∙ ap (λ (x : List Cell). take n (drop a cells) ++ x) (sym (drop-drop n a cells)) ∙ take-append-drop n (drop a cells);
   each = ((names, reads), tt);
+  fields = append-nil (string_field s.mode s.place (length (take n (drop a cells)))) ∙ fields;
 }
 
 -- the contents of a section of a view
@@ -221,13 +235,13 @@ read-rest order cells w k place h = λ i lt.
 -- so many string offsets, and what is left of their table
 strings-run : (v : View) (section : ℕ) (cells : List Cell) (w : Width) (k place end : ℕ) → IsSection v section cells → NameFrom v section w k place
     → ReadFrom v.order cells w k place → place + k * width_size w ≤ end → end ≤ length cells
-    → TextRun v cells (before_strings_of (length cells) place w k end) (names_at (length cells) end at_table) place end
+    → TextRun v cells (before_strings_of (length cells) place w k end) (names_at (length cells) end at_table) place end (string_fields w k place)
 strings-run v section cells w zero place end is names reads fits inside =
     let room : place ≤ end = omega (arith, fits) in
     let size : length (take (end - place) (drop place cells)) ≡ end - place = part-length (end - place) place cells (omega (arith, room, inside)) in
     let here : place + length (take (end - place) (drop place cells)) ≡ end = omega (arith, size, room) in
-    let one = text-one v cells (names_at (length cells) place (at_rest end)) (names_at (length cells) end at_table) place (end - place) here refl tt tt in
-    subst (λ (b : ℕ). TextRun v cells (names_at (length cells) place (at_rest end)) (names_at (length cells) end at_table) place b) (omega (arith, room)) one
+    let one = text-one v cells (names_at (length cells) place (at_rest end)) (names_at (length cells) end at_table) place (end - place) [] here refl tt tt refl in
+    subst (λ (b : ℕ). TextRun v cells (names_at (length cells) place (at_rest end)) (names_at (length cells) end at_table) place b []) (omega (arith, room)) one
 strings-run v section cells w (suc k) place end is names reads fits inside =
     let more : suc k * width_size w ≡ width_size w + k * width_size w = more-size w k in
     let room : place + width_size w ≤ end = omega (arith, fits, more) in
@@ -240,10 +254,13 @@ strings-run v section cells w (suc k) place end is names reads fits inside =
     ap (ends_in (texts_in v).bytes) (part-offset v section cells (width_size w) place is (width-some w) whole)
     ∙ ap (λ (p : ℕ). ends_in (texts_in v).bytes (offset_into (texts_in v) (field_at v section p (width_size w)))) (sym first) ∙ names 0 (omega arith) in
     let one = text-one v cells (names_at (length cells) place (at_string w k end)) (before_strings_of (length cells) (place + width_size w) w k end) place (width_size w)
+    (record { at = place; size = width_size w; path = false } ∷ [])
     (record { size = size; before = omega (arith, size, room) }) next ends
-    (subst (λ (p : ℕ). OffsetReads v.order cells (field_place p (width_size w) offset_field)) first (reads 0 (omega arith))) in
+    (subst (λ (p : ℕ). OffsetReads v.order cells (field_place p (width_size w) offset_field)) first (reads 0 (omega arith)))
+    (ap (λ (n : ℕ). record { at = place; size = n; path = false } ∷ []) size) in
     text-more v cells (names_at (length cells) place (at_string w k end)) (before_strings_of (length cells) (place + width_size w) w k end)
-    (names_at (length cells) end at_table) place (place + width_size w) end one
+    (names_at (length cells) end at_table) place (place + width_size w) end (record { at = place; size = width_size w; path = false } ∷ [])
+    (string_fields w k (place + width_size w)) one
     (strings-run v section cells w k (place + width_size w) end is (name-rest v section w k place names) (read-rest v.order cells w k place reads) (omega (arith, fits, more)) inside)
 
 -- the string offsets lie in the table
@@ -269,16 +286,17 @@ strings-read v section cells t is reads inside = λ i lt.
 
 -- a table is its pieces
 table-run : (v : View) (section : ℕ) (cells : List Cell) (start : ℕ) (t : NameTable) → IsSection v section cells → IsNamedTable v section (bytes_of cells) start t
-    → OffsetsRead v section t t.names → TextRun v cells (names_at (length cells) start at_table) (names_at (length cells) t.end at_table) start t.end
+    → OffsetsRead v section t t.names
+    → TextRun v cells (names_at (length cells) start at_table) (names_at (length cells) t.end at_table) start t.end (string_fields t.width t.names t.strings)
 table-run v section cells start t whole named reads =
     let order : Order = v.order in
     let is : IsNameTable v.order (bytes_of cells) start t = named.table in
     let parts : Parts cells start t named.table.lengths (counts_of v.order cells start named.table.lengths) (front_size v.order cells start named.table.lengths) =
     parts-of v.order cells start t named.table in
     let head = text-one v cells (names_at (length cells) start at_table) (before_strings_of (length cells) t.strings t.width t.names t.end) start
-    (front_size v.order cells start named.table.lengths)
+    (front_size v.order cells start named.table.lengths) []
     (front-piece v.order cells start t named.table.lengths (front_size v.order cells start named.table.lengths) parts named.table.length_is named.table.version)
-    (front-next v.order cells start t named.table.lengths (front_size v.order cells start named.table.lengths) parts named.table.length_is) tt tt in
+    (front-next v.order cells start t named.table.lengths (front_size v.order cells start named.table.lengths) parts named.table.length_is) tt tt refl in
     let sizes : t.names * width_size t.width ≡ (counts_of v.order cells start named.table.lengths).names * width_size named.table.lengths.0 =
     ap (λ (k : ℕ). k * width_size t.width) parts.names ∙ ap (λ (w : Width). (counts_of v.order cells start named.table.lengths).names * width_size w) parts.width in
     let room : t.strings + t.names * width_size t.width ≤ t.end =
@@ -286,30 +304,33 @@ table-run v section cells start t whole named reads =
     let inside : t.end ≤ length cells = omega (arith, named.table.within, length-bytes_of cells) in
     let rest = strings-run v section cells t.width t.names t.strings t.end whole named.texts.all
     (strings-read v section cells t whole reads (omega (arith, room, inside))) room inside in
-    let first = subst (λ (b : ℕ). TextRun v cells (names_at (length cells) start at_table) (before_strings_of (length cells) t.strings t.width t.names t.end) start b)
+    let first = subst (λ (b : ℕ). TextRun v cells (names_at (length cells) start at_table) (before_strings_of (length cells) t.strings t.width t.names t.end) start b [])
     (sym parts.strings) head in
     text-more v cells (names_at (length cells) start at_table) (before_strings_of (length cells) t.strings t.width t.names t.end)
-    (names_at (length cells) t.end at_table) start t.strings t.end first rest
+    (names_at (length cells) t.end at_table) start t.strings t.end [] (string_fields t.width t.names t.strings) first rest
 
 -- so are all of a section
 tables-run : (v : View) (section : ℕ) (cells : List Cell) (list : List NameTable) (place : ℕ) → IsSection v section cells → ReadUpTo v section (bytes_of cells) list place
-    → TextRun v cells (names_at (length cells) 0 at_table) (names_at (length cells) place at_table) 0 place
+    → TextRun v cells (names_at (length cells) 0 at_table) (names_at (length cells) place at_table) 0 place (fields_of_names list)
 tables-run v section cells list place whole none_read = record {
   pieces = [];
   leads = refl;
   covers = refl;
   each = tt;
+  fields = refl;
 }
 tables-run v section cells list place whole (more_read before t start u is reads) =
-    text-more v cells (names_at (length cells) 0 at_table) (names_at (length cells) start at_table) (names_at (length cells) t.end at_table) 0 start t.end
-    (tables-run v section cells before start whole u) (table-run v section cells start t whole is reads)
+    subst (λ (fs : List OffsetField). TextRun v cells (names_at (length cells) 0 at_table) (names_at (length cells) t.end at_table) 0 t.end fs) (sym (names-more before t))
+    (text-more v cells (names_at (length cells) 0 at_table) (names_at (length cells) start at_table) (names_at (length cells) t.end at_table) 0 start t.end
+    (fields_of_names before) (string_fields t.width t.names t.strings) (tables-run v section cells before start whole u) (table-run v section cells start t whole is reads))
 
--- where tables fill a section, it is their pieces; each string offset among them names a text, and no relocation refuses it
-pub record NamesRead (v : View) (cells : List Cell) : Type 0 where
+-- where tables fill a section, it is their pieces; each string offset among them names a text, no relocation refuses it, and they have the tables' fields
+pub record NamesRead (v : View) (cells : List Cell) (list : List NameTable) : Type 0 where
   pub pieces : List (Piece NameState)
   pub reads : ReadsNames v.order cells pieces
   pub texts : EachPiece (λ x. StringNamesBy x.state.mode v x.cells) pieces
   pub offsets : (f : FieldPlace) → IsField (name_fields pieces) f → OffsetReads v.order cells f
+  pub fields : piece_strings pieces ≡ fields_of_names list
 
 texts-of : (v : View) (cells : List Cell) (xs : List (Piece NameState)) → EachPiece (PieceReads v cells) xs → EachPiece (λ x. StringNamesBy x.state.mode v x.cells) xs
 texts-of v cells [] h = tt
@@ -343,7 +364,7 @@ field-of v cells (x ∷ xs) before behind f h e =
     field-step v.order cells x.state.mode x.state.place (name_fields xs) before behind f h.0.1 (λ front g. field-of v cells xs front behind f h.1 g) e
 
 tables-read : (v : View) (section : ℕ) (cells : List Cell) (list : List NameTable) → IsSection v section cells
-    → ReadUpTo v section (bytes_of cells) list (length (bytes_of cells)) → NamesRead v cells
+    → ReadUpTo v section (bytes_of cells) list (length (bytes_of cells)) → NamesRead v cells list
 tables-read v section cells list whole u =
     let all = tables-run v section cells list (length (bytes_of cells)) whole u in
     let same : length (bytes_of cells) ≡ length cells = length-bytes_of cells in
@@ -357,22 +378,29 @@ tables-read v section cells list whole u =
       };
       texts = texts-of v cells all.pieces all.each;
       offsets = λ f is. field-of v cells all.pieces is.before is.behind f all.each is.is;
+      fields = all.fields;
     }
+
+-- a section without bytes has no table
+no-fields : (v : View) (section : ℕ) (bytes : List ℕ) (list : List NameTable) (place : ℕ) → length bytes ≡ 0 → ReadUpTo v section bytes list place → fields_of_names list ≡ []
+no-fields v section bytes list place none none_read = refl
+no-fields v section bytes list place none (more_read before t start u is reads) = absurd (omega (arith, none, is.table.within, is.table.header))
 
 -- the name tables of a view are pieces
 names-by : (v : View) (o : Option ℕ) (list : List NameTable) → section_named v (name_of Names) ≡ o
-    → ReadUpTo v (located_at v o).number (located_at v o).bytes list (length (located_at v o).bytes) → NamesRead v (cells_located v o).contents
+    → ReadUpTo v (located_at v o).number (located_at v o).bytes list (length (located_at v o).bytes) → NamesRead v (cells_located v o).contents list
 names-by v None list here u = record {
   pieces = [];
   reads = record { chain = record { mode = refl; place = refl }; cells = refl };
   texts = tt;
   offsets = λ f is. absurd (no-field is.before is.behind f is.is);
+  fields = sym (no-fields v 0 [] list 0 refl u);
 }
 names-by v (Some i) list here u =
     let bytes : bytes_of (view_cells v i) ≡ section_bytes v i = bytes_of-view_cells v i in
     tables-read v i (view_cells v i) list (record { same = refl; kind = some-named v Names i (sym here) })
     (subst (λ (bs : List ℕ). ReadUpTo v i bs list (length bs)) (sym bytes) u)
 
-pub names-read : (v : View) (list : List NameTable) → AreRead v list → NamesRead v (cells_located v (section_named v (name_of Names))).contents
+pub names-read : (v : View) (list : List NameTable) → AreRead v list → NamesRead v (cells_located v (section_named v (name_of Names))).contents list
 unfolding located
 names-read v list u = names-by v (section_named v (name_of Names)) list refl u

@@ -11,6 +11,7 @@ use Rattle.dw_base.specs.NameTables.{names_of, AreNameTables}
 use Rattle.dw_base.specs.declared.name_tables.NameTable.{NameTable}
 use Rattle.dw_base.specs.NameOffsets.{AreRead, NamesRefuse, none_read, ReadUpTo, TablesRefuse}
 use Rattle.dw_offsets.proofs.NameListLaws.{read-tables}
+use Rattle.dw_offsets.proofs.NameStringLaws.{none-fit}
 
 here-is : (v : View) (o : Option ℕ) → o ≡ section_named v (name_of Names) → names_of v ≡ located_at v o
 unfolding located
@@ -36,4 +37,4 @@ pub some-refused : (v : View) (section : ℕ) (x : Fault) → Some section ≡ s
 some-refused v section NoMemory some f = tt
 some-refused v section (Refused r) some f = rw (here-is v (Some section) some) f
 
-pub ruleset section_laws = (none-offsets, some-offsets, none-read, some-read)
+pub ruleset section_laws = (none-offsets, some-offsets, none-read, some-read, none-fit)

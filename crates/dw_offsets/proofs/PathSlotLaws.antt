@@ -1,5 +1,5 @@
 -- Laws of the pass over the slots of string offsets.
-use Rattle.std.proofs.Common.{Bool, true, false, ◌≡◌, ◌≢◌, ℕ, zero, suc, ◌+◌, ◌-◌, ◌*◌, ◌/◌, ◌<◌, ◌≤◌, nat_eq, nat_lt, if◌then◌else◌, List, [], ◌∷◌, ◌++◌, length, get_or, take, Option, Some, None, refl, sym, ap, ◌∙◌, subst, arith, append_assoc}
+use Rattle.std.proofs.Common.{Bool, true, false, ◌≡◌, ◌≢◌, ℕ, zero, suc, ◌+◌, ◌-◌, ◌*◌, ◌/◌, ◌<◌, ◌≤◌, nat_eq, nat_lt, List, [], ◌∷◌, ◌++◌, length, get_or, take, Option, Some, None, refl, sym, ap, ◌∙◌, subst, arith, append_assoc}
 use Rattle.std.specs.Prelude.{Result, Ok, Err, is_some, IfErr, IfOk, OnOk}
 use Rattle.std.proofs.lemmas.Bool.{eqb-true}
 use Rattle.std.proofs.lemmas.Bool.Decides.{nat_tests}
@@ -32,7 +32,7 @@ use Rattle.dw_offsets.specs.PathSlots.{SlotTable, table_with, table_in, slots_in
 use Rattle.dw_offsets.specs.SlotMarks.{marked}
 use Rattle.dw_base.specs.ViewOffsets.{offset_read}
 use Rattle.dw_base.proofs.ViewOffsetLaws.{offset-fails, offset-is, offset-reads, some-named}
-use Rattle.dw_base.specs.declared.texts.TextField.{TextField}
+use Rattle.dw_offsets.specs.declared.fields.OffsetField.{OffsetField}
 
 -- a slot
 abbrev slot_of : ℕ → ℕ → Slot
@@ -196,21 +196,14 @@ check-shared m t marks place size f b p o reads is e ends path is_path other is_
 pub ruleset check_laws = (check-no_offset, check-no_text, check-no_path, check-no_other, check-stays, check-shared)
 
 -- a slot that was taken
-pub taken-path : (m : PathMap) (t : SlotTable) (marks : List ℕ) (place size : ℕ) (old new : List TextField) (p : Bool) → SlotTaken m t marks (slot_of place size)
-    → p ≡ marked true marks place → p ≡ true → new ≡ old ++ record { at = place; size = size } ∷ [] → SlotsTaken m t marks (slot_of place size ∷ []) old new
-taken-path m t marks place size old new p taken mark is e = record {
+pub taken-one : (m : PathMap) (t : SlotTable) (marks : List ℕ) (place size : ℕ) (old new : List OffsetField) (p : Bool) → SlotTaken m t marks (slot_of place size)
+    → p ≡ marked true marks place → new ≡ old ++ record { at = place; size = size; path = p } ∷ [] → SlotsTaken m t marks (slot_of place size ∷ []) old new
+taken-one m t marks place size old new p taken mark e = record {
   taken = (taken, tt);
-  fields = e ∙ ap (λ (b : Bool). old ++ ((if b then record { at = place; size = size } ∷ [] else []) ++ [])) (sym is ∙ mark);
+  fields = e ∙ ap (λ (b : Bool). old ++ record { at = place; size = size; path = b } ∷ []) mark;
 }
 
-pub taken-other : (m : PathMap) (t : SlotTable) (marks : List ℕ) (place size : ℕ) (old new : List TextField) (p : Bool) → SlotTaken m t marks (slot_of place size)
-    → p ≡ marked true marks place → p ≡ false → new ≡ old → SlotsTaken m t marks (slot_of place size ∷ []) old new
-taken-other m t marks place size old new p taken mark is e = record {
-  taken = (taken, tt);
-  fields = e ∙ sym (append-nil old) ∙ ap (λ (b : Bool). old ++ ((if b then record { at = place; size = size } ∷ [] else []) ++ [])) (sym is ∙ mark);
-}
-
-pub ruleset field_laws = (taken-path, taken-other)
+pub ruleset field_laws = (taken-one)
 
 -- slots one after another
 each-append : (P : Slot → Type 0) (xs ys : List Slot) → EachSlot P xs → EachSlot P ys → EachSlot P (xs ++ ys)
@@ -220,18 +213,18 @@ each-append P (x ∷ xs) ys a b = (a.0, each-append P xs ys a.1 b)
 fields-append : (marks : List ℕ) (xs ys : List Slot) → fields_of marks (xs ++ ys) ≡ fields_of marks xs ++ fields_of marks ys
 fields-append marks [] ys = refl
 fields-append marks (x ∷ xs) ys =
-    ap (λ (r : List TextField). field_of marks x ++ r) (fields-append marks xs ys) ∙ sym (append_assoc (field_of marks x) (fields_of marks xs) (fields_of marks ys))
+    ap (λ (r : List OffsetField). field_of marks x ∷ r) (fields-append marks xs ys)
 
-pub taken-append : (m : PathMap) (t : SlotTable) (marks : List ℕ) (xs ys : List Slot) (old mid new : List TextField) → SlotsTaken m t marks xs old mid
+pub taken-append : (m : PathMap) (t : SlotTable) (marks : List ℕ) (xs ys : List Slot) (old mid new : List OffsetField) → SlotsTaken m t marks xs old mid
     → SlotsTaken m t marks ys mid new → SlotsTaken m t marks (xs ++ ys) old new
 taken-append m t marks xs ys old mid new a b = record {
   taken = each-append (SlotTaken m t marks) xs ys a.taken b.taken;
   fields =
-      b.fields ∙ ap (λ (f : List TextField). f ++ fields_of marks ys) a.fields ∙ append_assoc old (fields_of marks xs) (fields_of marks ys)
-      ∙ ap (λ (r : List TextField). old ++ r) (sym (fields-append marks xs ys));
+      b.fields ∙ ap (λ (f : List OffsetField). f ++ fields_of marks ys) a.fields ∙ append_assoc old (fields_of marks xs) (fields_of marks ys)
+      ∙ ap (λ (r : List OffsetField). old ++ r) (sym (fields-append marks xs ys));
 }
 
-pub taken-none : (m : PathMap) (t : SlotTable) (marks : List ℕ) (old new : List TextField) → new ≡ old → SlotsTaken m t marks [] old new
+pub taken-none : (m : PathMap) (t : SlotTable) (marks : List ℕ) (old new : List OffsetField) → new ≡ old → SlotsTaken m t marks [] old new
 taken-none m t marks old new e = record { taken = tt; fields = e ∙ sym (append-nil old) }
 
 among-left : (xs ys : List Slot) (s : Slot) → IsAmong xs s → IsAmong (xs ++ ys) s
@@ -255,7 +248,7 @@ refuse-right : (m : PathMap) (t : SlotTable) (marks : List ℕ) (xs ys : List Sl
 refuse-right m t marks xs ys r (slot s among refuses) = slot s (among-right xs ys s among) refuses
 
 -- the slots of a contribution up to an index, one more, and one that can't be taken
-contribution-more : (m : PathMap) (t : SlotTable) (marks : List ℕ) (c : Contribution) (i next : ℕ) (old mid new : List TextField) → next ≡ suc i
+contribution-more : (m : PathMap) (t : SlotTable) (marks : List ℕ) (c : Contribution) (i next : ℕ) (old mid new : List OffsetField) → next ≡ suc i
     → SlotsTaken m t marks (tabulate (slot_at c) i) old mid → SlotsTaken m t marks (slot_at c i ∷ []) mid new
     → SlotsTaken m t marks (tabulate (slot_at c) next) old new
 contribution-more m t marks c i next old mid new e a b =
@@ -276,7 +269,7 @@ refuse-under m t marks c i (suc n) r lt refuses = by_last (nat_eq i n) (λ below
 slot-is : (c : Contribution) (i place size : ℕ) → place ≡ (slot_at c i).place → size ≡ width_size c.width → slot_of place size ≡ slot_at c i
 slot-is c i place size p s = ap (λ (n : ℕ). slot_of n size) p ∙ ap (λ (n : ℕ). slot_of (slot_at c i).place n) s
 
-pub contribution-next : (m : PathMap) (t : SlotTable) (marks : List ℕ) (c : Contribution) (i place size : ℕ) (old mid new : List TextField)
+pub contribution-next : (m : PathMap) (t : SlotTable) (marks : List ℕ) (c : Contribution) (i place size : ℕ) (old mid new : List OffsetField)
     → place ≡ (slot_at c i).place → size ≡ width_size c.width → SlotsTaken m t marks (tabulate (slot_at c) i) old mid
     → SlotsTaken m t marks (slot_of place size ∷ []) mid new → SlotsTaken m t marks (tabulate (slot_at c) (i + 1)) old new
 contribution-next m t marks c i place size old mid new p s a b =
@@ -303,7 +296,7 @@ slots_of-more (x ∷ xs) (suc i) c d lt e =
     ap (λ (l : List Slot). tabulate (slot_at x) (slot_total x) ++ l) (slots_of-more xs i c d (omega (arith, lt)) e)
     ∙ sym (append_assoc (tabulate (slot_at x) (slot_total x)) (slots_of (take i xs)) (tabulate (slot_at c) (slot_total c)))
 
-pub all-more : (m : PathMap) (t : SlotTable) (marks : List ℕ) (list : List Contribution) (i next : ℕ) (c d : Contribution) (old mid new : List TextField)
+pub all-more : (m : PathMap) (t : SlotTable) (marks : List ℕ) (list : List Contribution) (i next : ℕ) (c d : Contribution) (old mid new : List OffsetField)
     → i < length list → c ≡ get_or list i d → next ≡ suc i → SlotsTaken m t marks (slots_of (take i list)) old mid
     → SlotsTaken m t marks (tabulate (slot_at c) (slot_total c)) mid new → SlotsTaken m t marks (slots_of (take next list)) old new
 all-more m t marks list i next c d old mid new lt e n a b =
@@ -311,7 +304,7 @@ all-more m t marks list i next c d old mid new lt e n a b =
     (sym (ap (λ (k : ℕ). slots_of (take k list)) n ∙ slots_of-more list i c d lt e))
     (taken-append m t marks (slots_of (take i list)) (tabulate (slot_at c) (slot_total c)) old mid new a b)
 
-pub all-taken : (m : PathMap) (t : SlotTable) (marks : List ℕ) (list : List Contribution) (n : ℕ) (old new : List TextField) → length list ≤ n
+pub all-taken : (m : PathMap) (t : SlotTable) (marks : List ℕ) (list : List Contribution) (n : ℕ) (old new : List OffsetField) → length list ≤ n
     → SlotsTaken m t marks (slots_of (take n list)) old new → SlotsTaken m t marks (slots_of list) old new
 all-taken m t marks list n old new le a =
     subst (λ (l : List Contribution). SlotsTaken m t marks (slots_of l) old new) (take_all n list le) a
@@ -372,7 +365,7 @@ none-list order bytes list end e (more_contributions before c start u is) =
     let base : c.base ≡ start + is.lengths.2 + 4 = ap (λ (x : Contribution). x.base) is.is in
     absurd (omega (arith, base, is.header, e))
 
-pub none-taken : (m : PathMap) (v : View) (marks : List ℕ) (list : List Contribution) (new : List TextField) → None ≡ section_named v (name_of StrOffsets)
+pub none-taken : (m : PathMap) (v : View) (marks : List ℕ) (list : List Contribution) (new : List OffsetField) → None ≡ section_named v (name_of StrOffsets)
     → AreContributions v.order (string_offsets v) list → new ≡ [] → SlotsTaken m (slots_in v) marks (slots_of list) [] new
 none-taken m v marks list new none u empty =
     let nothing : list ≡ [] = none-list v.order (string_offsets v).bytes list (length (string_offsets v).bytes) (none-there v none) u in

@@ -32,7 +32,7 @@ use Rattle.dw_base.proofs.ContributionBackLaws.{behind-piece}
 use Rattle.dw_base.proofs.OffsetChangeLaws.{slot-before, slot-header}
 use Rattle.dw_base.proofs.ViewCellLaws.{piece-cells}
 use Rattle.dw_base.specs.declared.debug_sections.DebugSection.TheVariants.{Str, StrOffsets}
-use Rattle.dw_base.specs.declared.texts.TextField.{TextField}
+use Rattle.dw_offsets.specs.declared.fields.OffsetField.{OffsetField}
 use Rattle.dw_base.specs.declared.texts.TextSection.TheVariants.{InStr}
 use Rattle.dw_offsets.proofs.SlotNumberLaws.{StandsAt as SlotStands, slot-stands, slot-absent}
 use Rattle.dw_offsets.specs.NamedPlaces.{place_by, use_place, is_place, names_place}
@@ -469,7 +469,7 @@ piece-field : (t : SlotTable) (marks : List ℕ) (around : Around) (x : Piece Of
     → fields_of marks (listed_by mode (slot_piece x) ++ rest) ≡ slot_field (path_slots around) mode x.state.slot x.state.place (length x.cells) ++ fields_of marks rest
 piece-field t marks around x rest at_contribution known = refl
 piece-field t marks around x rest (at_slot w end) known =
-    ap (λ (b : Bool). (if b then record { at = x.state.place; size = length x.cells } ∷ [] else []) ++ fields_of marks rest) known.paths
+    ap (λ (b : Bool). record { at = x.state.place; size = length x.cells; path = b } ∷ fields_of marks rest) known.paths
 piece-field t marks around x rest no_offsets known = refl
 
 pieces-fields : (t : SlotTable) (marks : List ℕ) (around : Around) (xs : List (Piece OffsetState)) → AllKnown around t marks xs
@@ -477,15 +477,15 @@ pieces-fields : (t : SlotTable) (marks : List ℕ) (around : Around) (xs : List 
 pieces-fields t marks around [] known = refl
 pieces-fields t marks around (x ∷ xs) known =
     piece-field t marks around x (piece_slots xs) x.state.mode known.0
-    ∙ ap (λ (l : List TextField). slot_field (path_slots around) x.state.mode x.state.slot x.state.place (length x.cells) ++ l) (pieces-fields t marks around xs known.1)
+    ∙ ap (λ (l : List OffsetField). slot_field (path_slots around) x.state.mode x.state.slot x.state.place (length x.cells) ++ l) (pieces-fields t marks around xs known.1)
 
 -- what the pass over the slots found is what the pieces say
-pub record SlotsSay (m : PathMap) (around : Around) (xs : List (Piece OffsetState)) (fields : List TextField) : Type 0 where
+pub record SlotsSay (m : PathMap) (around : Around) (xs : List (Piece OffsetState)) (fields : List OffsetField) : Type 0 where
   pub texts : NameTexts (slot_role (path_slots around)) around xs
   pub fits : EachPiece (SlotFits m around) xs
   pub fields_are : fields ≡ slot_fields (path_slots around) xs
 
-pub slots-say : (m : PathMap) (around : Around) (t : SlotTable) (cells : List Cell) (xs : List (Piece OffsetState)) (marks : List ℕ) (fields : List TextField)
+pub slots-say : (m : PathMap) (around : Around) (t : SlotTable) (cells : List Cell) (xs : List (Piece OffsetState)) (marks : List ℕ) (fields : List OffsetField)
     → SlotsAround around t cells xs marks → SlotsTaken m t marks (slots_of (around.lasting.kept StrOffsets).contributions) [] fields → SlotsSay m around xs fields
 slots-say m around t cells xs marks fields a h =
     let all : piece_slots xs ≡ slots_of (around.lasting.kept StrOffsets).contributions = slots-are t.order cells xs a.reads ∙ ap slots_of a.list in

@@ -1,4 +1,5 @@
 pub mod NamedPlaces
+pub mod NameFields
 pub mod PathSlots
 pub mod SlotMarks
 pub mod SlotSearch

@@ -1,6 +1,6 @@
--- What a pass over the slots of string offsets finds: the fields of those that paths name, in the order of their places; and why
+-- What a pass over the slots of string offsets finds: their fields, in the order of their places; and why
 -- one can't be taken (DWARF 5, 7.26).
-use Rattle.std.specs.Prelude.{true, false, ◌≡◌, ◌≢◌, ℕ, ◌<◌, ◌≤◌, if◌then◌else◌, List, [], ◌∷◌, ◌++◌, length, get_or, ⊤}
+use Rattle.std.specs.Prelude.{true, false, ◌≡◌, ◌≢◌, ℕ, ◌<◌, ◌≤◌, List, [], ◌∷◌, ◌++◌, length, get_or, ⊤}
 use Rattle.dw_base.specs.Cells.{Cell, CellSection, Located, cells_at, offset_of}
 use Rattle.dw_base.specs.DebugSections.{name_of}
 use Rattle.dw_base.specs.FileViews.{View, section_named, view_cells}
@@ -18,8 +18,8 @@ use Rattle.dw_base.specs.declared.fault.Kind.TheVariants.{StringOffset, SharedIn
 use Rattle.dw_base.specs.declared.fault.Refusal.{Refusal}
 use Rattle.dw_base.specs.declared.shared.Order.{Order}
 use Rattle.dw_base.specs.declared.string_offsets.Contribution.{Contribution}
-use Rattle.dw_base.specs.declared.texts.TextField.{TextField}
 use Rattle.dw_offsets.specs.SlotMarks.{marked}
+use Rattle.dw_offsets.specs.declared.fields.OffsetField.{OffsetField}
 
 -- the section of string offsets, and the texts that its offsets name: the byte order, the section's number and contents, and .debug_str
 pub record SlotTable : Type 0 where
@@ -61,16 +61,16 @@ abbrev pub EachSlot : (Slot → Type 0) → List Slot → Type 0
 EachSlot P [] = ⊤
 EachSlot P (s ∷ ss) = P s × EachSlot P ss
 
--- the fields of the slots that paths name
-abbrev pub field_of : List ℕ → Slot → List TextField
-field_of marks s = if marked true marks s.place then record { at = s.place; size = s.size } ∷ [] else []
+-- the field of a slot: of a path, where a path names the slot; and those of slots
+abbrev pub field_of : List ℕ → Slot → OffsetField
+field_of marks s = record { at = s.place; size = s.size; path = marked true marks s.place }
 
-abbrev pub fields_of : List ℕ → List Slot → List TextField
+abbrev pub fields_of : List ℕ → List Slot → List OffsetField
 fields_of marks [] = []
-fields_of marks (s ∷ ss) = field_of marks s ++ fields_of marks ss
+fields_of marks (s ∷ ss) = field_of marks s ∷ fields_of marks ss
 
 -- slots were taken, and their fields stand behind those of others
-pub record SlotsTaken (m : PathMap) (t : SlotTable) (marks : List ℕ) (slots : List Slot) (old new : List TextField) : Type 0 where
+pub record SlotsTaken (m : PathMap) (t : SlotTable) (marks : List ℕ) (slots : List Slot) (old new : List OffsetField) : Type 0 where
   pub taken : EachSlot (SlotTaken m t marks) slots
   pub fields : new ≡ old ++ fields_of marks slots
 
@@ -102,11 +102,11 @@ pub record LiesIn (size : ℕ) (c : Contribution) : Type 0 where
 pub record AllLieIn (size : ℕ) (list : List Contribution) : Type 0 where
   pub each : (i : ℕ) (c d : Contribution) → i < length list → c ≡ get_or list i d → LiesIn size c
 
--- the fields of the slots that paths name, among pieces
-abbrev pub slot_field : List ℕ → OffsetMode → ℕ → ℕ → ℕ → List TextField
-slot_field paths (at_slot width end) n place size = if holds_number paths n then record { at = place; size = size } ∷ [] else []
+-- the fields of the slots among pieces, by which slots paths name
+abbrev pub slot_field : List ℕ → OffsetMode → ℕ → ℕ → ℕ → List OffsetField
+slot_field paths (at_slot width end) n place size = record { at = place; size = size; path = holds_number paths n } ∷ []
 slot_field paths m n place size = []
 
-abbrev pub slot_fields : List ℕ → List (Piece OffsetState) → List TextField
+abbrev pub slot_fields : List ℕ → List (Piece OffsetState) → List OffsetField
 slot_fields paths [] = []
 slot_fields paths (x ∷ xs) = slot_field paths x.state.mode x.state.slot x.state.place (length x.cells) ++ slot_fields paths xs

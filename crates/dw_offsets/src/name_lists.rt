@@ -4,13 +4,14 @@
 //! their string offsets names a text; they are refused only where a table can't be read, at that table, where a
 //! string offset names no text, at its field, or where a relocation refuses one.
 
-ghost use Rattle.std.specs.Prelude.{◌≡◌, ◌<◌, List, length, IfOk, IfErr, OnOk};
+ghost use Rattle.std.specs.Prelude.{◌≡◌, ◌^◌, ◌<◌, List, length, IfOk, IfErr, OnOk};
 ghost use Rattle.dw_base.specs.FileViews.{section_bytes};
 ghost use Rattle.dw_base.specs.Refusals.{Blames};
 ghost use Rattle.dw_base.specs.declared.fault.Refusal.{Refusal as RefusalOf};
 ghost use Rattle.dw_base.specs.NameTables.{AreNameTables};
 ghost use Rattle.dw_base.specs.NameOffsets.{AreRead, NamesRefuse, ReadUpTo, TablesRefuse};
 ghost use Rattle.dw_base.specs.declared.name_tables.NameTable.{NameTable as NameTableOf};
+ghost use Rattle.dw_offsets.specs.NameFields.{AllFit};
 
 use crate::name_texts::{named_table_at, texts_of};
 use dw_base::{DebugSection, Fault, NameTable, Width};
@@ -18,7 +19,7 @@ use dw_view::View;
 use std::alloc::Global;
 use std::marker::Model;
 
-/// The name tables of a file, in the order of their places.
+/// The name tables of a file, in the order of their places. Their string offsets lie in as many bytes as a file may have.
 #[derive(Drop, Debug)]
 pub struct NameTableList {
     list: Vec<NameTable>,
@@ -28,12 +29,15 @@ impl Model for NameTableList {
     ghost Value = { List NameTableOf };
 
     ghost view = { λ t. t.list.items };
+
+    ghost invariant = { λ t. AllFit (2 ^ 31) t.list.items };
 }
 
 impl NameTableList {
     /// The tables.
     pub fn as_slice(&self) -> &[NameTable]
         ensures value { result.now ≡ self.now }
+        ensures fits { AllFit (2 ^ 31) result.now }
     {
         self.list.as_slice()
     }
@@ -65,6 +69,7 @@ pub fn name_tables(alloc: Global, view: &View) -> Result<NameTableList, Fault>
 fn tables_in(alloc: Global, view: &View, section: u32) -> Result<Vec<NameTable>, Fault>
     requires there { section < length view.now.sections }
     ensures read { IfOk result (λ list. ReadUpTo view.now section (section_bytes view.now section) list.items (length (section_bytes view.now section))) }
+    ensures fits { IfOk result (λ list. AllFit (2 ^ 31) list.items) }
     ensures refused { IfErr result (Blames (TablesRefuse view.now section (section_bytes view.now section))) }
 {
     let texts = texts_of(view);

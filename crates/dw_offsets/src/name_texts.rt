@@ -72,7 +72,7 @@ pub(crate) fn text_start(view: &View, field: Field) -> u64
 
 /// The place of a string offset of a table.
 #[tactic(auto, using(crate::proofs::NameTextLaws::place_laws))]
-fn string_place(table: &NameTable, i: u64) -> u64
+pub(crate) fn string_place(table: &NameTable, i: u64) -> u64
     requires below { i < table.now.names }
     requires small { table.now.strings + table.now.names * width_size table.now.width ≤ 2 ^ 31 }
     ensures place { result ≡ string_place table.now i }
@@ -120,6 +120,7 @@ pub(crate) fn named_table_at(
     ensures offsets { IfOk result (λ t. OffsetsRead view.now section t t.names) }
     ensures further { IfOk result (λ t. start < t.end) }
     ensures within { IfOk result (λ t. t.end ≤ length (section_bytes view.now section)) }
+    ensures fits { IfOk result (λ t. t.strings + t.names * width_size t.width ≤ length (section_bytes view.now section)) }
     ensures refused { IfErr result (TableRefuses view.now section (section_bytes view.now section) start) }
 {
     let bytes = view.bytes(section);

@@ -1,4 +1,4 @@
-//! The fields of the slots that paths name (DWARF 5, 7.26).
+//! The fields of slots (DWARF 5, 7.26).
 //!
 //! This file promises: the fields are given in the order of their places, each once, only where each slot can be read and
 //! names a text and none is shared by a path whose text changes and another value; and they are refused only for a slot of
@@ -20,12 +20,11 @@ ghost use Rattle.dw_base.specs.ViewData.{located, string_offsets};
 ghost use Rattle.dw_offsets.specs.PathSlots.{AllLieIn, LiesIn, SlotRefuses, SlotTable, SlotTaken, SlotsRefuse, SlotsTaken, slot_offset, as_field, slots_in, table_in};
 ghost use Rattle.dw_offsets.specs.SlotTables.{TableFits};
 
+use crate::fields::OffsetField;
 use crate::name_texts::{Texts, names_text, text_start, texts_of};
 use crate::slot_marks::SlotMarks;
 use crate::string_offsets::ContributionList;
-use dw_base::{
-    Contribution, DebugSection, Fault, Field, Kind, NoMemory, Refusal, TextField, Width,
-};
+use dw_base::{Contribution, DebugSection, Fault, Field, Kind, NoMemory, Refusal, Width};
 use dw_paths::{Maps, map_path};
 use dw_strings::text_at;
 use dw_view::View;
@@ -53,19 +52,19 @@ impl<'v, 'f> Model for Table<'v, 'f> {
     ghost invariant = { λ t. TableFits t.view.now t.section t.texts t.str.now };
 }
 
-/// The fields of the slots that paths name, in the order of their places. `list` are the contributions of the view,
-/// and `marks` says which slots paths and other values name. Refused, for a slot of `.debug_str_offsets`: as
+/// The fields of the slots, in the order of their places, each a path's where a path names the slot. `list` are the
+/// contributions of the view, and `marks` says which slots paths and other values name. Refused, for a slot of `.debug_str_offsets`: as
 /// `Relocation` only at a relocation that lies on it only in part, or at the slot where its relocation gives no place; at
 /// the slot as `StringOffset` only where no text that ends begins at its offset, and as `SharedIndex` only where a path
 /// whose text changes names it, and another value too.
 #[tactic(auto, using(crate::proofs::PathSlotLaws::pass_laws))]
-pub fn path_slots(
+pub fn all_slots(
     alloc: Global,
     view: &View,
     maps: &Maps,
     list: &ContributionList,
     marks: &SlotMarks,
-) -> Result<Vec<TextField>, Fault>
+) -> Result<Vec<OffsetField>, Fault>
     requires contributions { AreContributions view.now.order (string_offsets view.now) list.now }
     ensures taken { IfOk result (λ fields. SlotsTaken maps.now (slots_in view.now) marks.now (slots_of list.now) [] fields.items) }
     ensures refused { IfErr result (Blames (SlotsRefuse maps.now (slots_in view.now) marks.now (slots_of list.now))) }
@@ -112,7 +111,7 @@ fn all_fields(
     maps: &Maps,
     list: &[Contribution],
     marks: &SlotMarks,
-) -> Result<Vec<TextField>, Fault>
+) -> Result<Vec<OffsetField>, Fault>
     requires inside { AllLieIn (length table.now.cells) list.now }
     ensures taken { IfOk result (λ fields. SlotsTaken maps.now table.now marks.now (slots_of list.now) [] fields.items) }
     ensures refused { IfErr result (Blames (SlotsRefuse maps.now table.now marks.now (slots_of list.now))) }
@@ -132,7 +131,7 @@ fn push_fields(
     maps: &Maps,
     contribution: Contribution,
     marks: &SlotMarks,
-    fields: &mut Vec<TextField>,
+    fields: &mut Vec<OffsetField>,
 ) -> Result<(), Fault>
     requires inside { LiesIn (length table.now.cells) contribution }
     ensures taken { OnOk result (SlotsTaken maps.now table.now marks.now (tabulate (slot_at contribution) (slot_total contribution)) fields.old.items fields.new.items) }
@@ -173,7 +172,7 @@ fn slot_start(contribution: Contribution, i: u64) -> u64
     }
 }
 
-/// Adds the field of a slot, if a path names it.
+/// Adds the field of a slot.
 #[tactic(auto, using(crate::proofs::PathSlotLaws::field_laws))]
 fn push_field(
     alloc: Global,
@@ -182,7 +181,7 @@ fn push_field(
     at: u64,
     size: u8,
     marks: &SlotMarks,
-    fields: &mut Vec<TextField>,
+    fields: &mut Vec<OffsetField>,
 ) -> Result<(), Fault>
     requires some { 0 < size }
     requires wide { size ≤ 8 }
@@ -191,9 +190,8 @@ fn push_field(
     ensures refused { IfErr result (Blames (SlotRefuses maps.now table.now marks.now (record { place = at; size = size }))) }
 {
     check_slot(alloc, table, maps, at, size, marks)?;
-    if marks.is_marked(at, true) {
-        fields.push(TextField { at, size })?;
-    }
+    let path = marks.is_marked(at, true);
+    fields.push(OffsetField { at, size, path })?;
     Ok(())
 }
 

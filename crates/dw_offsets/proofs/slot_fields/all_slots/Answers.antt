@@ -1,6 +1,6 @@
 -- Without a section of string offsets there are no slots.
 use Rattle.dw_offsets.proofs.PathSlotLaws.{none-taken}
-use Rattle.dw_offsets.proofs.slot_fields.path_slots.Goals as goal
+use Rattle.dw_offsets.proofs.slot_fields.all_slots.Goals as goal
 
 pub returns-in_default-clause-taken : goal.returns-in_default-clause-taken
 returns-in_default-clause-taken c =
