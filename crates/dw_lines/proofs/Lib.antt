@@ -12,6 +12,7 @@ pub mod WalkLaws
 pub mod TableLaws
 pub mod PartLaws
 pub mod RoomLaws
+pub mod NewTextLaws
 pub mod ChangeLaws
 pub mod DefinedLaws
 pub mod WrittenLaws

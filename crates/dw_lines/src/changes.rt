@@ -35,18 +35,14 @@ fn str_section(view: &View) -> u32
     }
 }
 
-/// The new place of a text, of those that are known in `.debug_str` and in `.debug_line_str`. `None` for one that isn't
-/// a path, which has none yet.
+/// The new place of a text, of those that are known in `.debug_str` and in `.debug_line_str`.
 pub(crate) fn new_place(view: &View, texts: &NewTexts, text: &LineText) -> Option<u64>
-    ensures place { result ≡ (if text.now.path then (if text.now.place.section == (located view.now Str).number then texts_known texts.now Str text.now.place.at else texts_known texts.now LineStr text.now.place.at) else None) }
+    ensures place { result ≡ (if text.now.place.section == (located view.now Str).number then texts_known texts.now Str text.now.path text.now.place.at else texts_known texts.now LineStr text.now.path text.now.place.at) }
 {
-    if !text.path {
-        return None;
-    }
     if text.place.section == str_section(view) {
-        return texts.get(DebugSection::Str, text.place.at);
+        return texts.get(DebugSection::Str, text.path, text.place.at);
     }
-    texts.get(DebugSection::LineStr, text.place.at)
+    texts.get(DebugSection::LineStr, text.path, text.place.at)
 }
 
 /// A new offset, where there is one, fits its field.
