@@ -14,7 +14,7 @@ use Rattle.dw_base.specs.declared.fault.Refusal.{Refusal}
 use Rattle.dw_base.specs.declared.shared.Order.{Order}
 use Rattle.dw_base.specs.declared.units.UnitHeader.{UnitHeader}
 use Rattle.dw_base.proofs.ViewCellLaws.{bytes_of-view_cells, offsets-located}
-use Rattle.dw_base.specs.declared.texts.TextField.{TextField}
+use Rattle.dw_offsets.specs.declared.fields.OffsetField.{OffsetField}
 use Rattle.dw_entries.specs.Fronts.{IsOfView}
 use Rattle.dw_entries.specs.ViewUnits.{unit_section_at}
 use Rattle.dw_find.specs.EntryTexts.{Tables, FoundTexts, with_base, with_places}
@@ -37,7 +37,7 @@ number-none v cells b is = ap (number_said (base_source (debug_data v)) cells) (
 pub number-some : (v : View) (cells : List Cell) (b : Option TextBase) (n : ℕ) → b ≡ Some (BaseNumber n) → Some n ≡ number_said (base_source (debug_data v)) cells b
 number-some v cells b n is = ap (number_said (base_source (debug_data v)) cells) (sym is)
 
-pub number-field : (v : View) (cells : List Cell) (b : Option TextBase) (f : TextField) (n : ℕ) → b ≡ Some (BaseField f)
+pub number-field : (v : View) (cells : List Cell) (b : Option TextBase) (f : OffsetField) (n : ℕ) → b ≡ Some (BaseField f)
     → n ≡ offset_of v.order (located v StrOffsets) (cells_at cells f.at f.size) → Some n ≡ number_said (base_source (debug_data v)) cells b
 unfolding debug_data
 number-field v cells b f n is read =
@@ -50,15 +50,15 @@ placed-none v cells b is = ap (said_placed (base_source (debug_data v)) cells) i
 pub placed-some : (v : View) (cells : List Cell) (b : Option TextBase) (n : ℕ) → b ≡ Some (BaseNumber n) → said_placed (base_source (debug_data v)) cells b ≡ true
 placed-some v cells b n is = ap (said_placed (base_source (debug_data v)) cells) is
 
-pub placed-field : (v : View) (cells : List Cell) (b : Option TextBase) (f : TextField) → b ≡ Some (BaseField f)
+pub placed-field : (v : View) (cells : List Cell) (b : Option TextBase) (f : OffsetField) → b ≡ Some (BaseField f)
     → is_placed (field_of v.order (cells_at cells f.at f.size)) ≡ true → said_placed (base_source (debug_data v)) cells b ≡ true
 unfolding debug_data
 placed-field v cells b f is placed = ap (said_placed (base_source (debug_data v)) cells) is ∙ placed
 
-pub field-lies : (info : List ℕ) (b : Option TextBase) (f : TextField) → b ≡ Some (BaseField f) → BaseLies info b → IsStartField info f
+pub field-lies : (info : List ℕ) (b : Option TextBase) (f : OffsetField) → b ≡ Some (BaseField f) → BaseLies info b → IsStartField info f
 field-lies info b f is lies = subst (BaseLies info) is lies
 
-pub field-refuses : (order : Order) (section : ℕ) (cells : List Cell) (b : Option TextBase) (f : TextField) (r : Refusal) → b ≡ Some (BaseField f)
+pub field-refuses : (order : Order) (section : ℕ) (cells : List Cell) (b : Option TextBase) (f : OffsetField) (r : Refusal) → b ≡ Some (BaseField f)
     → OffsetFails order section cells (field_place f.at f.size offset_field) r → BaseRefuses order section cells b r
 field-refuses order section cells b f r is fails = subst (λ (x : Option TextBase). BaseRefuses order section cells x r) (sym is) fails
 
@@ -91,7 +91,7 @@ unit-says t h table bytes old found none s =
     by_none None e = refl
     by_none (Some x) e = absurd cc
 
-unit-facts : (d : DebugData) (z : UnitSection) (h : UnitHeader) (t : Tables) (table : List Abbreviation) (old found : FoundTexts) (f : TextField) → HasUnit d z h → IsUnitTable d.base h table
+unit-facts : (d : DebugData) (z : UnitSection) (h : UnitHeader) (t : Tables) (table : List Abbreviation) (old found : FoundTexts) (f : OffsetField) → HasUnit d z h → IsUnitTable d.base h table
     → old.base ≡ None → ScanTaken t h table (bytes_up_to z h) old found → found.base ≡ Some (BaseField f)
     → StartFacts d z (base_place f)
 unit-facts d z h t table old found f u declares none s is =

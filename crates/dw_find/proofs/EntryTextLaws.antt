@@ -20,7 +20,7 @@ use Rattle.dw_base.specs.declared.fault.Fault.TheVariants.{NoMemory, Refused}
 use Rattle.dw_base.specs.declared.fault.Kind.TheVariants.{StringOffset}
 use Rattle.dw_base.specs.declared.fault.Refusal.{Refusal}
 use Rattle.dw_base.specs.declared.shared.Params.{Params}
-use Rattle.dw_base.specs.declared.texts.TextField.{TextField}
+use Rattle.dw_offsets.specs.declared.fields.OffsetField.{OffsetField}
 use Rattle.dw_base.specs.declared.texts.TextSection.TheVariants.{InStr, InLineStr}
 use Rattle.dw_base.specs.declared.values.Spec.{Spec}
 use Rattle.dw_base.specs.declared.values.Value.{Value}
@@ -101,12 +101,12 @@ one-refused t params bytes section from specs before behind x place r cut spells
 pub starts-append : (ts us : List TextPlace) → starts_in (ts ++ us) ≡ starts_in ts ++ starts_in us
 starts-append [] us = refl
 starts-append (t ∷ ts) us =
-    ap (λ (fs : List TextField). start_at t.role t.at t.len ++ fs) (starts-append ts us) ∙ sym (append_assoc (start_at t.role t.at t.len) (starts_in ts) (starts_in us))
+    ap (λ (fs : List OffsetField). start_at t.role t.at t.len ++ fs) (starts-append ts us) ∙ sym (append_assoc (start_at t.role t.at t.len) (starts_in ts) (starts_in us))
 
 pub macros-append : (ts us : List TextPlace) → macros_in (ts ++ us) ≡ macros_in ts ++ macros_in us
 macros-append [] us = refl
 macros-append (t ∷ ts) us =
-    ap (λ (fs : List TextField). unit_start_at t.at t.len t.says ++ fs) (macros-append ts us)
+    ap (λ (fs : List OffsetField). unit_start_at t.at t.len t.says ++ fs) (macros-append ts us)
     ∙ sym (append_assoc (unit_start_at t.at t.len t.says) (macros_in ts) (macros_in us))
 
 abbrev with_or : Option ℕ → Option ℕ → Option ℕ
@@ -178,7 +178,7 @@ pub with_paths-none : (u : SectionFields) → with_paths u [] ≡ u
 with_paths-none u = with_paths-same u [] (record { str = refl; line_str = refl; starts = refl; macros = refl; inline = refl; stray = refl })
 
 -- one more field that holds an offset into a section
-with_field-places : (u : SectionFields) (into : DebugSection) (f : TextField) (ts : List TextPlace) → table_place into < length read_sections
+with_field-places : (u : SectionFields) (into : DebugSection) (f : OffsetField) (ts : List TextPlace) → table_place into < length read_sections
     → only_at (table_place into) f read_sections ≡ lists_by (places_into ts) → inline_in ts ≡ [] → stray_in ts ≡ None → with_field u into f ≡ with_paths u ts
 unfolding with_paths
 with_field-places u into f ts lt same inline stray =
@@ -273,7 +273,8 @@ value-found number tag x bytes place v f0 f1 f2 f3 path base says third second f
     ∙ with_places-more f0 ls (cs ++ ss)
 
 -- the base that it says
-pub base-some : (field : Bool) (v : Value) (b : TextBase) (f : TextField) → field ≡ true → f ≡ record { at = v.at; size = v.len } → b ≡ BaseField f → b ≡ said_of field v
+pub base-some : (field : Bool) (v : Value) (b : TextBase) (f : OffsetField) → field ≡ true → f ≡ record { at = v.at; size = v.len; path = false } → b ≡ BaseField f
+    → b ≡ said_of field v
 base-some field v b f e is same = same ∙ ap BaseField is ∙ sym (ap (λ (x : Bool). said_of x v) e)
 
 pub base-none : (field : Bool) (v : Value) → field ≡ false → BaseNumber v.number ≡ said_of field v
@@ -397,7 +398,7 @@ base-more f field begin at len n b h index is =
     first (Some x) = refl
 
 -- one more field
-noted-places : (f : FoundTexts) (into : DebugSection) (field : TextField) (ts : List TextPlace) → table_place into < length read_sections
+noted-places : (f : FoundTexts) (into : DebugSection) (field : OffsetField) (ts : List TextPlace) → table_place into < length read_sections
     → only_at (table_place into) field read_sections ≡ lists_by (places_into ts) → inline_in ts ≡ [] → stray_in ts ≡ None → base_in ts ≡ None → indexes_in ts ≡ []
     → noted f into field ≡ with_places f ts
 noted-places f into field ts lt same inline stray base index =
@@ -427,15 +428,16 @@ with_stray-places u place =
     by (Some n) = refl
 
 -- what a value says of the start of a line table or of a macro unit
-pub line-noted : (f g : FoundTexts) (says : Bool) (v : Value) → says ≡ true → g ≡ noted f Line (record { at = v.at; size = v.len }) → g ≡ with_places f (line_at says v)
+pub line-noted : (f g : FoundTexts) (says : Bool) (v : Value) → says ≡ true → g ≡ noted f Line (record { at = v.at; size = v.len; path = false })
+    → g ≡ with_places f (line_at says v)
 line-noted f g says v e is =
-    is ∙ noted-places f Line (record { at = v.at; size = v.len }) (line_at true v) (omega arith) refl refl refl refl refl ∙ sym (ap (λ (b : Bool). with_places f (line_at b v)) e)
+    is ∙ noted-places f Line (record { at = v.at; size = v.len; path = false }) (line_at true v) (omega arith) refl refl refl refl refl ∙ sym (ap (λ (b : Bool). with_places f (line_at b v)) e)
 
 pub line-silent : (f : FoundTexts) (says : Bool) (v : Value) → says ≡ false → f ≡ with_places f (line_at says v)
 line-silent f says v e = sym (with_places-none f) ∙ sym (ap (λ (b : Bool). with_places f (line_at b v)) e)
 
-pub unit-noted : (f g : FoundTexts) (v : Value) → g ≡ noted f Macro (record { at = v.at; size = v.len }) → g ≡ with_places f (said_value true true 0 v)
-unit-noted f g v is = is ∙ noted-places f Macro (record { at = v.at; size = v.len }) (said_value true true 0 v) (omega arith) refl refl refl refl refl
+pub unit-noted : (f g : FoundTexts) (v : Value) → g ≡ noted f Macro (record { at = v.at; size = v.len; path = false }) → g ≡ with_places f (said_value true true 0 v)
+unit-noted f g v is = is ∙ noted-places f Macro (record { at = v.at; size = v.len; path = false }) (said_value true true 0 v) (omega arith) refl refl refl refl refl
 
 pub stray-noted : (f g : FoundTexts) (place : ℕ) → g ≡ stray_noted f place → g ≡ with_places f (indexed_at place no_start)
 stray-noted f g place is = is ∙ paths-more f (with_stray_at f.paths place) (indexed_at place no_start) (with_stray-places f.paths place) refl refl
@@ -443,17 +445,17 @@ stray-noted f g place is = is ∙ paths-more f (with_stray_at f.paths place) (in
 pub ruleset start_rules = (line-noted, line-silent, unit-noted, stray-noted)
 
 -- what a value says by its class
-pub str-noted : (f g : FoundTexts) (class : ValueClass) (path base field : Bool) (place : ℕ) (v : Value) → class ≡ StrOffset → path ≡ true
-    → g ≡ noted f Str (record { at = v.at; size = v.len }) → g ≡ with_places f (class_places class path base field place v)
-str-noted f g class path base field place v c p is =
-    is ∙ noted-places f Str (record { at = v.at; size = v.len }) (class_places StrOffset true base field place v) (omega arith) refl refl refl refl refl
-    ∙ sym (ap (λ (x : ValueClass). with_places f (class_places x path base field place v)) c ∙ ap (λ (b : Bool). with_places f (class_places StrOffset b base field place v)) p)
+pub str-noted : (f g : FoundTexts) (class : ValueClass) (path base field : Bool) (place : ℕ) (v : Value) → class ≡ StrOffset
+    → g ≡ noted f Str (record { at = v.at; size = v.len; path = path }) → g ≡ with_places f (class_places class path base field place v)
+str-noted f g class path base field place v c is =
+    is ∙ noted-places f Str (record { at = v.at; size = v.len; path = path }) (class_places StrOffset path base field place v) (omega arith) refl refl refl refl refl
+    ∙ sym (ap (λ (x : ValueClass). with_places f (class_places x path base field place v)) c)
 
-pub line_str-noted : (f g : FoundTexts) (class : ValueClass) (path base field : Bool) (place : ℕ) (v : Value) → class ≡ LineStrOffset → path ≡ true
-    → g ≡ noted f LineStr (record { at = v.at; size = v.len }) → g ≡ with_places f (class_places class path base field place v)
-line_str-noted f g class path base field place v c p is =
-    is ∙ noted-places f LineStr (record { at = v.at; size = v.len }) (class_places LineStrOffset true base field place v) (omega arith) refl refl refl refl refl
-    ∙ sym (ap (λ (x : ValueClass). with_places f (class_places x path base field place v)) c ∙ ap (λ (b : Bool). with_places f (class_places LineStrOffset b base field place v)) p)
+pub line_str-noted : (f g : FoundTexts) (class : ValueClass) (path base field : Bool) (place : ℕ) (v : Value) → class ≡ LineStrOffset
+    → g ≡ noted f LineStr (record { at = v.at; size = v.len; path = path }) → g ≡ with_places f (class_places class path base field place v)
+line_str-noted f g class path base field place v c is =
+    is ∙ noted-places f LineStr (record { at = v.at; size = v.len; path = path }) (class_places LineStrOffset path base field place v) (omega arith) refl refl refl refl refl
+    ∙ sym (ap (λ (x : ValueClass). with_places f (class_places x path base field place v)) c)
 
 pub inline-noted : (f g : FoundTexts) (class : ValueClass) (path base field : Bool) (place : ℕ) (v : Value) → class ≡ InlineText → path ≡ true
     → g ≡ inline_noted f (record { at = v.at; len = v.len }) → g ≡ with_places f (class_places class path base field place v)
@@ -492,20 +494,6 @@ by-silent : (f : FoundTexts) (class : ValueClass) (path base field : Bool) (plac
     → f ≡ with_places f (class_places class path base field place v)
 by-silent f class path base field place v ts e h = found-same f ts h.0 h.1 h.2 ∙ sym (ap (with_places f) e)
 
-pub str-silent : (f : FoundTexts) (class : ValueClass) (path base field : Bool) (place : ℕ) (v : Value) → class ≡ StrOffset → path ≡ false
-    → f ≡ with_places f (class_places class path base field place v)
-str-silent f class path base field place v c p =
-    by-silent f class path base field place v (class_places StrOffset false base field place v)
-    (ap (λ (x : ValueClass). class_places x path base field place v) c ∙ ap (λ (b : Bool). class_places StrOffset b base field place v) p)
-    (record { str = refl; line_str = refl; starts = refl; macros = refl; inline = refl; stray = refl }, refl, refl)
-
-pub line_str-silent : (f : FoundTexts) (class : ValueClass) (path base field : Bool) (place : ℕ) (v : Value) → class ≡ LineStrOffset → path ≡ false
-    → f ≡ with_places f (class_places class path base field place v)
-line_str-silent f class path base field place v c p =
-    by-silent f class path base field place v (class_places LineStrOffset false base field place v)
-    (ap (λ (x : ValueClass). class_places x path base field place v) c ∙ ap (λ (b : Bool). class_places LineStrOffset b base field place v) p)
-    (record { str = refl; line_str = refl; starts = refl; macros = refl; inline = refl; stray = refl }, refl, refl)
-
 pub inline-silent : (f : FoundTexts) (class : ValueClass) (path base field : Bool) (place : ℕ) (v : Value) → class ≡ InlineText → path ≡ false
     → f ≡ with_places f (class_places class path base field place v)
 inline-silent f class path base field place v c p =
@@ -540,7 +528,7 @@ class-names t StrOffset v s l = absurd (s refl)
 class-names t LineStrOffset v s l = absurd (l refl)
 class-names t class v s l = tt
 
-pub ruleset note_rules = (names-str, names-line_str, refused-str, refused-line_str, str-noted, line_str-noted, inline-noted, index-noted, number-noted, offset-noted, str-silent, line_str-silent, inline-silent, number-silent, offset-silent)
+pub ruleset note_rules = (names-str, names-line_str, refused-str, refused-line_str, str-noted, line_str-noted, inline-noted, index-noted, number-noted, offset-noted, inline-silent, number-silent, offset-silent)
 
 -- where a pass over the values of an entry stands: behind so many attributes, at a place, with what was found. Those passed
 -- stand before the place; what was found with the places of the others behind is what the whole entry gives; and if the

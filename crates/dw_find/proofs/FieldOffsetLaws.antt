@@ -12,7 +12,7 @@ use Rattle.dw_base.proofs.ViewCellLaws.{field_at-cells, length-view_cells, offse
 use Rattle.dw_base.proofs.ViewOffsetLaws.{offset-fails, offset-is}
 use Rattle.dw_find.specs.Fields.{IsStartField}
 use Rattle.dw_base.specs.ViewOffsets.{offset_read}
-use Rattle.dw_base.specs.declared.texts.TextField.{TextField}
+use Rattle.dw_offsets.specs.declared.fields.OffsetField.{OffsetField}
 
 -- a field that is refused, and one that was read
 pub field-refused : (v : View) (section place n : ℕ) (r : Refusal) → 0 < n → place + n ≤ length (section_bytes v section) → Err r ≡ offset_read v section place n
@@ -55,34 +55,34 @@ placed-cells v section place n sized inside placed =
 pub ruleset value_rules = (field-inside, offset-some, offset-few, offset-cells, placed-cells)
 
 -- what a field reads as, by its cells
-pub start-some : (info : List ℕ) (at n : ℕ) → IsStartField info (record { at = at; size = n }) → 0 < n
-start-some info at n is = offset-some n is.sized
+pub start-some : (info : List ℕ) (g : OffsetField) → IsStartField info g → 0 < g.size
+start-some info g is = offset-some g.size is.sized
 
-pub start-few : (info : List ℕ) (at n : ℕ) → IsStartField info (record { at = at; size = n }) → n ≤ 8
-start-few info at n is = offset-few n is.sized
+pub start-few : (info : List ℕ) (g : OffsetField) → IsStartField info g → g.size ≤ 8
+start-few info g is = offset-few g.size is.sized
 
-pub start-inside : (info : List ℕ) (at n : ℕ) → IsStartField info (record { at = at; size = n }) → at + n ≤ length info
-start-inside info at n is = is.inside
+pub start-inside : (info : List ℕ) (g : OffsetField) → IsStartField info g → g.at + g.size ≤ length info
+start-inside info g is = is.inside
 
-pub field-cells : (v : View) (section place n : ℕ) (f : Field) → IsStartField (section_bytes v section) (record { at = place; size = n }) → Ok f ≡ offset_read v section place n
-    → f ≡ field_of v.order (cells_at (view_cells v section) place n)
-field-cells v section place n f is read =
-    (offset-is v section place n f (sym read)).same ∙ sym (field_at-cells v section place n (offset-some n is.sized) is.inside)
+pub field-cells : (v : View) (section : ℕ) (g : OffsetField) (f : Field) → IsStartField (section_bytes v section) g → Ok f ≡ offset_read v section g.at g.size
+    → f ≡ field_of v.order (cells_at (view_cells v section) g.at g.size)
+field-cells v section g f is read =
+    (offset-is v section g.at g.size f (sym read)).same ∙ sym (field_at-cells v section g.at g.size (offset-some g.size is.sized) is.inside)
 
-pub start-placed : (v : View) (section place n : ℕ) (f : Field) → IsStartField (section_bytes v section) (record { at = place; size = n }) → Ok f ≡ offset_read v section place n
-    → is_placed (field_of v.order (cells_at (view_cells v section) place n)) ≡ true
-start-placed v section place n f is read =
-    ap is_placed (field_at-cells v section place n (offset-some n is.sized) is.inside) ∙ offset-placed v section place n f read
+pub start-placed : (v : View) (section : ℕ) (g : OffsetField) (f : Field) → IsStartField (section_bytes v section) g → Ok f ≡ offset_read v section g.at g.size
+    → is_placed (field_of v.order (cells_at (view_cells v section) g.at g.size)) ≡ true
+start-placed v section g f is read =
+    ap is_placed (field_at-cells v section g.at g.size (offset-some g.size is.sized) is.inside) ∙ offset-placed v section g.at g.size f read
 
 pub ruleset read_rules = (start-some, start-few, start-inside, field-cells, field-refused, start-placed)
 
 -- a field lies in its section
-pub field-lies : (v : View) (i : ℕ) (f : TextField) → IsStartField (section_bytes v i) f → f.at + f.size ≤ length (view_cells v i)
+pub field-lies : (v : View) (i : ℕ) (f : OffsetField) → IsStartField (section_bytes v i) f → f.at + f.size ≤ length (view_cells v i)
 field-lies v i f is =
     let inside = is.inside in
     omega (arith, inside, length-view_cells v i)
 
-pub field-sized : (info : List ℕ) (f : TextField) → IsStartField info f → (f.size ≡ 4) ⊎ (f.size ≡ 8)
+pub field-sized : (info : List ℕ) (f : OffsetField) → IsStartField info f → (f.size ≡ 4) ⊎ (f.size ≡ 8)
 field-sized info f is = is.sized
 
 -- the first section of a name

@@ -31,7 +31,7 @@ use Rattle.dw_base.specs.declared.values.ValueClass.TheVariants.{Number, StrInde
 use Rattle.dw_meaning.proofs.TextEditLaws.{chosen-fits}
 use Rattle.dw_base.proofs.UnitHeaderLaws.{bytes_of-append}
 use Rattle.dw_base.specs.declared.debug_sections.DebugSection.TheVariants.{Line, Macro}
-use Rattle.dw_base.specs.declared.texts.TextField.{TextField}
+use Rattle.dw_offsets.specs.declared.fields.OffsetField.{OffsetField}
 use Rattle.dw_base.specs.declared.texts.TextSection.{TextSection}
 use Rattle.dw_base.specs.declared.texts.TextSection.TheVariants.{InStr, InLineStr}
 use Rattle.dw_base.specs.declared.values.AttributeUse.{AttributeUse}
@@ -39,7 +39,7 @@ use Rattle.dw_meaning.proofs.ScanPieceLaws.{bytes_of-drop}
 use Rattle.dw_find.specs.TextPlaces.{TextPlace, Indexed, base_offset, said_base, unit_base, text_index, place_of, indexed_at, indexed_kind, indexed_in, places_in, PlaceNames, PlacesName, fields_in, inline_at, inline_in, paths_by, SectionSays, AllPlaced, InlinesFit, AllFitRooms, macros_in, no_start, places_into, said_start, stray_in, starts_in, unit_start}
 use Rattle.dw_find.specs.NamedStarts.{AllStarts, StartsNamed, UnitsNamed}
 use Rattle.dw_find.specs.UnitPlaces.{PlacesStart, UnitPlaces, has_unit, names_place}
-use Rattle.dw_find.specs.SectionFields.{SectionFields, field_by, fields_into, lists_by, path_fields, pieces_into, inline_by, inline_paths, paths_in, paths_of, inline_text, macro_by, macro_fields, start_by, start_fields, stray_among}
+use Rattle.dw_find.specs.SectionFields.{SectionFields, field_by, fields_into, lists_by, piece_fields, pieces_into, inline_by, inline_paths, paths_in, paths_of, inline_text, macro_by, macro_fields, start_by, start_fields, stray_among}
 use Rattle.dw_find.specs.declared.fields.InlinePath.{InlinePath}
 use Rattle.dw_base.specs.declared.view_fields.Field.{Field}
 use Rattle.dw_base.specs.declared.view_fields.Field.TheVariants.{Num, Into, Sym}
@@ -54,7 +54,7 @@ use Rattle.dw_find.proofs.ValuePlaceLaws.{text-fields}
 pub fields-append : (table : TextSection) (ts us : List TextPlace) → fields_in table (ts ++ us) ≡ fields_in table ts ++ fields_in table us
 fields-append table [] us = refl
 fields-append table (t ∷ ts) us =
-    ap (λ (fs : List TextField). field_by table t.role t.at t.len ++ fs) (fields-append table ts us)
+    ap (λ (fs : List OffsetField). field_by table t.role t.at t.len ++ fs) (fields-append table ts us)
     ∙ sym (append_assoc (field_by table t.role t.at t.len) (fields_in table ts) (fields_in table us))
 
 pub inline-append : (ts us : List TextPlace) → inline_in (ts ++ us) ≡ inline_in ts ++ inline_in us
@@ -161,7 +161,7 @@ pub starts-are : (xs : List (Piece UnitState)) → starts_in (places_in xs) ≡ 
 starts-are [] = refl
 starts-are (x ∷ xs) =
     start-piece (role_of x) x.state.place (length x.cells) (indexed_in x.state.mode x.state x.cells ++ places_in xs)
-    ∙ ap (λ (fs : List TextField). start_by (role_of x) x.state.place (length x.cells) ++ fs)
+    ∙ ap (λ (fs : List OffsetField). start_by (role_of x) x.state.place (length x.cells) ++ fs)
     (starts-skip (indexed_in x.state.mode x.state x.cells) (places_in xs) (piece-indexed x.state.mode x.state x.cells) ∙ starts-are xs)
 
 -- and so is the first value that can't say one
@@ -288,16 +288,16 @@ macros-are [] = refl
 macros-are (x ∷ xs) =
     macro-role (role_of x) x.state.place (length x.cells) (indexed_in x.state.mode x.state x.cells ++ places_in xs)
     ∙ macro-piece x.state.mode x.state x.cells (places_in xs)
-    ∙ ap (λ (fs : List TextField). macro_by (is_macro_value x) x.state.place (length x.cells) ++ fs) (macros-are xs)
+    ∙ ap (λ (fs : List OffsetField). macro_by (is_macro_value x) x.state.place (length x.cells) ++ fs) (macros-are xs)
 
 -- the fields of pieces are those of their places
-pub fields-are : (table : TextSection) (xs : List (Piece UnitState)) → fields_in table (places_in xs) ≡ path_fields table xs
+pub fields-are : (table : TextSection) (xs : List (Piece UnitState)) → fields_in table (places_in xs) ≡ piece_fields table xs
 fields-are table [] = refl
 fields-are table (x ∷ xs) =
     let rest : List TextPlace = indexed_in x.state.mode x.state x.cells ++ places_in xs in
     fields-append table (place_of (role_of x) x.state.place (length x.cells)) rest
-    ∙ ap (λ (fs : List TextField). fs ++ fields_in table rest) (field-one table (role_of x) x.state.place (length x.cells))
-    ∙ ap (λ (fs : List TextField). field_by table (role_of x) x.state.place (length x.cells) ++ fs)
+    ∙ ap (λ (fs : List OffsetField). fs ++ fields_in table rest) (field-one table (role_of x) x.state.place (length x.cells))
+    ∙ ap (λ (fs : List OffsetField). field_by table (role_of x) x.state.place (length x.cells) ++ fs)
     (fields-skip table (indexed_in x.state.mode x.state x.cells) (places_in xs) (piece-indexed x.state.mode x.state x.cells) ∙ fields-are table xs)
 
 -- a path that stands in a piece fills it, but for its NUL
@@ -385,7 +385,7 @@ names-first line_start d cells at len ts h = (tt, h.1)
 names-first (offset InStr path) d cells at len ts h = (h.0, h.1)
 names-first (offset InLineStr path) d cells at len ts h = (h.0, h.1)
 
-starts-first : (r : Role) (d : DebugData) (starts : List ℕ) (cells : List Cell) (at len : ℕ) (fs : List TextField) → StartsNamed d starts cells (start_by r at len ++ fs)
+starts-first : (r : Role) (d : DebugData) (starts : List ℕ) (cells : List Cell) (at len : ℕ) (fs : List OffsetField) → StartsNamed d starts cells (start_by r at len ++ fs)
     → StartNamed r d starts (cells_at cells at len) × StartsNamed d starts cells fs
 starts-first fixed d starts cells at len fs h = (tt, h)
 starts-first inline_path d starts cells at len fs h = (tt, h)
@@ -407,7 +407,7 @@ names-are d rs starts cells place (x ∷ xs) e l h k =
     )
 
 -- a value that names a macro unit by its place names it
-units-first : (b : Bool) (d : DebugData) (places : UnitPlaces) (cells : List Cell) (at len : ℕ) (fs : List TextField) → UnitsNamed d places cells (macro_by b at len ++ fs)
+units-first : (b : Bool) (d : DebugData) (places : UnitPlaces) (cells : List Cell) (at len : ℕ) (fs : List OffsetField) → UnitsNamed d places cells (macro_by b at len ++ fs)
     → (b ≡ true → names_place places (field_of d.base.order (cells_at cells at len)) ≡ true) × UnitsNamed d places cells fs
 units-first true d places cells at len fs h = (λ e. h.0, h.1)
 units-first false d places cells at len fs h = (λ e. absurd cc, h)

@@ -1,5 +1,5 @@
 -- What was found of paths: the readings of the debug data of a view, what they say of paths, and why there are none.
-use Rattle.std.proofs.Common.{true, false, ◌≡◌, ◌⊎◌, inl, inr, ℕ, ◌+◌, ◌<◌, ◌≤◌, if◌then◌else◌, Bool, List, [], ◌∷◌, ◌++◌, length, drop, replicate, Option, Some, None, refl, sym, ap, ◌∙◌, subst, arith, append_assoc}
+use Rattle.std.proofs.Common.{true, ◌≡◌, ◌⊎◌, inl, inr, ℕ, ◌+◌, ◌<◌, ◌≤◌, List, [], ◌∷◌, ◌++◌, length, drop, replicate, Option, Some, None, refl, sym, ap, ◌∙◌, subst, arith, append_assoc}
 use Rattle.std.proofs.lemmas.List.{length-append, length-drop, length-replicate}
 use Rattle.dw_base.specs.Cells.{Cell, bytes_of, cells_at, offset_of}
 use Rattle.dw_base.specs.DebugData.{Around, DataReadings, ReadsAll, around_of, indexing_of, line_source, macro_places, path_slots}
@@ -16,7 +16,6 @@ use Rattle.dw_base.specs.Paths.{PathMap}
 use Rattle.dw_base.specs.Pieces.{Piece, Chain, EachPiece, joined}
 use Rattle.dw_base.specs.Readings.{Readings, EachReading}
 use Rattle.dw_base.specs.Refusals.{Blames}
-use Rattle.dw_base.specs.Roles.{offset}
 use Rattle.dw_base.specs.SectionTexts.{NameTexts, name_role, name_role_by, offset_role, slot_role}
 use Rattle.dw_base.specs.SlotTexts.{contributions_in}
 use Rattle.dw_base.specs.Slots.{slots_of}
@@ -48,10 +47,12 @@ use Rattle.dw_meaning.specs.RelocationFails.LeftRelocationsFail.{slots as left_s
 use Rattle.dw_base.specs.NameOffsets.{AreRead, NamesRefuse, tables as named_tables, offsets as named_offsets}
 use Rattle.dw_offsets.specs.PathSlots.{SlotsRefuse, SlotsTaken, slot_field, slot_fields, slots_in}
 use Rattle.dw_offsets.specs.SlotMarks.{AreMarks}
+use Rattle.dw_offsets.specs.NameFields.{fields_of_names}
 use Rattle.dw_offsets.proofs.NamePieceLaws.{NamesRead, names-read}
 use Rattle.dw_offsets.proofs.OffsetPieceLaws.{contributions-read}
 use Rattle.dw_offsets.proofs.SlotPieceLaws.{SlotsAround, SlotsSay, SlotsFail, slot_fails, shared_fails, offset_fails, slots-fail, slots-say}
-use Rattle.dw_find.specs.FoundPaths.{PathsFound, PathsRefuse, SlotsFound, UnitPathsRefuse, UnitsFound, UnitsNamed, without_lines}
+use Rattle.dw_find.specs.AllFields.{Fields, all_of, fields_read, standing}
+use Rattle.dw_find.specs.FoundPaths.{PathsFound, PathsRefuse, SlotsFound, UnitPathsRefuse, UnitsFound, UnitsNamed}
 use Rattle.dw_find.specs.FoundPaths.PathsRefuse.{units, starts, inline, string_tables, name_tables, name_offsets, relocations, slots, shared}
 use Rattle.dw_find.specs.FoundPaths.UnitPathsRefuse.{texts as refused_texts, inline as refused_inline}
 use Rattle.dw_find.specs.Fields.{IsOffsetField}
@@ -60,31 +61,34 @@ use Rattle.dw_find.specs.MacroNames.{MacrosStray}
 use Rattle.dw_find.specs.MacroSections.{SectionUnits, UnitsFoundIn, macros_of, macros_read}
 use Rattle.dw_find.specs.IndexedTexts.TextsRefuse.{units as texts_units, starts as texts_starts, index as texts_index}
 use Rattle.dw_find.specs.NamedSlots.{LieWithin}
+use Rattle.dw_find.specs.NameSections.{names_of_view, names_read, names_texts}
 use Rattle.dw_find.proofs.SlotRunLaws.{contributions-lie}
 use Rattle.dw_find.specs.ViewFields.{AllHaveOffsets, AllRoomsFit, AllHavePlaces, HasPlaces}
 use Rattle.dw_find.specs.SlotPaths.{offset_fields, read_fields, slots_by, slots_of_view, slots_read}
 use Rattle.dw_find.specs.TextPlaces.{AllFitRooms, AllPlaced, InlinesFit}
-use Rattle.dw_find.specs.SectionFields.{SectionFields, field_by, paths_of}
+use Rattle.dw_find.specs.SectionFields.{SectionFields, field_by}
 use Rattle.dw_find.specs.ViewLines.{lines_of_view, starts_of}
 use Rattle.dw_find.proofs.ApartLaws.{slots-apart}
 use Rattle.dw_find.proofs.FoundLaws.{FoundReadings, found-readings, found-fits}
 use Rattle.dw_find.proofs.MacroAskedLaws.{asked-of}
 use Rattle.dw_find.proofs.MacroFoundLaws.{PieceNames, SectionsRead, holds-else, sections-read}
 use Rattle.dw_find.proofs.MacroNameLaws.{units-in}
-use Rattle.dw_find.proofs.MacroPathLaws.{have-macros, macro-imports, macro-texts, macros-order, places-start, rooms-macros}
+use Rattle.dw_find.proofs.NameHaveLaws.{names-offsets, names-places, strings-are}
+use Rattle.dw_find.proofs.MacroPathLaws.{have-both, have-macros, macro-imports, macro-texts, macros-order, places-start, rooms-both, rooms-macros}
 use Rattle.dw_find.proofs.MacroStartLaws.{all-cells}
 use Rattle.dw_find.proofs.UnitPlaceLaws.{first-number}
-use Rattle.dw_find.proofs.MacroHaveLaws.{macros-have}
+use Rattle.dw_find.proofs.MacroHaveLaws.{offsets-have}
 use Rattle.dw_find.proofs.MacroStrayLaws.{macros-fail}
+use Rattle.dw_find.proofs.MacroTextLaws.{all-named}
 use Rattle.dw_find.proofs.TableStartLaws.{read-starts}
-use Rattle.dw_find.proofs.FoundUnitLaws.{lines-offsets, without-is}
+use Rattle.dw_find.proofs.FoundUnitLaws.{lines-offsets}
 use Rattle.dw_find.proofs.OffsetPlaceLaws.{offsets-in, offsets-placed, offsets-of}
 use Rattle.dw_find.proofs.PlaceValueLaws.{EachOf, offset-fields}
 use Rattle.dw_find.proofs.SectionFactLaws.{SectionFacts, all-facts, has-offsets, says-bytes, has-places}
 use Rattle.dw_find.proofs.SlotPlaceLaws.{SlotsIn}
 use Rattle.dw_find.specs.UnitPlaces.{PlacesStart, UnitPlaces}
 use Rattle.dw_base.specs.NameTables.{AreNameTables}
-use Rattle.dw_base.specs.declared.texts.TextField.{TextField}
+use Rattle.dw_offsets.specs.declared.fields.OffsetField.{OffsetField}
 use Rattle.dw_base.specs.declared.texts.TextSection.TheVariants.{InStr}
 use Rattle.dw_meaning.specs.DataOutput.{DataReads}
 use Rattle.dw_meaning.specs.RelocationFails.{LeftRelocationsRead}
@@ -97,14 +101,11 @@ use Rattle.dw_find.proofs.MacroListLaws.{units-exclude}
 use Rattle.dw_meaning.proofs.LeftRowLaws.{values-left}
 
 -- the fields that a pass over the slots gave are those of the pieces
-field-is : (paths : List ℕ) (m : OffsetMode) (n place size : ℕ) (more : List TextField) (fs : List TextField) → more ≡ fs
+field-is : (paths : List ℕ) (m : OffsetMode) (n place size : ℕ) (more : List OffsetField) (fs : List OffsetField) → more ≡ fs
     → slot_field paths m n place size ++ more ≡ field_by InStr (offset_role paths m n) place size ++ fs
 field-is paths at_contribution n place size more fs e = e
-field-is paths (at_slot w end) n place size more fs e = by_path (holds_number paths n)
-  where
-    by_path : (b : Bool) → (if b then record { at = place; size = size } ∷ [] else []) ++ more ≡ field_by InStr (offset InStr b) place size ++ fs
-    by_path true = ap (λ (l : List TextField). record { at = place; size = size } ∷ l) e
-    by_path false = e
+field-is paths (at_slot w end) n place size more fs e =
+    ap (λ (l : List OffsetField). record { at = place; size = size; path = holds_number paths n } ∷ l) e
 field-is paths no_offsets n place size more fs e = e
 
 field-head : (x y : FieldPlace) (xs ys : List FieldPlace) → x ∷ xs ≡ y ∷ ys → x ≡ y
@@ -197,7 +198,7 @@ names-cells : (v : View) (xs : List (Piece NameState)) → ReadsNames v.order (n
 unfolding debug_data
 names-cells v xs r = r
 
--- a slot that a path names is a field of a path
+-- a slot is a field of a text
 slot-sized : (w : Width) (size : ℕ) → size ≡ width_size w → (size ≡ 4) ⊎ (size ≡ 8)
 slot-sized W32 size e = inl e
 slot-sized W64 size e = inr e
@@ -210,7 +211,8 @@ piece-field : (mode : OffsetMode) (paths : List ℕ) (order : Order) (around : A
     → FitsOffsets mode order x.state x.cells → x.state.place ≡ place → x.cells ++ rest ≡ drop place cells → NamesTextBy (offset_role paths mode x.state.slot) around x.cells
     → EachOf (IsOffsetField around.lasting.base.order (around.stands Str) cells) (field_by InStr (offset_role paths mode x.state.slot) x.state.place (length x.cells))
 piece-field at_contribution paths order around cells x rest place fits at e names = tt
-piece-field (at_slot w end) paths order around cells x rest place fits at e names = by_path (holds_number paths x.state.slot)
+piece-field (at_slot w end) paths order around cells x rest place fits at e names =
+    (record { sized = slot-sized w (length x.cells) fits.size; inside = inside; ends = ends }, tt)
   where
     inside : x.state.place + length x.cells ≤ length cells
     inside =
@@ -224,10 +226,6 @@ piece-field (at_slot w end) paths order around cells x rest place fits at e name
         let own : cells_at cells x.state.place (length x.cells) ≡ x.cells =
         ap (λ (i : ℕ). cells_at cells i (length x.cells)) at ∙ piece-cells cells x.cells rest place (sym e) in
         ap (λ (p : List Cell). ends_in (around.stands Str).bytes (offset_of around.lasting.base.order (around.stands Str) p)) own ∙ names
-
-    by_path : (b : Bool) → EachOf (IsOffsetField around.lasting.base.order (around.stands Str) cells) (field_by InStr (offset InStr b) x.state.place (length x.cells))
-    by_path true = (record { sized = slot-sized w (length x.cells) fits.size; inside = inside; ends = ends }, tt)
-    by_path false = tt
 piece-field no_offsets paths order around cells x rest place fits at e names = tt
 
 each-append : {X : Type 0} (P : X → Type 0) (xs ys : List X) → EachOf P xs → EachOf P ys → EachOf P (xs ++ ys)
@@ -301,13 +299,6 @@ offsets-each : (v : View) (us : List SectionFields) → EachOf (SectionFacts v) 
 offsets-each v [] h = tt
 offsets-each v (u ∷ us) h = (has-offsets v u h.0, offsets-each v us h.1)
 
-offsets-macros : (v : View) (rs : List MacroReading) → AllHavePlaces v (macros_read rs) → AllHaveOffsets v (macros_read rs)
-offsets-macros v [] h = tt
-offsets-macros v (r ∷ rs) h = (
-  record { there = h.0.there; str = record { each = λ k d lt. absurd (omega (arith, lt)) }; line_str = record { each = λ k d lt. absurd (omega (arith, lt)) } },
-  offsets-macros v rs h.1,
-)
-
 rooms-each : (m : PathMap) (v : View) (before zs : List UnitSection) (us ws : List SectionFields) → (debug_data v).found Info ≡ before ++ zs → AllPlaced (debug_data v) zs us
     → AllFitRooms m zs us → AllRoomsFit m v ws → AllRoomsFit m v (us ++ ws)
 rooms-each m v before [] [] ws split all fits rest = rest
@@ -318,7 +309,7 @@ rooms-each m v before (z ∷ zs) (u ∷ us) ws split all fits rest = (
   rooms-each m v (before ++ z ∷ []) zs us ws (split ∙ sym (append_assoc before (z ∷ []) zs)) all.1 fits.1 rest,
 )
 
-slots-rooms : (m : PathMap) (v : View) (o : Option ℕ) (fields : List TextField) → AllRoomsFit m v (slots_by o fields)
+slots-rooms : (m : PathMap) (v : View) (o : Option ℕ) (fields : List OffsetField) → AllRoomsFit m v (slots_by o fields)
 slots-rooms m v None fields = tt
 slots-rooms m v (Some i) fields = (tt, tt)
 
@@ -326,7 +317,7 @@ slots-rooms m v (Some i) fields = (tt, tt)
 record Parts (m : PathMap) (v : View) (list : List Contribution) (marks first : List ℕ) (us : List SectionFields) (tables : List NameTable) : Type 0 where
   offsets : OffsetsRead v list
   found : FoundReadings (debug_data v) 0 ((debug_data v).found Info) us
-  names : NamesRead v (names_cells v)
+  names : NamesRead v (names_cells v) tables
   marked : SlotsMarked (indexing_with (debug_data v) list found.readings) marks
 
 parts-of : (m : PathMap) (v : View) (list : List Contribution) (marks first : List ℕ) (places : UnitPlaces) (us : List SectionFields) (tables : List NameTable) → AreContributions v.order (string_offsets v) list
@@ -343,24 +334,28 @@ tables-start v ts first found is = record {
   is = is ∙ ap starts_of found.is ∙ read-starts (line_source (debug_data v)) found.readings;
 }
 
+-- what was found, as the code puts it together
+abbrev five_lists : List SectionFields → List SectionFields → List SectionFields → List SectionFields → List SectionFields → Fields
+five_lists us ss ls ms ns = record { units = us; slots = ss; lines = ls; macros = ms; names = ns }
+
 -- all of it but its relocations
-record PathsRead (m : PathMap) (v : View) (us : List SectionFields) (ts : List LineTable) : Type 0 where
+record PathsRead (m : PathMap) (v : View) (all : Fields) (ts : List LineTable) : Type 0 where
   readings : DataReadings
   reads : DataReads (debug_data v) readings
   inline : EachReading (InlineFits m) readings.units
   slots : EachPiece (SlotFits m (around_of (debug_data v) readings)) readings.offsets
-  offsets : AllHaveOffsets v us
-  places : AllHavePlaces v (without_lines v us)
-  rooms : AllRoomsFit m v (without_lines v us)
-  is : us ≡ ((paths_of readings.units ++ slots_read v readings) ++ macros_read readings.macros) ++ lines_of_view v ts
+  offsets : AllHaveOffsets v (all_of all)
+  places : AllHavePlaces v (standing all)
+  rooms : AllRoomsFit m v (standing all)
+  is : all ≡ fields_read v readings ts
   tables : ts ≡ tables_read (line_source (debug_data v)) readings.lines
 
 paths-read : (m : PathMap) (v : View) (list : List Contribution) (marks starts_ : List ℕ) (tables : List NameTable) (ts : List LineTable) (ss : List SectionUnits)
-    (us with_slots with_macros all : List SectionFields) → AreContributions v.order (string_offsets v) list → AreRead v tables → TablesFound v ts → starts_ ≡ starts_of ts
-    → UnitsFoundIn v ss → UnitsNamed m v list starts_ ss marks us → SlotsFound m v list marks us with_slots → with_macros ≡ with_slots ++ macros_of ss
-    → all ≡ with_macros ++ lines_of_view v ts → PathsRead m v all ts
+    (us slots_ : List SectionFields) (all : Fields) → AreContributions v.order (string_offsets v) list → AreRead v tables → TablesFound v ts → starts_ ≡ starts_of ts
+    → UnitsFoundIn v ss → UnitsNamed m v list starts_ ss marks us → SlotsFound m v list marks [] slots_
+    → all ≡ five_lists us slots_ (lines_of_view v ts) (macros_of v ss) (names_of_view v (fields_of_names tables)) → PathsRead m v all ts
 unfolding tables-start
-paths-read m v list marks starts_ tables ts ss us with_slots with_macros all are named lines starts_are units_are n slots_found macros_is all_is =
+paths-read m v list marks starts_ tables ts ss us slots_ all are named lines starts_are units_are n slots_found all_is =
     let p : Parts m v list marks starts_ us tables = parts-of m v list marks starts_ n.places us tables are named n.found n.indexed in
     let macros : SectionsRead v (PieceNames (debug_data v) starts_ n.places) ((debug_data v).found Macro) ss =
     sections-read v (PieceNames (debug_data v) starts_ n.places) ((debug_data v).found Macro) ss (holds-else (debug_data v) starts_ n.places)
@@ -376,20 +371,24 @@ paths-read m v list marks starts_ tables ts ss us with_slots with_macros all are
     slots_found.fields around (subst (λ (cs_ : List Contribution). SlotsTaken m (slots_in v) marks (slots_of cs_) [] slots_found.fields) (sym same_list) slots_found.taken) in
     let fields : slots_found.fields ≡ read_fields (debug_data v) (readings_with p.found.readings p.offsets.pieces lines.readings macros.readings p.names.pieces) =
     say.fields_are ∙ fields-are (path_slots (around_of (debug_data v) (readings_with p.found.readings p.offsets.pieces lines.readings macros.readings p.names.pieces))) p.offsets.pieces in
-    let slots_is : with_slots ≡ us ++ slots_read v (readings_with p.found.readings p.offsets.pieces lines.readings macros.readings p.names.pieces) =
-    slots_found.is ∙ ap (λ (fs : List TextField). us ++ slots_of_view v fs) fields in
-    let is : with_macros ≡ (us ++ slots_read v (readings_with p.found.readings p.offsets.pieces lines.readings macros.readings p.names.pieces)) ++ macros_read macros.readings =
-    macros_is ∙ ap (λ (ws : List SectionFields). ws ++ macros_of ss) slots_is
-    ∙ ap (λ (ws : List SectionFields). (us ++ slots_read v (readings_with p.found.readings p.offsets.pieces lines.readings macros.readings p.names.pieces)) ++ ws) (sym macros.says) in
-    let without : without_lines v all ≡ with_macros = without-is v all with_macros ts all_is in
-    let have : AllHavePlaces v with_macros =
-    subst (AllHavePlaces v) (sym is)
+    let slots_is : slots_ ≡ slots_read v (readings_with p.found.readings p.offsets.pieces lines.readings macros.readings p.names.pieces) =
+    slots_found.is ∙ ap (slots_of_view v) fields in
+    let names_are : names_of_view v (fields_of_names tables) ≡ names_read v (readings_with p.found.readings p.offsets.pieces lines.readings macros.readings p.names.pieces) = ap (names_of_view v) (sym p.names.fields ∙ strings-are p.names.pieces) in
+    let is : all ≡ five_lists us (slots_read v (readings_with p.found.readings p.offsets.pieces lines.readings macros.readings p.names.pieces)) (lines_of_view v ts) (macros_read macros.readings) (names_read v (readings_with p.found.readings p.offsets.pieces lines.readings macros.readings p.names.pieces)) =
+    all_is ∙ ap (λ (ws : List SectionFields). five_lists us ws (lines_of_view v ts) (macros_of v ss) (names_of_view v (fields_of_names tables))) slots_is
+    ∙ ap (λ (ws : List SectionFields). five_lists us (slots_read v (readings_with p.found.readings p.offsets.pieces lines.readings macros.readings p.names.pieces)) (lines_of_view v ts) ws (names_of_view v (fields_of_names tables)))
+    (sym (macros.says (all-named v ss (units-in v ss units_are))))
+    ∙ ap (five_lists us (slots_read v (readings_with p.found.readings p.offsets.pieces lines.readings macros.readings p.names.pieces)) (lines_of_view v ts) (macros_read macros.readings)) names_are in
+    let have : AllHavePlaces v (((us ++ slots_read v (readings_with p.found.readings p.offsets.pieces lines.readings macros.readings p.names.pieces)) ++ macros_read macros.readings) ++ names_read v (readings_with p.found.readings p.offsets.pieces lines.readings macros.readings p.names.pieces)) =
+    have-both v ((us ++ slots_read v (readings_with p.found.readings p.offsets.pieces lines.readings macros.readings p.names.pieces)) ++ macros_read macros.readings) (names_read v (readings_with p.found.readings p.offsets.pieces lines.readings macros.readings p.names.pieces))
     (have-macros v (us ++ slots_read v (readings_with p.found.readings p.offsets.pieces lines.readings macros.readings p.names.pieces)) macros.readings
-    (places-append v us (slots_read v (readings_with p.found.readings p.offsets.pieces lines.readings macros.readings p.names.pieces)) (places-each v us (all-facts v [] ((debug_data v).found Info) us refl n.found.placed)) (slots-places v (readings_with p.found.readings p.offsets.pieces lines.readings macros.readings p.names.pieces) i.offsets)) macros.reads) in
-    let rooms : AllRoomsFit m v with_macros =
-    subst (AllRoomsFit m v) (sym is)
+    (places-append v us (slots_read v (readings_with p.found.readings p.offsets.pieces lines.readings macros.readings p.names.pieces)) (places-each v us (all-facts v [] ((debug_data v).found Info) us refl n.found.placed)) (slots-places v (readings_with p.found.readings p.offsets.pieces lines.readings macros.readings p.names.pieces) i.offsets)) macros.reads)
+    (names-places v (readings_with p.found.readings p.offsets.pieces lines.readings macros.readings p.names.pieces) p.names.reads) in
+    let rooms : AllRoomsFit m v (((us ++ slots_read v (readings_with p.found.readings p.offsets.pieces lines.readings macros.readings p.names.pieces)) ++ macros_read macros.readings) ++ names_read v (readings_with p.found.readings p.offsets.pieces lines.readings macros.readings p.names.pieces)) =
+    rooms-both m v ((us ++ slots_read v (readings_with p.found.readings p.offsets.pieces lines.readings macros.readings p.names.pieces)) ++ macros_read macros.readings) (names_read v (readings_with p.found.readings p.offsets.pieces lines.readings macros.readings p.names.pieces))
     (rooms-macros m v (us ++ slots_read v (readings_with p.found.readings p.offsets.pieces lines.readings macros.readings p.names.pieces)) macros.readings
-    (rooms-each m v [] ((debug_data v).found Info) us (slots_read v (readings_with p.found.readings p.offsets.pieces lines.readings macros.readings p.names.pieces)) refl n.found.placed n.found.fits (slots-rooms m v (section_named v (name_of StrOffsets)) (read_fields (debug_data v) (readings_with p.found.readings p.offsets.pieces lines.readings macros.readings p.names.pieces))))) in
+    (rooms-each m v [] ((debug_data v).found Info) us (slots_read v (readings_with p.found.readings p.offsets.pieces lines.readings macros.readings p.names.pieces)) refl n.found.placed n.found.fits (slots-rooms m v (section_named v (name_of StrOffsets)) (read_fields (debug_data v) (readings_with p.found.readings p.offsets.pieces lines.readings macros.readings p.names.pieces)))))
+    (slots-rooms m v (section_named v (name_of Names)) (names_texts InStr p.names.pieces)) in
     record {
       readings = readings_with p.found.readings p.offsets.pieces lines.readings macros.readings p.names.pieces;
       reads = record {
@@ -411,29 +410,36 @@ paths-read m v list marks starts_ tables ts ss us with_slots with_macros all are
       inline = found-fits (debug_data v).base m 0 ((debug_data v).found Info) p.found.readings p.found.reads
           (subst (AllFitRooms m ((debug_data v).found Info)) (sym p.found.says) n.found.fits);
       slots = say.fits;
-      offsets = subst (AllHaveOffsets v) (sym all_is)
-          (offsets-append v with_macros (lines_of_view v ts)
-          (subst (AllHaveOffsets v) (sym is)
-          (offsets-append v (us ++ slots_read v (readings_with p.found.readings p.offsets.pieces lines.readings macros.readings p.names.pieces)) (macros_read macros.readings)
-          (offsets-append v us (slots_read v (readings_with p.found.readings p.offsets.pieces lines.readings macros.readings p.names.pieces))
+      offsets = subst (λ (x : Fields). AllHaveOffsets v (all_of x)) (sym is)
+          (offsets-append v us (slots_read v (readings_with p.found.readings p.offsets.pieces lines.readings macros.readings p.names.pieces) ++ (lines_of_view v ts ++ (macros_read macros.readings ++ names_read v (readings_with p.found.readings p.offsets.pieces lines.readings macros.readings p.names.pieces))))
           (offsets-each v us (all-facts v [] ((debug_data v).found Info) us refl n.found.placed))
-          (slots-offsets-of v (readings_with p.found.readings p.offsets.pieces lines.readings macros.readings p.names.pieces) i.offsets say.texts))
-          (offsets-macros v macros.readings (macros-have v macros.readings (all-cells v) macros.reads))))
-          (lines-offsets v lines.readings ts lines.reads lines.is));
-      places = subst (AllHavePlaces v) (sym without) have;
-      rooms = subst (AllRoomsFit m v) (sym without) rooms;
-      is = all_is ∙ ap (λ (ws : List SectionFields). ws ++ lines_of_view v ts)
-          (is ∙ ap (λ (ws : List SectionFields). (ws ++ slots_read v (readings_with p.found.readings p.offsets.pieces lines.readings macros.readings p.names.pieces)) ++ macros_read macros.readings) (sym p.found.says));
+          (offsets-append v (slots_read v (readings_with p.found.readings p.offsets.pieces lines.readings macros.readings p.names.pieces)) (lines_of_view v ts ++ (macros_read macros.readings ++ names_read v (readings_with p.found.readings p.offsets.pieces lines.readings macros.readings p.names.pieces)))
+          (slots-offsets-of v (readings_with p.found.readings p.offsets.pieces lines.readings macros.readings p.names.pieces) i.offsets say.texts)
+          (offsets-append v (lines_of_view v ts) (macros_read macros.readings ++ names_read v (readings_with p.found.readings p.offsets.pieces lines.readings macros.readings p.names.pieces)) (lines-offsets v lines.readings ts lines.reads lines.is)
+          (offsets-append v (macros_read macros.readings) (names_read v (readings_with p.found.readings p.offsets.pieces lines.readings macros.readings p.names.pieces)) (offsets-have v (readings_with p.found.readings p.offsets.pieces lines.readings macros.readings p.names.pieces) macros.readings (all-cells v) macros.reads
+          (macro-texts v (readings_with p.found.readings p.offsets.pieces lines.readings macros.readings p.names.pieces) starts_ n.places macros.readings start_is macros.each))
+          (names-offsets v (readings_with p.found.readings p.offsets.pieces lines.readings macros.readings p.names.pieces) p.names.reads
+          (all-names v (readings_with p.found.readings p.offsets.pieces lines.readings macros.readings p.names.pieces) p.names.pieces p.names.texts))))));
+      places = subst (λ (x : Fields). AllHavePlaces v (standing x)) (sym is) have;
+      rooms = subst (λ (x : Fields). AllRoomsFit m v (standing x)) (sym is) rooms;
+      is = is ∙ ap (λ (ws : List SectionFields). five_lists ws (slots_read v (readings_with p.found.readings p.offsets.pieces lines.readings macros.readings p.names.pieces)) (lines_of_view v ts) (macros_read macros.readings) (names_read v (readings_with p.found.readings p.offsets.pieces lines.readings macros.readings p.names.pieces)))
+          (sym p.found.says);
       tables = lines.is;
     }
 
 pub paths-found : (m : PathMap) (v : View) (list : List Contribution) (marks first slice : List ℕ) (tables : List NameTable) (ts : List LineTable) (ss : List SectionUnits)
-    (us with_slots with_macros all : List SectionFields) → AreContributions v.order (string_offsets v) list → AreRead v tables → TablesFound v ts → first ≡ starts_of ts → slice ≡ first
-    → UnitsFoundIn v ss → UnitsNamed m v list slice ss marks us → SlotsFound m v list marks us with_slots → with_macros ≡ with_slots ++ macros_of ss
-    → all ≡ with_macros ++ lines_of_view v ts → LeftRelocationsRead (debug_data v) (moving_sections v) → PathsFound m v all ts
-paths-found m v list marks first slice tables ts ss us with_slots with_macros all are named lines starts_are same units_are n slots_found macros_is all_is rest =
+    (us slots_first slots_ lines_first lines_ macros_first macros_ names_first names_ : List SectionFields) (all : Fields) → AreContributions v.order (string_offsets v) list → AreRead v tables → TablesFound v ts
+    → first ≡ starts_of ts → slice ≡ first → UnitsFoundIn v ss → UnitsNamed m v list slice ss marks us → slots_first ≡ [] → SlotsFound m v list marks slots_first slots_ → lines_first ≡ []
+    → lines_ ≡ lines_first ++ lines_of_view v ts → macros_first ≡ [] → macros_ ≡ macros_first ++ macros_of v ss → names_first ≡ [] → names_ ≡ names_first ++ names_of_view v (fields_of_names tables)
+    → LeftRelocationsRead (debug_data v) (moving_sections v) → all ≡ five_lists us slots_ lines_ macros_ names_ → PathsFound m v all ts
+paths-found m v list marks first slice tables ts ss us slots_first slots_ lines_first lines_ macros_first macros_ names_first names_ all are named lines starts_are same units_are n s slots_found l lines_are o
+    macros_are q names_are rest all_is =
     let r : PathsRead m v all ts =
-    paths-read m v list marks slice tables ts ss us with_slots with_macros all are named lines (same ∙ starts_are) units_are n slots_found macros_is all_is in
+    paths-read m v list marks slice tables ts ss us slots_ all are named lines (same ∙ starts_are) units_are n
+    (subst (λ (none : List SectionFields). SlotsFound m v list marks none slots_) s slots_found)
+    (all_is ∙ ap (λ (ws : List SectionFields). five_lists us slots_ ws macros_ names_) (lines_are ∙ ap (λ (none : List SectionFields). none ++ lines_of_view v ts) l)
+    ∙ ap (λ (ws : List SectionFields). five_lists us slots_ (lines_of_view v ts) ws names_) (macros_are ∙ ap (λ (none : List SectionFields). none ++ macros_of v ss) o)
+    ∙ ap (five_lists us slots_ (lines_of_view v ts) (macros_of v ss)) (names_are ∙ ap (λ (none : List SectionFields). none ++ names_of_view v (fields_of_names tables)) q)) in
     record {
       readings = r.readings;
       reads = r.reads;

@@ -1,8 +1,6 @@
 -- What the unit sections of a view say of paths, and the fields of its line tables.
-use Rattle.std.proofs.Common.{true, false, ◌≡◌, ◌≢◌, ℕ, suc, ◌-◌, ◌<◌, ◌≤◌, Bool, List, [], ◌∷◌, ◌++◌, length, take, drop, if◌then◌else◌, Option, Some, None, refl, sym, ap, ◌∙◌, subst, arith}
-use Rattle.std.proofs.Math.Seq.{take-append_seam}
+use Rattle.std.proofs.Common.{true, false, ◌≡◌, ◌≢◌, ℕ, suc, ◌<◌, ◌≤◌, Bool, List, [], ◌∷◌, ◌++◌, length, drop, if◌then◌else◌, Option, Some, None, refl, sym, ap, ◌∙◌, subst, arith}
 use Rattle.std.proofs.lemmas.Bool.{and_parts}
-use Rattle.std.proofs.lemmas.List.{length-append}
 use Rattle.dw_base.specs.Cells.{Cell, Located}
 use Rattle.dw_base.specs.DebugData.{DebugData, line_source}
 use Rattle.dw_base.specs.DebugSections.{name_of}
@@ -22,12 +20,11 @@ use Rattle.dw_base.proofs.FileViewLaws.{section_after-within}
 use Rattle.dw_base.proofs.TextLaws.{ends_in-inside, same_text-true}
 use Rattle.dw_lines.specs.ViewTables.{tables_read}
 use Rattle.dw_lines.proofs.ReadingLaws.{source-is}
-use Rattle.dw_find.specs.FoundPaths.{UnitsFound, UnitPathsRefuse, texts, without_lines}
+use Rattle.dw_find.specs.FoundPaths.{UnitsFound, UnitPathsRefuse, texts}
 use Rattle.dw_find.specs.FoundPaths.UnitPathsRefuse.{inline}
 use Rattle.dw_find.specs.Fields.{AreOffsetFields}
 use Rattle.dw_find.specs.IndexedTexts.{TextsRefuse}
 use Rattle.dw_find.specs.ViewFields.{AllHaveOffsets}
-use Rattle.dw_find.specs.SlotPaths.{count_of, lines_count}
 use Rattle.dw_find.specs.TextPlaces.{AllPlaced, AllFitRooms}
 use Rattle.dw_find.specs.NamedStarts.{AllStarts}
 use Rattle.dw_find.specs.SectionFields.{SectionFields}
@@ -42,7 +39,7 @@ use Rattle.dw_base.specs.declared.texts.TextSection.{TextSection}
 use Rattle.dw_base.specs.declared.texts.TextSection.TheVariants.{InStr, InLineStr}
 
 -- of two names that one section has, both are its name
-first-above : (name : List ℕ) (k i : ℕ) (ss : List ViewSection) → first_filled name k ss ≡ Some i → k ≤ i
+pub first-above : (name : List ℕ) (k i : ℕ) (ss : List ViewSection) → first_filled name k ss ≡ Some i → k ≤ i
 first-above name k i [] e = absurd cc
 first-above name k i (s ∷ ss) e = by (is_filled name s) e (λ f. first-above name (suc k) i ss f)
   where
@@ -50,7 +47,7 @@ first-above name k i (s ∷ ss) e = by (is_filled name s) e (λ f. first-above n
     by true e rest = let same : k ≡ i = cc in omega (arith, same)
     by false e rest = let more : suc k ≤ i = rest e in omega (arith, more)
 
-some-name : (name : List ℕ) (s : ViewSection) → is_filled name s ≡ true → s.name ≡ name
+pub some-name : (name : List ℕ) (s : ViewSection) → is_filled name s ≡ true → s.name ≡ name
 some-name name s e = same_text-true s.name name (and_parts s.has_bytes (same_text s.name name) e).1
 
 both-first : (a b : List ℕ) (k i : ℕ) (ss : List ViewSection) → first_filled a k ss ≡ Some i → first_filled b k ss ≡ Some i → a ≡ b
@@ -112,21 +109,6 @@ pub lines-offsets : (v : View) (rs : List LineReading) (ts : List LineTable) →
     → AllHaveOffsets v (lines_of_view v ts)
 lines-offsets v rs ts are is =
     subst (λ (us : List LineTable). AllHaveOffsets v (lines_of_view v us)) (sym is) (lines-offsets-by v rs (section_named v (name_of Line)) refl are)
-
--- all sections are those of units, behind them that of string offsets, and behind that the line tables
-pub front-is : {X : Type 0} (xs ys : List X) (n : ℕ) → length ys ≡ n → take (length (xs ++ ys) - n) (xs ++ ys) ≡ xs
-front-is xs ys n e =
-    let size : length (xs ++ ys) - n ≡ length xs = omega (arith, e, length-append xs ys) in
-    ap (λ (k : ℕ). take k (xs ++ ys)) size ∙ take-append_seam xs ys
-
-pub lines-number : (o : Option ℕ) (g : LineSource) (ts : List LineTable) → length (lines_by o g ts) ≡ count_of o
-lines-number None g ts = refl
-lines-number (Some i) g ts = refl
-
--- without the last they are the first two
-pub without-is : (v : View) (us xs : List SectionFields) (ts : List LineTable) → us ≡ xs ++ lines_of_view v ts → without_lines v us ≡ xs
-without-is v us xs ts is =
-    ap (without_lines v) is ∙ front-is xs (lines_of_view v ts) (lines_count v) (lines-number (section_named v (name_of Line)) (line_source (debug_data v)) ts)
 
 -- the offsets in the headers of units that were taken can be read
 head-same : (x y : UnitSection) (xs ys : List UnitSection) → x ∷ xs ≡ y ∷ ys → x ≡ y

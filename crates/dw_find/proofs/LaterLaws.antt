@@ -1,6 +1,6 @@
--- Values of which nothing is noted, though they aren't read.
-use Rattle.std.proofs.Common.{Bool, false, ◌≡◌, ◌≢◌, ℕ, ◌+◌, ◌≤◌, ◌==◌, List, [], ◌∷◌, ◌++◌, length, IsTrue, Option, Some, None, refl, sym, ap, ◌∙◌, subst, append-nil, ◌⊎◌, inl, inr}
-use Rattle.std.specs.Option.{IfSome}
+-- Values that aren't read, and what is noted of them.
+use Rattle.std.proofs.Common.{Bool, false, ◌≡◌, ◌≢◌, ℕ, ◌+◌, ◌≤◌, ◌==◌, List, [], ◌∷◌, ◌++◌, length, IsTrue, Option, Some, None, refl, sym, ap, ◌∙◌, subst, ◌⊎◌, inl, inr}
+use Rattle.std.specs.Option.{IfNone, IfSome}
 use Rattle.std.proofs.lemmas.Bool.{le-leb}
 use Rattle.dw_base.specs.Cells.{Located}
 use Rattle.dw_base.specs.Forms.{width_size}
@@ -10,6 +10,7 @@ use Rattle.dw_base.specs.TableStarts.{is_start_form, own_form}
 use Rattle.dw_base.specs.TextIndexes.{is_base}
 use Rattle.dw_base.specs.Texts.{ends_in}
 use Rattle.dw_base.specs.Values.{value_at}
+use Rattle.dw_base.specs.declared.debug_sections.DebugSection.TheVariants.{Str}
 use Rattle.dw_base.specs.declared.dwarf_numbers.TheConstants.{DW_AT_stmt_list, DW_FORM_strp}
 use Rattle.dw_base.specs.declared.fault.Refusal.{Refusal}
 use Rattle.dw_base.specs.declared.shared.Params.{Params}
@@ -19,50 +20,35 @@ use Rattle.dw_base.specs.declared.texts.TextSection.TheVariants.{InStr}
 use Rattle.dw_base.specs.declared.values.Spec.{Spec}
 use Rattle.dw_base.specs.declared.values.ValueClass.TheVariants.{StrOffset}
 use Rattle.dw_entries.specs.Passes.{HasSize}
-use Rattle.dw_find.specs.EntryTexts.{FoundTexts, OffsetRefuses, OneRefuses, Tables, ValueTaken, no_text, offset as offset_refuses, offset_in, relocation, some, with_base, with_paths, with_places}
+use Rattle.dw_find.specs.EntryTexts.{FoundTexts, OffsetRefuses, OneRefuses, Tables, ValueTaken, no_text, noted, offset as offset_refuses, offset_in, relocation, some, with_places}
 use Rattle.dw_find.specs.LaterValues.{IsLater, IsNamed, str_field}
 use Rattle.dw_abbrev.specs.QuietSpecs.{is_text_form}
-use Rattle.dw_find.specs.TextPlaces.{TextPlace, class_places, line_places, no_index, said_places, value_places}
-use Rattle.dw_find.specs.SectionFields.{SectionFields}
-use Rattle.dw_find.specs.declared.fields.TextBase.{TextBase}
-use Rattle.dw_find.specs.declared.fields.TextIndex.{TextIndex}
-use Rattle.dw_find.proofs.EntryTextLaws.{with_paths-same, with_places-none}
+use Rattle.dw_find.specs.TextPlaces.{class_places, line_places, no_index, said_places, value_places}
+use Rattle.dw_find.proofs.EntryTextLaws.{str-noted, with_places-none}
+use Rattle.dw_offsets.specs.declared.fields.OffsetField.{OffsetField}
 use Rattle.dw_find.proofs.QuietLaws.{Quiet, class-names, or-parts, path-none, places-none, value-quiet}
 use Rattle.dw_find.proofs.StrValueLaws.{str-read, str-value}
-
--- the place of an offset that is no path's: nothing is noted of it
-abbrev plain_place : ℕ → ℕ → TextPlace
-plain_place at len = record { role = offset InStr false; at = at; len = len; says = no_index }
-
-base-plain : (b : Option TextBase) (at len : ℕ) → with_base b (plain_place at len ∷ []) ≡ b
-base-plain None at len = refl
-base-plain (Some n) at len = refl
-
-paths-plain : (u : SectionFields) (at len : ℕ) → with_paths u (plain_place at len ∷ []) ≡ u
-paths-plain u at len =
-    with_paths-same u (plain_place at len ∷ []) (record { str = refl; line_str = refl; starts = refl; macros = refl; inline = refl; stray = refl })
-
-places-plain : (f : FoundTexts) (at len : ℕ) → with_places f (plain_place at len ∷ []) ≡ f
-unfolding with_places
-places-plain f at len =
-    ap (λ (u : SectionFields). record { paths = u; base = with_base f.base (plain_place at len ∷ []); indexes = f.indexes ++ [] }) (paths-plain f.paths at len)
-    ∙ ap (λ (b : Option TextBase). record { paths = f.paths; base = b; indexes = f.indexes ++ [] }) (base-plain f.base at len)
-    ∙ ap (λ (xs : List TextIndex). record { paths = f.paths; base = f.base; indexes = xs }) (append-nil f.indexes)
 
 -- an attribute of a name that says no start
 no-line : (name : ℕ) → is_start_name name ≡ false → (name == DW_AT_stmt_list) ≡ false
 no-line name e = (or-parts (name == DW_AT_stmt_list) (is_macros name) e).0
 
-str-nothing : (number tag : ℕ) (x : Spec) (bytes : List ℕ) (place size n : ℕ) (f : FoundTexts) → number ≢ 0 → is_start_name x.name ≡ false
-    → f ≡ with_places f (value_places number tag x bytes place (str_field place size n))
-str-nothing number tag x bytes place size n f other start =
-    sym (ap (λ (b : Bool). with_places f (line_places b (own_form x bytes place) (str_field place size n)
+-- the place of an offset into `.debug_str`, in an entry that isn't its unit's first: it is no path's
+str-places : (number tag : ℕ) (x : Spec) (bytes : List ℕ) (place size n : ℕ) → number ≢ 0 → is_start_name x.name ≡ false
+    → value_places number tag x bytes place (str_field place size n) ≡ class_places StrOffset false false false place (str_field place size n)
+str-places number tag x bytes place size n other start =
+    ap (λ (b : Bool). line_places b (own_form x bytes place) (str_field place size n)
     ++ (class_places StrOffset (is_path number tag x.name) (is_base number x.name) (is_start_form (own_form x bytes place)) place (str_field place size n)
-    ++ said_places (is_start_name x.name) (is_macros x.name) (own_form x bytes place) place (str_field place size n)))) (no-line x.name start)
-    ∙ ap (λ (b : Bool). with_places f (class_places StrOffset (is_path number tag x.name) (is_base number x.name) (is_start_form (own_form x bytes place)) place (str_field place size n)
-    ++ said_places b (is_macros x.name) (own_form x bytes place) place (str_field place size n))) start
-    ∙ ap (λ (b : Bool). with_places f (record { role = offset InStr b; at = place; len = size; says = no_index } ∷ [])) (path-none number tag x.name other)
-    ∙ places-plain f place size)
+    ++ said_places (is_start_name x.name) (is_macros x.name) (own_form x bytes place) place (str_field place size n))) (no-line x.name start)
+    ∙ ap (λ (b : Bool). class_places StrOffset (is_path number tag x.name) (is_base number x.name) (is_start_form (own_form x bytes place)) place (str_field place size n)
+    ++ said_places b (is_macros x.name) (own_form x bytes place) place (str_field place size n)) start
+    ∙ ap (λ (b : Bool). record { role = offset InStr b; at = place; len = size; says = no_index } ∷ []) (path-none number tag x.name other)
+
+-- it is noted
+str-later : (number tag : ℕ) (x : Spec) (bytes : List ℕ) (place size n : ℕ) (old new : FoundTexts) → number ≢ 0 → is_start_name x.name ≡ false
+    → new ≡ noted old Str (record { at = place; size = size; path = false }) → new ≡ with_places old (value_places number tag x bytes place (str_field place size n))
+str-later number tag x bytes place size n old new other start is =
+    str-noted old new StrOffset false false false place (str_field place size n) refl is ∙ ap (with_places old) (sym (str-places number tag x bytes place size n other start))
 
 -- a number of so many bytes stands there
 number-there : (params : Params) (bytes : List ℕ) (place size : ℕ) → place + size ≤ length bytes
@@ -77,22 +63,24 @@ str-there params x bytes place size form is le =
     (str-read params bytes place size (spelled params.order bytes place size) is (number-there params bytes place size le))
 
 -- it names what the field of any number names
-named-later : (t : Tables) (params : Params) (x : Spec) (bytes : List ℕ) (place size : ℕ) (start : Bool) → x.form ≡ DW_FORM_strp → start ≡ is_start_name x.name → start ≡ false
-    → IsNamed t params bytes place size → IsLater t params bytes x place size
-named-later t params x bytes place size start form is none n = record {
+named-later : (t : Tables) (params : Params) (x : Spec) (bytes : List ℕ) (place size : ℕ) (start : Bool) (old new : FoundTexts) → x.form ≡ DW_FORM_strp
+    → start ≡ is_start_name x.name → start ≡ false → IsNamed t params bytes place size old new → IsLater t params bytes x place size old new
+named-later t params x bytes place size start old new form is none n = record {
   value = str_field place size (spelled params.order bytes place size);
   is = str-there params x bytes place size form n.size_is n.inside;
   size_is = refl;
   taken = record { names = n.names };
-  nothing = λ number tag f other. str-nothing number tag x bytes place size (spelled params.order bytes place size) f other (sym is ∙ none);
+  found = λ number tag other. str-later number tag x bytes place size (spelled params.order bytes place size) old new other (sym is ∙ none) n.found;
 }
 
-pub is-named : (t : Tables) (z : Located) (params : Params) (bytes : List ℕ) (place size : ℕ) → z ≡ t.str → size ≡ width_size params.width
-    → place + size ≤ length bytes → IsTrue (ends_in z.bytes (offset_in t z (str_field place size 0))) → IsNamed t params bytes place size
-is-named t z params bytes place size own size_is le names = record {
+pub is-named : (t : Tables) (z : Located) (params : Params) (bytes : List ℕ) (place size : ℕ) (f : OffsetField) (old new : FoundTexts) → z ≡ t.str
+    → size ≡ width_size params.width → f ≡ record { at = place; size = size; path = false } → new ≡ noted old Str f → place + size ≤ length bytes
+    → IsTrue (ends_in z.bytes (offset_in t z (str_field place size 0))) → IsNamed t params bytes place size old new
+is-named t z params bytes place size f old new own size_is field found le names = record {
   size_is = size_is;
   inside = le;
   names = subst (λ (y : Located). IsTrue (ends_in y.bytes (offset_in t y (str_field place size 0)))) own names;
+  found = found ∙ ap (noted old Str) field;
 }
 
 -- what refuses the field of a number refuses that of another
@@ -116,9 +104,9 @@ offset-sized W64 n e = inr e
 pub ruleset named_rules = (is-named, named-refused, offset-sized)
 
 -- a value that says nothing by its form and its name
-plain-later : (t : Tables) (params : Params) (x : Spec) (bytes : List ℕ) (place size : ℕ) (start text : Bool) → start ≡ is_start_name x.name → start ≡ false
-    → text ≡ is_text_form x.form → text ≡ false → HasSize params x bytes place size → IsLater t params bytes x place size
-plain-later t params x bytes place size start text start_is no_start text_is no_text_ h =
+plain-later : (t : Tables) (params : Params) (x : Spec) (bytes : List ℕ) (place size : ℕ) (start text : Bool) (f : FoundTexts) → start ≡ is_start_name x.name
+    → start ≡ false → text ≡ is_text_form x.form → text ≡ false → HasSize params x bytes place size → IsLater t params bytes x place size f f
+plain-later t params x bytes place size start text f start_is no_start text_is no_text_ h =
     let plain : is_text_form x.form ≡ false = sym text_is ∙ no_text_ in
     let other : is_start_name x.name ≡ false = sym start_is ∙ no_start in
     let quiet : Quiet x = record { form = plain; line = no-line x.name other; start = other } in
@@ -127,28 +115,38 @@ plain-later t params x bytes place size start text start_is no_start text_is no_
       is = h.is;
       size_is = sym h.size_is;
       taken = record { names = class-names t h.value.class h.value (value-quiet params x bytes place h.value plain h.is) };
-      nothing = λ number tag f numbered.
+      found = λ number tag numbered.
           sym (ap (with_places f) (places-none number tag x bytes place h.value numbered quiet (value-quiet params x bytes place h.value plain h.is)) ∙ with_places-none f);
     }
 
 -- where one was found
-pub named-found : (t : Tables) (params : Params) (x : Spec) (bytes : List ℕ) (place : ℕ) (o : Option ℕ) (start : Bool) → x.form ≡ DW_FORM_strp → start ≡ is_start_name x.name → start ≡ false
-    → IfSome o (IsNamed t params bytes place) → IfSome o (IsLater t params bytes x place)
-named-found t params x bytes place None start form is none h = tt
-named-found t params x bytes place (Some n) start form is none h = named-later t params x bytes place n start form is none h
+pub named-found : (t : Tables) (params : Params) (x : Spec) (bytes : List ℕ) (place : ℕ) (o : Option ℕ) (start : Bool) (old new : FoundTexts) → x.form ≡ DW_FORM_strp
+    → start ≡ is_start_name x.name → start ≡ false → IfSome o (λ n. IsNamed t params bytes place n old new) → IfSome o (λ n. IsLater t params bytes x place n old new)
+named-found t params x bytes place None start old new form is none h = tt
+named-found t params x bytes place (Some n) start old new form is none h = named-later t params x bytes place n start old new form is none h
 
-pub plain-found : (t : Tables) (params : Params) (x : Spec) (bytes : List ℕ) (place : ℕ) (o : Option ℕ) (start text : Bool) → start ≡ is_start_name x.name → start ≡ false
-    → text ≡ is_text_form x.form → text ≡ false → IfSome o (HasSize params x bytes place) → IfSome o (IsLater t params bytes x place)
-plain-found t params x bytes place None start text start_is no_start text_is no_text_ h = tt
-plain-found t params x bytes place (Some n) start text start_is no_start text_is no_text_ h =
-    plain-later t params x bytes place n start text start_is no_start text_is no_text_ h
+pub plain-found : (t : Tables) (params : Params) (x : Spec) (bytes : List ℕ) (place : ℕ) (o : Option ℕ) (start text : Bool) (f : FoundTexts) → start ≡ is_start_name x.name
+    → start ≡ false → text ≡ is_text_form x.form → text ≡ false → IfSome o (HasSize params x bytes place) → IfSome o (λ n. IsLater t params bytes x place n f f)
+plain-found t params x bytes place None start text f start_is no_start text_is no_text_ h = tt
+plain-found t params x bytes place (Some n) start text f start_is no_start text_is no_text_ h =
+    plain-later t params x bytes place n start text f start_is no_start text_is no_text_ h
 
-pub ruleset later_rules = (named-found, plain-found)
+pub found-still : (f : FoundTexts) (o : Option ℕ) → IfNone o (f ≡ f)
+found-still f None = refl
+found-still f (Some n) = tt
+
+pub ruleset later_rules = (named-found, plain-found, found-still)
 
 -- such a value is taken
-pub later-taken : (t : Tables) (params : Params) (bytes : List ℕ) (number tag : ℕ) (x : Spec) (place size : ℕ) (f : FoundTexts) → number ≢ 0
-    → IsLater t params bytes x place size → ValueTaken t params bytes number tag x place size f f
-later-taken t params bytes number tag x place size f other l =
-    record { value = l.value; is = l.is; size_is = l.size_is; taken = l.taken; found = l.nothing number tag f other }
+pub later-taken : (t : Tables) (params : Params) (bytes : List ℕ) (number tag : ℕ) (x : Spec) (place size : ℕ) (old new : FoundTexts) → number ≢ 0
+    → IsLater t params bytes x place size old new → ValueTaken t params bytes number tag x place size old new
+later-taken t params bytes number tag x place size old new other l =
+    record { value = l.value; is = l.is; size_is = l.size_is; taken = l.taken; found = l.found number tag other }
 
-pub ruleset taken_rules = (later-taken)
+-- and so is one that is read, where nothing was noted before
+pub read-taken : (t : Tables) (params : Params) (bytes : List ℕ) (number tag : ℕ) (x : Spec) (place size : ℕ) (old mid new : FoundTexts) → mid ≡ old
+    → ValueTaken t params bytes number tag x place size mid new → ValueTaken t params bytes number tag x place size old new
+read-taken t params bytes number tag x place size old mid new same v =
+    subst (λ (f : FoundTexts). ValueTaken t params bytes number tag x place size f new) same v
+
+pub ruleset taken_rules = (later-taken, read-taken)

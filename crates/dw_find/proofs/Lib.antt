@@ -36,6 +36,7 @@ pub mod MacroFoundLaws
 pub mod MacroHaveLaws
 pub mod MacroStartLaws
 pub mod MacroAskedLaws
+pub mod MacroTextLaws
 pub mod MacroStrayLaws
 pub mod MacroListLaws
 pub mod MacroNameLaws
@@ -52,6 +53,7 @@ pub mod SlotPathLaws
 pub mod OffsetPlaceLaws
 pub mod FoundUnitLaws
 pub mod MacroPathLaws
+pub mod NameHaveLaws
 pub mod FoundPathLaws
 pub mod SharedLaws
 pub mod ReadDataLaws

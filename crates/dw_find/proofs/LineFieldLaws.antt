@@ -1,4 +1,4 @@
--- The fields of the paths of line tables, as the code has them.
+-- The fields of the texts of line tables, as the code has them.
 use Rattle.std.proofs.Common.{Bool, true, false, ◌≡◌, ℕ, suc, ◌+◌, ◌<◌, ◌≤◌, List, [], ◌∷◌, ◌++◌, length, get_or, drop, if◌then◌else◌, Option, Some, None, refl, sym, ap, ◌∙◌, arith, append_assoc, append-nil}
 use Rattle.std.proofs.Math.Seq.{drop-cons}
 use Rattle.std.proofs.lemmas.List.{drop_all}
@@ -7,12 +7,10 @@ use Rattle.dw_base.specs.DebugSections.{name_of, read_sections}
 use Rattle.dw_base.specs.FileViews.{View, section_named}
 use Rattle.dw_base.specs.Forms.{width_size}
 use Rattle.dw_base.specs.LineSources.{LineSource}
-use Rattle.dw_base.specs.LineTables.{LineTable, texts_of}
+use Rattle.dw_base.specs.LineTables.{LineTable}
 use Rattle.dw_base.specs.ViewData.{debug_data}
-use Rattle.dw_base.specs.WrittenLines.{paths_of}
 use Rattle.dw_base.specs.declared.debug_sections.DebugSection.TheVariants.{Str, LineStr, Line}
-use Rattle.dw_base.specs.declared.line_tables.FilePlace.{FilePlace}
-use Rattle.dw_base.specs.declared.line_tables.TextPlace.{TextPlace}
+use Rattle.dw_base.specs.declared.line_tables.LineText.{LineText}
 use Rattle.dw_base.specs.declared.shared.Width.{Width}
 use Rattle.dw_lines.specs.ViewSources.{view_source}
 use Rattle.dw_lines.proofs.ReadingLaws.{source-is}
@@ -22,96 +20,64 @@ use Rattle.dw_find.specs.ViewLines.{is_text_of, lines_by, lines_of_view, lines_w
 use Rattle.dw_find.specs.EntryTexts.{no_paths}
 use Rattle.dw_find.proofs.FieldListLaws.{lists-same, each-section, paths-same}
 use Rattle.dw_base.specs.declared.debug_sections.DebugSection.{DebugSection}
-use Rattle.dw_base.specs.declared.texts.TextField.{TextField}
+use Rattle.dw_offsets.specs.declared.fields.OffsetField.{OffsetField}
 use Rattle.dw_base.specs.declared.texts.TextSection.{TextSection}
 use Rattle.dw_base.specs.declared.texts.TextSection.TheVariants.{InStr, InLineStr}
 
 -- one field
-pub field-some : (section str : ℕ) (table : TextSection) (w : Width) (x : TextPlace) (size : ℕ) (old new : List TextField) → true ≡ is_text_of section str table x → size ≡ width_size w
-    → new ≡ old ++ record { at = x.field; size = size } ∷ [] → new ≡ old ++ text_field section str table w x
+pub field-some : (section str : ℕ) (table : TextSection) (w : Width) (x : LineText) (size : ℕ) (old new : List OffsetField) → true ≡ is_text_of section str table x.place → size ≡ width_size w
+    → new ≡ old ++ record { at = x.place.field; size = size; path = x.path } ∷ [] → new ≡ old ++ text_field section str table w x
 field-some section str table w x size old new here is more =
-    more ∙ ap (λ (n : ℕ). old ++ record { at = x.field; size = n } ∷ []) is
-    ∙ ap (λ (b : Bool). old ++ (if b then record { at = x.field; size = width_size w } ∷ [] else [])) here
+    more ∙ ap (λ (n : ℕ). old ++ record { at = x.place.field; size = n; path = x.path } ∷ []) is
+    ∙ ap (λ (b : Bool). old ++ (if b then record { at = x.place.field; size = width_size w; path = x.path } ∷ [] else [])) here
 
-pub field-none : (section str : ℕ) (table : TextSection) (w : Width) (x : TextPlace) (old new : List TextField) → false ≡ is_text_of section str table x → new ≡ old
+pub field-none : (section str : ℕ) (table : TextSection) (w : Width) (x : LineText) (old new : List OffsetField) → false ≡ is_text_of section str table x.place → new ≡ old
     → new ≡ old ++ text_field section str table w x
 field-none section str table w x old new here same =
-    same ∙ sym (append-nil old) ∙ ap (λ (b : Bool). old ++ (if b then record { at = x.field; size = width_size w } ∷ [] else [])) here
+    same ∙ sym (append-nil old) ∙ ap (λ (b : Bool). old ++ (if b then record { at = x.place.field; size = width_size w; path = x.path } ∷ [] else [])) here
 
 pub ruleset field_rules = (field-some, field-none)
 
 -- one text after another: what the fields so far and those of the rest are
-pub dirs-more : (section str : ℕ) (table : TextSection) (w : Width) (xs : List TextPlace) (i : ℕ) (x : TextPlace) (first old new : List TextField) → i < length xs → x ≡ get_or xs i x
+pub texts-more : (section str : ℕ) (table : TextSection) (w : Width) (xs : List LineText) (i : ℕ) (x : LineText) (first old new : List OffsetField) → i < length xs → x ≡ get_or xs i x
     → old ++ text_fields section str table w (drop i xs) ≡ first ++ text_fields section str table w xs → new ≡ old ++ text_field section str table w x
     → new ++ text_fields section str table w (drop (i + 1) xs) ≡ first ++ text_fields section str table w xs
-dirs-more section str table w xs i x first old new lt is before more =
+texts-more section str table w xs i x first old new lt is before more =
     let next : suc i ≡ i + 1 = omega arith in
-    ap (λ (fs : List TextField). fs ++ text_fields section str table w (drop (i + 1) xs)) more
+    ap (λ (fs : List OffsetField). fs ++ text_fields section str table w (drop (i + 1) xs)) more
     ∙ append_assoc old (text_field section str table w x) (text_fields section str table w (drop (i + 1) xs))
     ∙ ap (λ (n : ℕ). old ++ (text_field section str table w x ++ text_fields section str table w (drop n xs))) (sym next)
-    ∙ ap (λ (y : TextPlace). old ++ (text_field section str table w y ++ text_fields section str table w (drop (suc i) xs))) is
-    ∙ ap (λ (ys : List TextPlace). old ++ text_fields section str table w ys) (sym (drop-cons xs i x lt)) ∙ before
+    ∙ ap (λ (y : LineText). old ++ (text_field section str table w y ++ text_fields section str table w (drop (suc i) xs))) is
+    ∙ ap (λ (ys : List LineText). old ++ text_fields section str table w ys) (sym (drop-cons xs i x lt)) ∙ before
 
-pub dirs-all : (section str : ℕ) (table : TextSection) (w : Width) (xs : List TextPlace) (i : ℕ) (first new : List TextField) → length xs ≤ i
+pub texts-all : (section str : ℕ) (table : TextSection) (w : Width) (xs : List LineText) (i : ℕ) (first new : List OffsetField) → length xs ≤ i
     → new ++ text_fields section str table w (drop i xs) ≡ first ++ text_fields section str table w xs → new ≡ first ++ text_fields section str table w xs
-dirs-all section str table w xs i first new end is =
-    sym (append-nil new) ∙ ap (λ (ys : List TextPlace). new ++ text_fields section str table w ys) (sym (drop_all i xs end)) ∙ is
+texts-all section str table w xs i first new end is =
+    sym (append-nil new) ∙ ap (λ (ys : List LineText). new ++ text_fields section str table w ys) (sym (drop_all i xs end)) ∙ is
 
-pub ruleset dirs_rules = (dirs-all)
+pub ruleset texts_rules = (texts-all)
 
-pub files-more : (section str : ℕ) (table : TextSection) (w : Width) (xs : List FilePlace) (i : ℕ) (x : FilePlace) (first old new : List TextField) → i < length xs → x ≡ get_or xs i x
-    → old ++ text_fields section str table w (texts_of (drop i xs)) ≡ first ++ text_fields section str table w (texts_of xs) → new ≡ old ++ text_field section str table w x.text
-    → new ++ text_fields section str table w (texts_of (drop (i + 1) xs)) ≡ first ++ text_fields section str table w (texts_of xs)
-files-more section str table w xs i x first old new lt is before more =
-    let next : suc i ≡ i + 1 = omega arith in
-    ap (λ (fs : List TextField). fs ++ text_fields section str table w (texts_of (drop (i + 1) xs))) more
-    ∙ append_assoc old (text_field section str table w x.text) (text_fields section str table w (texts_of (drop (i + 1) xs)))
-    ∙ ap (λ (n : ℕ). old ++ (text_field section str table w x.text ++ text_fields section str table w (texts_of (drop n xs)))) (sym next)
-    ∙ ap (λ (y : FilePlace). old ++ (text_field section str table w y.text ++ text_fields section str table w (texts_of (drop (suc i) xs)))) is
-    ∙ ap (λ (ys : List FilePlace). old ++ text_fields section str table w (texts_of ys)) (sym (drop-cons xs i x lt)) ∙ before
+-- of a table
+pub table-fields : (section str : ℕ) (table : TextSection) (t : LineTable) (w : Width) (xs : List LineText) (first new : List OffsetField) → w ≡ t.width → xs ≡ t.texts
+    → new ≡ first ++ text_fields section str table w xs → new ≡ first ++ text_fields section str table t.width t.texts
+table-fields section str table t w xs first new width texts more =
+    more ∙ ap (λ (v : Width). first ++ text_fields section str table v xs) width ∙ ap (λ (ys : List LineText). first ++ text_fields section str table t.width ys) texts
 
-pub files-all : (section str : ℕ) (table : TextSection) (w : Width) (xs : List FilePlace) (i : ℕ) (first new : List TextField) → length xs ≤ i
-    → new ++ text_fields section str table w (texts_of (drop i xs)) ≡ first ++ text_fields section str table w (texts_of xs)
-    → new ≡ first ++ text_fields section str table w (texts_of xs)
-files-all section str table w xs i first new end is =
-    sym (append-nil new) ∙ ap (λ (ys : List FilePlace). new ++ text_fields section str table w (texts_of ys)) (sym (drop_all i xs end)) ∙ is
-
-pub ruleset files_rules = (files-all)
-
--- of a table its directories, then its files
-pub fields-append : (section str : ℕ) (table : TextSection) (w : Width) (xs ys : List TextPlace)
-    → text_fields section str table w (xs ++ ys) ≡ text_fields section str table w xs ++ text_fields section str table w ys
-fields-append section str table w [] ys = refl
-fields-append section str table w (x ∷ xs) ys =
-    ap (λ (fs : List TextField). text_field section str table w x ++ fs) (fields-append section str table w xs ys)
-    ∙ sym (append_assoc (text_field section str table w x) (text_fields section str table w xs) (text_fields section str table w ys))
-
-pub both-lists : (section str : ℕ) (table : TextSection) (t : LineTable) (w : Width) (dirs : List TextPlace) (files : List FilePlace) (first old new : List TextField) → w ≡ t.width
-    → dirs ≡ t.dirs → files ≡ t.files → old ≡ first ++ text_fields section str table w dirs → new ≡ old ++ text_fields section str table w (texts_of files)
-    → new ≡ first ++ text_fields section str table t.width (paths_of t)
-both-lists section str table t w dirs files first old new width d f before more =
-    more ∙ ap (λ (fs : List TextField). fs ++ text_fields section str table w (texts_of files)) before
-    ∙ append_assoc first (text_fields section str table w dirs) (text_fields section str table w (texts_of files))
-    ∙ ap (λ (fs : List TextField). first ++ fs) (sym (fields-append section str table w dirs (texts_of files)))
-    ∙ ap (λ (v : Width). first ++ text_fields section str table v (dirs ++ texts_of files)) width
-    ∙ ap (λ (xs : List TextPlace). first ++ text_fields section str table t.width (xs ++ texts_of files)) d
-    ∙ ap (λ (xs : List FilePlace). first ++ text_fields section str table t.width (t.dirs ++ texts_of xs)) f
-
-pub ruleset table_rules = (both-lists)
+pub ruleset table_rules = (table-fields)
 
 -- one table after another
-pub tables-more : (section str : ℕ) (table : TextSection) (ts : List LineTable) (i : ℕ) (t : LineTable) (old new : List TextField) → i < length ts → t ≡ get_or ts i t
-    → old ++ table_fields section str table (drop i ts) ≡ table_fields section str table ts → new ≡ old ++ text_fields section str table t.width (paths_of t)
+pub tables-more : (section str : ℕ) (table : TextSection) (ts : List LineTable) (i : ℕ) (t : LineTable) (old new : List OffsetField) → i < length ts → t ≡ get_or ts i t
+    → old ++ table_fields section str table (drop i ts) ≡ table_fields section str table ts → new ≡ old ++ text_fields section str table t.width t.texts
     → new ++ table_fields section str table (drop (i + 1) ts) ≡ table_fields section str table ts
 tables-more section str table ts i t old new lt is before more =
     let next : suc i ≡ i + 1 = omega arith in
-    ap (λ (fs : List TextField). fs ++ table_fields section str table (drop (i + 1) ts)) more
-    ∙ append_assoc old (text_fields section str table t.width (paths_of t)) (table_fields section str table (drop (i + 1) ts))
-    ∙ ap (λ (n : ℕ). old ++ (text_fields section str table t.width (paths_of t) ++ table_fields section str table (drop n ts))) (sym next)
-    ∙ ap (λ (y : LineTable). old ++ (text_fields section str table y.width (paths_of y) ++ table_fields section str table (drop (suc i) ts))) is
+    ap (λ (fs : List OffsetField). fs ++ table_fields section str table (drop (i + 1) ts)) more
+    ∙ append_assoc old (text_fields section str table t.width t.texts) (table_fields section str table (drop (i + 1) ts))
+    ∙ ap (λ (n : ℕ). old ++ (text_fields section str table t.width t.texts ++ table_fields section str table (drop n ts))) (sym next)
+    ∙ ap (λ (y : LineTable). old ++ (text_fields section str table y.width y.texts ++ table_fields section str table (drop (suc i) ts))) is
     ∙ ap (λ (ys : List LineTable). old ++ table_fields section str table ys) (sym (drop-cons ts i t lt)) ∙ before
 
-pub tables-all : (section str : ℕ) (table : TextSection) (ts : List LineTable) (i : ℕ) (new : List TextField) → length ts ≤ i
+pub tables-all : (section str : ℕ) (table : TextSection) (ts : List LineTable) (i : ℕ) (new : List OffsetField) → length ts ≤ i
     → new ++ table_fields section str table (drop i ts) ≡ table_fields section str table ts → new ≡ table_fields section str table ts
 tables-all section str table ts i new end is =
     sym (append-nil new) ∙ ap (λ (ys : List LineTable). new ++ table_fields section str table ys) (sym (drop_all i ts end)) ∙ is
@@ -123,7 +89,7 @@ first-number : (v : View) → table_number (debug_data v) InStr ≡ (view_source
 unfolding debug_data
 first-number v = refl
 
-pub with-fields : (v : View) (section first : ℕ) (ts : List LineTable) (a b : List TextField) (none str both : SectionFields) → first ≡ table_number (debug_data v) InStr
+pub with-fields : (v : View) (section first : ℕ) (ts : List LineTable) (a b : List OffsetField) (none str both : SectionFields) → first ≡ table_number (debug_data v) InStr
     → a ≡ table_fields section first InStr ts → b ≡ table_fields section first InLineStr ts → none ≡ no_paths section → str ≡ with_fields none Str a
     → both ≡ with_fields str LineStr b → both ≡ lines_with (view_source v section) ts
 with-fields v section first ts a b none str both number x y n s l =
@@ -133,7 +99,7 @@ with-fields v section first ts a b none str both number x y n s l =
     (lists-same (own a b) (tables_into section (view_source v section).str.number ts) read_sections (each-section (own a b) (tables_into section (view_source v section).str.number ts) refl refl refl
     (x ∙ ap (λ (k : ℕ). table_fields section k InStr ts) same) (y ∙ ap (λ (k : ℕ). table_fields section k InLineStr ts) same) refl refl refl refl)) refl refl
   where
-    own : List TextField → List TextField → DebugSection → List TextField
+    own : List OffsetField → List OffsetField → DebugSection → List OffsetField
     own fs gs Str = fs
     own fs gs LineStr = gs
     own fs gs s = []

@@ -1,4 +1,4 @@
--- The fields of paths in line tables are fields, and texts of the second table lie in a section of their own.
+-- The fields of texts in line tables are fields, and texts of the second table lie in a section of their own.
 use Rattle.std.proofs.Common.{Bool, true, false, ◌≡◌, ◌≢◌, ◌⊎◌, inl, inr, ℕ, ◌+◌, ◌<◌, ◌≤◌, ◌==◌, ◌&&◌, not, List, [], ◌∷◌, length, if◌then◌else◌, Option, Some, None, refl, sym, ap, ◌∙◌, arith}
 use Rattle.std.specs.Prelude.{Result, Ok, Err}
 use Rattle.std.proofs.lemmas.Bool.{eq-eqb, ne_eqb, true≢false}
@@ -11,9 +11,9 @@ use Rattle.dw_base.specs.Numbers.{spelled}
 use Rattle.dw_base.specs.Refusals.{at}
 use Rattle.dw_base.specs.RelocationFields.{field_unless, partly_at, relocation_at}
 use Rattle.dw_base.specs.Texts.{ends_in, text_in}
-use Rattle.dw_base.specs.WrittenLines.{paths_of}
 use Rattle.dw_base.specs.declared.fault.Kind.TheVariants.{Relocation as RelocationKind, StringOffset}
 use Rattle.dw_base.specs.declared.fault.Refusal.{Refusal}
+use Rattle.dw_base.specs.declared.line_tables.LineText.{LineText}
 use Rattle.dw_base.specs.declared.line_tables.TextPlace.{TextPlace}
 use Rattle.dw_base.specs.declared.shared.Width.{Width}
 use Rattle.dw_base.specs.declared.shared.Width.TheVariants.{W32, W64}
@@ -29,7 +29,7 @@ use Rattle.dw_meaning.proofs.FieldPutLaws.{width-some}
 use Rattle.dw_meaning.proofs.LineColumnLaws.{texts_in}
 use Rattle.dw_find.specs.Fields.{AreOffsetFields, IsOffsetField}
 use Rattle.dw_find.specs.ViewLines.{is_text_of, table_fields, text_field, text_fields}
-use Rattle.dw_find.proofs.LinePlaceLaws.{EachReads, PathReads, stands_there, named_there, table-paths}
+use Rattle.dw_find.proofs.LinePlaceLaws.{EachReads, TextReads, stands_there, named_there, table-texts}
 use Rattle.dw_find.proofs.PlaceValueLaws.{EachOf, each-append, each-get}
 
 -- the offset of a text that a field names is the one that its cells hold
@@ -81,7 +81,7 @@ named-offset g z place size n own some inside e = by_field (line_field g place s
     by_field (Ok f) is = ap (offset_into z) (holds f is) ∙ by_text f (sym (named_text-by g z place size f is) ∙ e)
     by_field (Err r) is = absurd (err-text r (text_of z n place) (sym (named_text-refused g z place size r is) ∙ e))
 
--- the field of a path is one
+-- the field of a text is one
 each-if : {X : Type 0} (P : X → Type 0) (x : X) (b : Bool) → (b ≡ true → P x) → EachOf P (if b then x ∷ [] else [])
 each-if P x true f = (f refl, tt)
 each-if P x false f = tt
@@ -98,10 +98,10 @@ no-both : (a : Bool) → (not a && false) ≡ true → ⊥
 no-both true e = true≢false (sym e)
 no-both false e = true≢false (sym e)
 
-path-field : (g : LineSource) (table : TextSection) (w : Width) (x : TextPlace) → TextsApart g → bytes_of g.cells ≡ g.bytes → PathReads g w x
-    → EachOf (IsOffsetField g.order (texts_in g table) g.cells) (text_field g.number g.str.number table w x)
-path-field g table w x apart own (stands_there y is) =
-    each-if (IsOffsetField g.order (texts_in g table) g.cells) (record { at = x.field; size = width_size w }) (is_text_of g.number g.str.number table x) (λ e. absurd (by_table table e))
+place-field : (g : LineSource) (table : TextSection) (w : Width) (x : TextPlace) (path : Bool) → TextsApart g → bytes_of g.cells ≡ g.bytes → TextReads g w x
+    → EachOf (IsOffsetField g.order (texts_in g table) g.cells) (text_field g.number g.str.number table w (record { place = x; path = path }))
+place-field g table w x path apart own (stands_there y is) =
+    each-if (IsOffsetField g.order (texts_in g table) g.cells) (record { at = x.field; size = width_size w; path = path }) (is_text_of g.number g.str.number table x) (λ e. absurd (by_table table e))
   where
     here : (x.section == g.number) ≡ true
     here = eq-eqb x.section g.number is
@@ -109,8 +109,8 @@ path-field g table w x apart own (stands_there y is) =
     by_table : (t : TextSection) → is_text_of g.number g.str.number t x ≡ true → ⊥
     by_table InStr e = true≢false (sym e ∙ ap (λ (a : Bool). not a && x.section == g.str.number) here)
     by_table InLineStr e = true≢false (sym e ∙ ap (λ (a : Bool). not a && not (x.section == g.str.number)) here)
-path-field g table w x apart own (named_there z n field room reads ends) =
-    each-if (IsOffsetField g.order (texts_in g table) g.cells) (record { at = x.field; size = width_size w }) (is_text_of g.number g.str.number table x)
+place-field g table w x path apart own (named_there z n field room reads ends) =
+    each-if (IsOffsetField g.order (texts_in g table) g.cells) (record { at = x.field; size = width_size w; path = path }) (is_text_of g.number g.str.number table x)
     (λ e. record { sized = sized w; inside = inside; ends = by_table table z (named-offset g (texts_in g z) field (width_size w) n own (width-some w) room reads) ends e })
   where
     inside : field + width_size w ≤ length g.cells
@@ -130,20 +130,20 @@ path-field g table w x apart own (named_there z n field room reads ends) =
         let same : (g.str.number == g.str.number) ≡ true = eq-eqb g.str.number g.str.number refl in
         absurd (no-both (g.str.number == g.number) (ap (λ (b : Bool). not (g.str.number == g.number) && not b) (sym same) ∙ e))
 
-paths-fields : (g : LineSource) (table : TextSection) (w : Width) (xs : List TextPlace) → TextsApart g → bytes_of g.cells ≡ g.bytes → EachReads g w xs
+texts-fields : (g : LineSource) (table : TextSection) (w : Width) (xs : List LineText) → TextsApart g → bytes_of g.cells ≡ g.bytes → EachReads g w xs
     → EachOf (IsOffsetField g.order (texts_in g table) g.cells) (text_fields g.number g.str.number table w xs)
-paths-fields g table w [] apart own reads = tt
-paths-fields g table w (x ∷ xs) apart own reads =
+texts-fields g table w [] apart own reads = tt
+texts-fields g table w (x ∷ xs) apart own reads =
     each-append (IsOffsetField g.order (texts_in g table) g.cells) (text_field g.number g.str.number table w x) (text_fields g.number g.str.number table w xs)
-    (path-field g table w x apart own reads.0) (paths-fields g table w xs apart own reads.1)
+    (place-field g table w x.place x.path apart own reads.0) (texts-fields g table w xs apart own reads.1)
 
 lines-each : (g : LineSource) (table : TextSection) (p e : ℕ) (rs : List LineReading) → TextsApart g → bytes_of g.cells ≡ g.bytes → TablesTo g p rs e
     → EachOf (IsOffsetField g.order (texts_in g table) g.cells) (table_fields g.number g.str.number table (tables_read g rs))
 lines-each g table p e [] apart own reads = tt
 lines-each g table p e (r ∷ rs) apart own reads =
-    each-append (IsOffsetField g.order (texts_in g table) g.cells) (text_fields g.number g.str.number table r.header.width (paths_of (table_read g r)))
+    each-append (IsOffsetField g.order (texts_in g table) g.cells) (text_fields g.number g.str.number table r.header.width (table_read g r).texts)
     (table_fields g.number g.str.number table (tables_read g rs))
-    (paths-fields g table r.header.width (paths_of (table_read g r)) apart own (table-paths g p r reads.0)) (lines-each g table r.header.end e rs apart own reads.1)
+    (texts-fields g table r.header.width (table_read g r).texts apart own (table-texts g p r reads.0)) (lines-each g table r.header.end e rs apart own reads.1)
 
 pub lines-fields : (g : LineSource) (table : TextSection) (p e : ℕ) (rs : List LineReading) → TextsApart g → bytes_of g.cells ≡ g.bytes → TablesTo g p rs e
     → AreOffsetFields g.order (texts_in g table) g.cells (table_fields g.number g.str.number table (tables_read g rs))

@@ -116,7 +116,7 @@ line-named v starts places section start cells u c is names has =
     ap (λ (n : ℕ). is_there (start_number 0 starts n)) (line-there v section cells is.header.width is.header.line_field c room) ∙ subst (LineNames starts) line names
 
 -- an operation that isn't refused was read
-abbrev ok_read : MacroOperation → ℕ → Result (MacroOperation × ℕ) Refusal
+abbrev pub ok_read : MacroOperation → ℕ → Result (MacroOperation × ℕ) Refusal
 ok_read o next = Ok (o, next)
 
 ok-same : (x y : MacroOperation × ℕ) → ◌≡◌ {A = Result (MacroOperation × ℕ) Refusal} (Ok x) (Ok y) → x ≡ y
@@ -139,7 +139,7 @@ taken-same v section width place Leave o m next e = ok-same (Leave, m) (o, next)
 taken-same v section width place (Bring f) o m next e = ok-same (Bring f, m) (o, next) e
 taken-same v section width place Foreign o m next e = absurd (err-ok (at Supplementary section place) (o, next) e)
 
-operation-read : (v : View) (section start place : ℕ) (width : Width) (o : MacroOperation) (next : ℕ) → unit_operation v section start width place ≡ ok_read o next
+pub operation-read : (v : View) (section start place : ℕ) (width : Width) (o : MacroOperation) (next : ℕ) → unit_operation v section start width place ≡ ok_read o next
     → operation_at (section_bytes v section) width place ≡ read_as o next
 unfolding unit_operation
 operation-read v section start place width o next e = by_read (operation_at (section_bytes v section) width place) refl e
@@ -178,7 +178,7 @@ event-ends v section width Leave n m e h = (event-same EndFile e n m h).1
 event-ends v section width (Bring field) n m e h = (event-same (import_at v section width field) e n m h).1
 event-ends v section width Foreign n m e h = absurd (none-event e m h)
 
-event-next : (v : View) (section : ℕ) (width : Width) (place : ℕ) (o : MacroOperation) (n m : ℕ) (e : MacroEvent) → operation_at (section_bytes v section) width place ≡ read_as o n
+pub event-next : (v : View) (section : ℕ) (width : Width) (place : ℕ) (o : MacroOperation) (n m : ℕ) (e : MacroEvent) → operation_at (section_bytes v section) width place ≡ read_as o n
     → event_in v section width place ≡ event_read e m → n ≡ m
 unfolding event_in
 event-next v section width place o n m e is h = event-ends v section width o n m e (sym (ap (event_if v section width) is) ∙ h)
@@ -197,7 +197,7 @@ record EventsLeft (v : View) (places : UnitPlaces) (section : ℕ) (width : Widt
   names : EventsName places events
   reads : ReadsFrom v section width place
 
-end-not : (o : MacroOperation) (n m : ℕ) (x : Option (MacroOperation × ℕ)) → x ≡ read_as o n → x ≡ read_as End m → is_end o ≡ false → ⊥
+pub end-not : (o : MacroOperation) (n m : ℕ) (x : Option (MacroOperation × ℕ)) → x ≡ read_as o n → x ≡ read_as End m → is_end o ≡ false → ⊥
 end-not o n m x a b more =
     let same : o ≡ End = ap (λ (y : MacroOperation × ℕ). y.0) (some-same (o, n) (End, m) (sym a ∙ b)) in
     let ends : false ≡ true = sym more ∙ ap is_end same in

@@ -62,7 +62,7 @@ unfolding debug_data
 macros-order v rs r = r
 
 -- sections with those of macro units behind them have places
-have-both : (v : View) (xs ys : List SectionFields) → AllHavePlaces v xs → AllHavePlaces v ys → AllHavePlaces v (xs ++ ys)
+pub have-both : (v : View) (xs ys : List SectionFields) → AllHavePlaces v xs → AllHavePlaces v ys → AllHavePlaces v (xs ++ ys)
 have-both v [] ys h k = k
 have-both v (x ∷ xs) ys h k = (h.0, have-both v xs ys h.1 k)
 
@@ -74,7 +74,7 @@ macro-rooms : (m : PathMap) (v : View) (rs : List MacroReading) → AllRoomsFit 
 macro-rooms m v [] = tt
 macro-rooms m v (r ∷ rs) = (tt, macro-rooms m v rs)
 
-rooms-both : (m : PathMap) (v : View) (xs ys : List SectionFields) → AllRoomsFit m v xs → AllRoomsFit m v ys → AllRoomsFit m v (xs ++ ys)
+pub rooms-both : (m : PathMap) (v : View) (xs ys : List SectionFields) → AllRoomsFit m v xs → AllRoomsFit m v ys → AllRoomsFit m v (xs ++ ys)
 rooms-both m v [] ys h k = k
 rooms-both m v (x ∷ xs) ys h k = (h.0, rooms-both m v xs ys h.1 k)
 

@@ -35,7 +35,7 @@ use Rattle.std.proofs.lemmas.List.{length-take}
 use Rattle.dw_base.proofs.UnitEditLaws.{length-bytes_of}
 use Rattle.dw_base.specs.TableStarts.{is_start_form, own_form}
 use Rattle.dw_base.specs.declared.debug_sections.DebugSection.TheVariants.{Info}
-use Rattle.dw_base.specs.declared.texts.TextField.{TextField}
+use Rattle.dw_offsets.specs.declared.fields.OffsetField.{OffsetField}
 use Rattle.dw_base.specs.declared.texts.TextSection.{TextSection}
 use Rattle.dw_base.specs.declared.texts.TextSection.TheVariants.{InStr, InLineStr}
 use Rattle.dw_find.specs.Fields.{AreOffsetFields, IsOffsetField, IsStartField, AreStartFields}
@@ -421,8 +421,8 @@ cells-room z t f =
 
 field-each : (table : TextSection) (r : Role) (d : DebugData) (z : UnitSection) (t : TextPlace) → RoleFacts r d z t → PlaceNames r d (cells_at z.contents t.at t.len)
     → EachOf (IsOffsetField d.base.order (texts_in d table) z.contents) (field_by table r t.at t.len)
-field-each InStr (offset InStr true) d z t f names = (record { sized = f.sized; inside = cells-room z t f; ends = names }, tt)
-field-each InLineStr (offset InLineStr true) d z t f names = (record { sized = f.sized; inside = cells-room z t f; ends = names }, tt)
+field-each InStr (offset InStr path) d z t f names = (record { sized = f.sized; inside = cells-room z t f; ends = names }, tt)
+field-each InLineStr (offset InLineStr path) d z t f names = (record { sized = f.sized; inside = cells-room z t f; ends = names }, tt)
 field-each table r d z t f names = tt
 
 fields-each : (table : TextSection) (d : DebugData) (z : UnitSection) (ts : List TextPlace) → EachOf (PlaceOf d z) ts → PlacesName d z.contents ts
@@ -432,10 +432,10 @@ fields-each table d z (t ∷ ts) each names =
     each-append (IsOffsetField d.base.order (texts_in d table) z.contents) (field_by table t.role t.at t.len) (fields_in table ts)
     (field-each table t.role d z t (place-facts d z t each.0) names.0) (fields-each table d z ts each.1 names.1)
 
--- the fields of paths among places are fields
-pub offset-fields : (order : Order) (table : Located) (cells : List Cell) (fs : List TextField) → EachOf (IsOffsetField order table cells) fs → AreOffsetFields order table cells fs
+-- the fields of texts among places are fields
+pub offset-fields : (order : Order) (table : Located) (cells : List Cell) (fs : List OffsetField) → EachOf (IsOffsetField order table cells) fs → AreOffsetFields order table cells fs
 offset-fields order table cells fs each = record {
-  each = λ (k : ℕ) (x : TextField) (lt : k < length fs). each-get (IsOffsetField order table cells) fs k x lt each;
+  each = λ (k : ℕ) (x : OffsetField) (lt : k < length fs). each-get (IsOffsetField order table cells) fs k x lt each;
 }
 
 pub path-fields : (table : TextSection) (d : DebugData) (z : UnitSection) (ts : List TextPlace) → EachOf (PlaceOf d z) ts → PlacesName d z.contents ts
@@ -456,7 +456,7 @@ starts-each d z (t ∷ ts) each =
 
 pub start-fields : (d : DebugData) (z : UnitSection) (ts : List TextPlace) → EachOf (PlaceOf d z) ts → AreStartFields (bytes_of z.contents) (starts_in ts)
 start-fields d z ts each = record {
-  each = λ (k : ℕ) (x : TextField) (lt : k < length (starts_in ts)).
+  each = λ (k : ℕ) (x : OffsetField) (lt : k < length (starts_in ts)).
       each-get (IsStartField (bytes_of z.contents)) (starts_in ts) k x lt (starts-each d z ts each);
 }
 
@@ -476,12 +476,12 @@ units-each d z (t ∷ ts) each =
 
 pub unit-fields : (d : DebugData) (z : UnitSection) (ts : List TextPlace) → EachOf (PlaceOf d z) ts → AreStartFields (bytes_of z.contents) (macros_in ts)
 unit-fields d z ts each = record {
-  each = λ (k : ℕ) (x : TextField) (lt : k < length (macros_in ts)).
+  each = λ (k : ℕ) (x : OffsetField) (lt : k < length (macros_in ts)).
       each-get (IsStartField (bytes_of z.contents)) (macros_in ts) k x lt (units-each d z ts each);
 }
 
 -- so is a relocation that refuses one of them
-pub record RowField (d : DebugData) (z : UnitSection) (f : TextField) : Type 0 where
+pub record RowField (d : DebugData) (z : UnitSection) (f : OffsetField) : Type 0 where
   pub row : (r : Refusal) → OffsetFails d.base.order z.number z.contents (field_place f.at f.size offset_field) r → ValueRelocationFails d r
 
 row-start : (r : Role) (d : DebugData) (z : UnitSection) (t : TextPlace) → RoleFacts r d z t → EachOf (RowField d z) (start_at r t.at t.len)
@@ -509,10 +509,10 @@ units-rows d z (t ∷ ts) each =
     each-append (RowField d z) (unit_start_at t.at t.len t.says) (macros_in ts) (row-unit t.says d z t (said-facts d z t each.0)) (units-rows d z ts each.1)
 
 -- and a base that is an offset
-abbrev pub base_place : TextField → TextPlace
+abbrev pub base_place : OffsetField → TextPlace
 base_place f = record { role = fixed; at = f.at; len = f.size; says = base_offset }
 
-base-facts : (f : TextField) (d : DebugData) (z : UnitSection) (ts : List TextPlace) → EachOf (PlaceOf d z) ts → base_in ts ≡ Some (BaseField f)
+base-facts : (f : OffsetField) (d : DebugData) (z : UnitSection) (ts : List TextPlace) → EachOf (PlaceOf d z) ts → base_in ts ≡ Some (BaseField f)
     → StartFacts d z (base_place f)
 base-facts f d z [] each is = absurd (none-some (BaseField f) is)
   where
@@ -520,7 +520,7 @@ base-facts f d z [] each is = absurd (none-some (BaseField f) is)
     none-some b e = cc
 base-facts f d z (t ∷ ts) each is = by_says t.says (said-facts d z t each.0) (base-facts f d z ts each.1) is
   where
-    same : (g : TextField) → Some (BaseField g) ≡ Some (BaseField f) → g ≡ f
+    same : (g : OffsetField) → Some (BaseField g) ≡ Some (BaseField f) → g ≡ f
     same g e = cc
 
     number : (n : ℕ) → Some (BaseNumber n) ≡ Some (BaseField f) → ⊥
@@ -535,11 +535,11 @@ base-facts f d z (t ∷ ts) each is = by_says t.says (said-facts d z t each.0) (
     by_says (text_index path n) facts rest e = rest e
     by_says (unit_base n) facts rest e = absurd (number n e)
     by_says base_offset facts rest e =
-        subst (λ (g : TextField). StartFacts d z (base_place g)) (same (record { at = t.at; size = t.len }) e)
+        subst (λ (g : OffsetField). StartFacts d z (base_place g)) (same (record { at = t.at; size = t.len; path = false }) e)
         (record { sized = facts.sized; inside = facts.inside; row = facts.row })
 
 -- of a unit
-pub unit-base : (d : DebugData) (z : UnitSection) (h : UnitHeader) (table : List Abbreviation) (items : List Scanned) (f : TextField) → HasTable d z h table
+pub unit-base : (d : DebugData) (z : UnitSection) (h : UnitHeader) (table : List Abbreviation) (items : List Scanned) (f : OffsetField) → HasTable d z h table
     → AreEntries h table (bytes_up_to z h) items → base_in (entries_places h.params table (bytes_up_to z h) 0 items) ≡ Some (BaseField f)
     → StartFacts d z (base_place f)
 unit-base d z h table items f there e is =

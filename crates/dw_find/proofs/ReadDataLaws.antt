@@ -34,7 +34,7 @@ use Rattle.dw_find.specs.FoundPaths.PathsRefuse.{units as found_units, starts as
 use Rattle.dw_find.specs.MacroSections.{SectionUnits, UnitsFailIn, UnitsFoundIn, units as section_fails, offsets as section_offsets}
 use Rattle.dw_find.specs.ReadData.{DataRead, DataRefuses}
 use Rattle.dw_find.specs.ReadData.DataRefuses.{units, starts, string_tables, slots, name_tables, name_offsets, relocations, lines, macros}
-use Rattle.dw_find.specs.SectionFields.{SectionFields}
+use Rattle.dw_find.specs.AllFields.{Fields}
 use Rattle.dw_find.specs.UnitTexts.{data_fails, header_fails, relocation_fails, text_fails}
 use Rattle.dw_base.proofs.RelocationRowLaws.{header_offsets_exclude}
 use Rattle.dw_base.specs.declared.debug_sections.DebugSection.TheVariants.{StrOffsets, Macro}
@@ -78,7 +78,7 @@ pub macros-fault : (v : View) (f : Fault) → Blames (UnitsFailIn v) f → Blame
 macros-fault v NoMemory h = tt
 macros-fault v (Refused r) h = macros h
 
-pub data-read : (m : PathMap) (v : View) (us : List SectionFields) (ts slice : List LineTable) (ss : List SectionUnits) → slice ≡ ts → PathsFound m v us slice → UnitsFoundIn v ss
+pub data-read : (m : PathMap) (v : View) (us : Fields) (ts slice : List LineTable) (ss : List SectionUnits) → slice ≡ ts → PathsFound m v us slice → UnitsFoundIn v ss
     → DataRead v ts ss
 data-read m v us ts slice ss same f units_ = record {
   readings = f.readings;
@@ -134,7 +134,7 @@ data_read-excludes v rs r reads h (lines f) = lines-exclude (debug_data v) rs.li
 data_read-excludes v rs r reads h (macros (section_fails z before behind split f)) = macros-exclude v rs before behind z r reads split f
 data_read-excludes v rs r reads h (macros (section_offsets z before behind split f)) = units-row v rs before behind z r reads h split f
 
-pub found-excludes : {m : PathMap} {v : View} {us : List SectionFields} {ts : List LineTable} (r : Refusal) → PathsFound m v us ts → DataRefuses v r → ⊥
+pub found-excludes : {m : PathMap} {v : View} {us : Fields} {ts : List LineTable} (r : Refusal) → PathsFound m v us ts → DataRefuses v r → ⊥
 found-excludes {m} {v} {us} {ts} r found f = data_read-excludes v found.readings r found.reads found.relocations f
 
 pub ruleset read_rules = (found-fault, lines-fault, macros-fault, data-read, slice-units)

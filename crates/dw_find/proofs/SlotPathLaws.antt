@@ -6,7 +6,7 @@ use Rattle.dw_base.specs.Paths.{PathMap}
 use Rattle.dw_base.specs.Slots.{slots_of}
 use Rattle.dw_base.specs.declared.debug_sections.DebugSection.TheVariants.{Str, StrOffsets}
 use Rattle.dw_base.specs.declared.string_offsets.Contribution.{Contribution}
-use Rattle.dw_base.specs.declared.texts.TextField.{TextField}
+use Rattle.dw_offsets.specs.declared.fields.OffsetField.{OffsetField}
 use Rattle.dw_offsets.specs.PathSlots.{SlotsTaken, slots_in}
 use Rattle.dw_find.specs.FoundPaths.{SlotsFound}
 use Rattle.dw_find.specs.SlotPaths.{slots_with, slots_by}
@@ -14,13 +14,13 @@ use Rattle.dw_find.specs.SectionFields.{SectionFields, with_fields}
 use Rattle.dw_find.specs.EntryTexts.{no_paths}
 
 -- what the section says
-pub with-fields : (n : ℕ) (fields : List TextField) (none u : SectionFields) → none ≡ no_paths n → u ≡ with_fields none Str fields → u ≡ slots_with n fields
+pub with-fields : (n : ℕ) (fields : List OffsetField) (none u : SectionFields) → none ≡ no_paths n → u ≡ with_fields none Str fields → u ≡ slots_with n fields
 with-fields n fields none u e is = is ∙ ap (λ (x : SectionFields). with_fields x Str fields) e
 
 pub ruleset with_rules = (with-fields)
 
 -- it stands behind what was found, where there is such a section
-pub slots-pushed : (m : PathMap) (v : View) (list : List Contribution) (marks : List ℕ) (old new : List SectionFields) (n : ℕ) (fields : List TextField) (u : SectionFields)
+pub slots-pushed : (m : PathMap) (v : View) (list : List Contribution) (marks : List ℕ) (old new : List SectionFields) (n : ℕ) (fields : List OffsetField) (u : SectionFields)
     → Some n ≡ section_named v (name_of StrOffsets) → SlotsTaken m (slots_in v) marks (slots_of list) [] fields → u ≡ slots_with n fields
     → new ≡ old ++ u ∷ [] → SlotsFound m v list marks old new
 slots-pushed m v list marks old new n fields u found taken is e = record {
@@ -29,7 +29,7 @@ slots-pushed m v list marks old new n fields u found taken is e = record {
   is = e ∙ ap (λ (x : SectionFields). old ++ x ∷ []) is ∙ ap (λ (o : Option ℕ). old ++ slots_by o fields) found;
 }
 
-pub slots-none : (m : PathMap) (v : View) (list : List Contribution) (marks : List ℕ) (old new : List SectionFields) (fields : List TextField)
+pub slots-none : (m : PathMap) (v : View) (list : List Contribution) (marks : List ℕ) (old new : List SectionFields) (fields : List OffsetField)
     → None ≡ section_named v (name_of StrOffsets) → SlotsTaken m (slots_in v) marks (slots_of list) [] fields → new ≡ old → SlotsFound m v list marks old new
 slots-none m v list marks old new fields none taken e = record {
   fields = fields;

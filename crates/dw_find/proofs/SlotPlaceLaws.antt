@@ -10,7 +10,7 @@ use Rattle.dw_base.specs.SectionTexts.{offset_role, slot_role}
 use Rattle.dw_base.specs.declared.shared.Order.{Order}
 use Rattle.dw_base.proofs.UnitEditLaws.{length-bytes_of}
 use Rattle.dw_base.proofs.UnitHeaderLaws.{bytes_of-append}
-use Rattle.dw_base.specs.declared.texts.TextField.{TextField}
+use Rattle.dw_offsets.specs.declared.fields.OffsetField.{OffsetField}
 use Rattle.dw_base.specs.declared.texts.TextSection.{TextSection}
 use Rattle.dw_base.specs.declared.texts.TextSection.TheVariants.{InLineStr}
 use Rattle.dw_offsets.proofs.SlotPieceLaws.{place-next}
@@ -62,7 +62,7 @@ line-field paths no_offsets n place size = refl
 pub line-fields : (paths : List ℕ) (xs : List (Piece OffsetState)) → offset_fields InLineStr paths xs ≡ []
 line-fields paths [] = refl
 line-fields paths (x ∷ xs) =
-    ap (λ (fs : List TextField). fs ++ offset_fields InLineStr paths xs) (line-field paths x.state.mode x.state.slot x.state.place (length x.cells))
+    ap (λ (fs : List OffsetField). fs ++ offset_fields InLineStr paths xs) (line-field paths x.state.mode x.state.slot x.state.place (length x.cells))
     ∙ line-fields paths xs
 
 pub no-start : (paths : List ℕ) (m : OffsetMode) (n place size : ℕ) → start_by (offset_role paths m n) place size ≡ []

@@ -34,7 +34,7 @@ use Rattle.dw_base.specs.declared.shared.Order.{Order}
 use Rattle.dw_base.specs.declared.units.UnitHeader.{UnitHeader}
 use Rattle.dw_base.specs.declared.values.Spec.{Spec}
 use Rattle.dw_base.proofs.ViewCellLaws.{lines-located, piece-cells}
-use Rattle.dw_base.specs.declared.texts.TextField.{TextField}
+use Rattle.dw_offsets.specs.declared.fields.OffsetField.{OffsetField}
 use Rattle.dw_entries.specs.Fronts.{IsOfView}
 use Rattle.dw_meaning.specs.DataFails.{StartsFail, stray}
 use Rattle.dw_meaning.specs.RelocationFails.{ValueRelocationFails}
@@ -135,28 +135,28 @@ starts-rise d starts t =
     subst Rises (sym t.is) (record { rise = λ (i j : ℕ) (less : i < j) (lt : j < length (table_starts t.tables)). starts-between (line_source d) 0 (length (line_source d).bytes) i j t.tables t.are less lt })
 
 -- if the fields that are left say this, all do
-pub record FieldsPassed (says : List Cell → Bool) (cells : List Cell) (fields : List TextField) (i : ℕ) : Type 0 where
+pub record FieldsPassed (says : List Cell → Bool) (cells : List Cell) (fields : List OffsetField) (i : ℕ) : Type 0 where
   pub here : FieldsSay says cells (drop i fields) → FieldsSay says cells fields
 
-pub fields-none : (says : List Cell → Bool) (cells : List Cell) (fields : List TextField) → FieldsPassed says cells fields 0
+pub fields-none : (says : List Cell → Bool) (cells : List Cell) (fields : List OffsetField) → FieldsPassed says cells fields 0
 fields-none says cells fields = record { here = λ h. h }
 
-pub fields-more : (says : List Cell → Bool) (cells : List Cell) (fields : List TextField) (i : ℕ) (f : TextField) (b : Bool) → i < length fields → f ≡ get_or fields i f
+pub fields-more : (says : List Cell → Bool) (cells : List Cell) (fields : List OffsetField) (i : ℕ) (f : OffsetField) (b : Bool) → i < length fields → f ≡ get_or fields i f
     → b ≡ says (cells_at cells f.at f.size) → b ≡ true → FieldsPassed says cells fields i → FieldsPassed says cells fields (i + 1)
 fields-more says cells fields i f b lt is said yes_ passed =
-    let front : drop i fields ≡ f ∷ drop (i + 1) fields = drop_more fields i f lt ∙ ap (λ (g : TextField). g ∷ drop (i + 1) fields) (sym is) in
+    let front : drop i fields ≡ f ∷ drop (i + 1) fields = drop_more fields i f lt ∙ ap (λ (g : OffsetField). g ∷ drop (i + 1) fields) (sym is) in
     record { here = λ rest. passed.here (subst (FieldsSay says cells) (sym front) (sym said ∙ yes_, rest)) }
 
-pub fields-all : (says : List Cell → Bool) (cells : List Cell) (fields : List TextField) (i : ℕ) → length fields ≤ i → FieldsPassed says cells fields i → FieldsSay says cells fields
+pub fields-all : (says : List Cell → Bool) (cells : List Cell) (fields : List OffsetField) (i : ℕ) → length fields ≤ i → FieldsPassed says cells fields i → FieldsSay says cells fields
 fields-all says cells fields i end passed = passed.here (subst (FieldsSay says cells) (sym (drop_all i fields end)) tt)
 
-pub fields-refused : (order : Order) (section : ℕ) (cells : List Cell) (says : List Cell → Bool) (fields : List TextField) (i : ℕ) (f : TextField) (b : Bool) (r : Refusal) → i < length fields
+pub fields-refused : (order : Order) (section : ℕ) (cells : List Cell) (says : List Cell → Bool) (fields : List OffsetField) (i : ℕ) (f : OffsetField) (b : Bool) (r : Refusal) → i < length fields
     → f ≡ get_or fields i f → is_placed (field_of order (cells_at cells f.at f.size)) ≡ true → b ≡ says (cells_at cells f.at f.size) → b ≡ false → r ≡ at Stray section f.at
     → FieldStrays order section cells says fields r
 fields-refused order section cells says fields i f b r lt is placed said none same =
     subst (FieldStrays order section cells says fields) (sym same) (field i f lt is placed (sym said ∙ none))
 
-pub fields-unread : (order : Order) (section : ℕ) (cells : List Cell) (says : List Cell → Bool) (fields : List TextField) (i : ℕ) (f : TextField) (r : Refusal) → i < length fields
+pub fields-unread : (order : Order) (section : ℕ) (cells : List Cell) (says : List Cell → Bool) (fields : List OffsetField) (i : ℕ) (f : OffsetField) (r : Refusal) → i < length fields
     → f ≡ get_or fields i f → OffsetFails order section cells (field_place f.at f.size offset_field) r → FieldStrays order section cells says fields r
 fields-unread order section cells says fields i f r lt is fails = no_offset i f lt is fails
 
@@ -171,10 +171,10 @@ says-nothing order z starts p n o read number none = sym (ap (λ (m : ℕ). is_t
 
 pub ruleset says_rules = (says-table, says-nothing)
 
-pub field-room : (info : List ℕ) (f : TextField) → IsStartField info f → f.at + f.size ≤ length info
+pub field-room : (info : List ℕ) (f : OffsetField) → IsStartField info f → f.at + f.size ≤ length info
 field-room info f is = is.inside
 
-pub field-few : (info : List ℕ) (f : TextField) → IsStartField info f → f.size ≤ 8
+pub field-few : (info : List ℕ) (f : OffsetField) → IsStartField info f → f.size ≤ 8
 field-few info f is = few is.sized
   where
     few : (f.size ≡ 4) ⊎ (f.size ≡ 8) → f.size ≤ 8
@@ -187,23 +187,23 @@ pub ruleset field_rules = (field-room, field-few)
 pub section-there : (v : View) (u : SectionFields) → HasPlaces v u → u.number < length v.sections
 section-there v u h = h.there
 
-pub section-fields : (v : View) (u : SectionFields) (n : ℕ) (fields : List TextField) → HasPlaces v u → n ≡ u.number → fields ≡ fields_into u Line → AreStartFields (section_bytes v n) fields
+pub section-fields : (v : View) (u : SectionFields) (n : ℕ) (fields : List OffsetField) → HasPlaces v u → n ≡ u.number → fields ≡ fields_into u Line → AreStartFields (section_bytes v n) fields
 section-fields v u n fields h en ef = subst (λ (k : ℕ). AreStartFields (section_bytes v k) fields) (sym en) (subst (AreStartFields (info_of v u)) (sym ef) h.starts)
 
-pub unit-fields : (v : View) (u : SectionFields) (n : ℕ) (fields : List TextField) → HasPlaces v u → n ≡ u.number → fields ≡ fields_into u Macro → AreStartFields (section_bytes v n) fields
+pub unit-fields : (v : View) (u : SectionFields) (n : ℕ) (fields : List OffsetField) → HasPlaces v u → n ≡ u.number → fields ≡ fields_into u Macro → AreStartFields (section_bytes v n) fields
 unit-fields v u n fields h en ef = subst (λ (k : ℕ). AreStartFields (section_bytes v k) fields) (sym en) (subst (AreStartFields (info_of v u)) (sym ef) h.macros)
 
-pub section-strays : (v : View) (n : ℕ) (starts : List ℕ) (places : UnitPlaces) (u : SectionFields) (fields : List TextField) (r : Refusal) → n ≡ u.number → fields ≡ fields_into u Line
+pub section-strays : (v : View) (n : ℕ) (starts : List ℕ) (places : UnitPlaces) (u : SectionFields) (fields : List OffsetField) (r : Refusal) → n ≡ u.number → fields ≡ fields_into u Line
     → FieldStrays v.order n (view_cells v n) (says_start v.order (located v Line) starts) fields r → SectionStrays v starts places u r
 section-strays v n starts places u fields r en ef h =
     no_table (subst (λ (k : ℕ). FieldStrays v.order k (view_cells v k) (says_start v.order (located v Line) starts) (fields_into u Line) r) en
-    (subst (λ (fs : List TextField). FieldStrays v.order n (view_cells v n) (says_start v.order (located v Line) starts) fs r) ef h))
+    (subst (λ (fs : List OffsetField). FieldStrays v.order n (view_cells v n) (says_start v.order (located v Line) starts) fs r) ef h))
 
-pub unit-strays : (v : View) (n : ℕ) (starts : List ℕ) (places : UnitPlaces) (u : SectionFields) (fields : List TextField) (r : Refusal) → n ≡ u.number → fields ≡ fields_into u Macro
+pub unit-strays : (v : View) (n : ℕ) (starts : List ℕ) (places : UnitPlaces) (u : SectionFields) (fields : List OffsetField) (r : Refusal) → n ≡ u.number → fields ≡ fields_into u Macro
     → FieldStrays v.order n (view_cells v n) (says_unit v.order places) fields r → SectionStrays v starts places u r
 unit-strays v n starts places u fields r en ef h =
     no_unit (subst (λ (k : ℕ). FieldStrays v.order k (view_cells v k) (says_unit v.order places) (fields_into u Macro) r) en
-    (subst (λ (fs : List TextField). FieldStrays v.order n (view_cells v n) (says_unit v.order places) fs r) ef h))
+    (subst (λ (fs : List OffsetField). FieldStrays v.order n (view_cells v n) (says_unit v.order places) fs r) ef h))
 
 pub section-stray : (v : View) (starts : List ℕ) (places : UnitPlaces) (u : SectionFields) (n place : ℕ) (r : Refusal) → n ≡ u.number → u.stray ≡ Some place → r ≡ at Stray n place
     → SectionStrays v starts places u r
@@ -299,13 +299,13 @@ stray-found (x ∷ xs) place e = by_form (has_start_form x) refl e (stray-found 
         record { one = x; front = []; rest = xs; split = refl; form = is; there = some-once (value_begin x.state) place f }
 
 -- the piece of a field that says where a line table starts
-record StartPiece (xs : List (Piece UnitState)) (f : TextField) : Type 0 where
+record StartPiece (xs : List (Piece UnitState)) (f : OffsetField) : Type 0 where
   one : Piece UnitState
   front : List (Piece UnitState)
   rest : List (Piece UnitState)
   split : xs ≡ front ++ one ∷ rest
   role : role_of one ≡ line_start
-  is : f ≡ record { at = one.state.place; size = length one.cells }
+  is : f ≡ record { at = one.state.place; size = length one.cells; path = false }
 
 start-pieces : (all front xs : List (Piece UnitState)) → all ≡ front ++ xs → EachOf (StartPiece all) (start_fields xs)
 start-pieces all front [] split = tt
@@ -320,13 +320,13 @@ start-pieces all front (x ∷ xs) split =
     by_role line_start e rest = (record { one = x; front = front; rest = xs; split = split; role = e; is = refl }, rest)
 
 -- the piece of a field that says where a macro unit starts
-record UnitPiece (xs : List (Piece UnitState)) (f : TextField) : Type 0 where
+record UnitPiece (xs : List (Piece UnitState)) (f : OffsetField) : Type 0 where
   one : Piece UnitState
   front : List (Piece UnitState)
   rest : List (Piece UnitState)
   split : xs ≡ front ++ one ∷ rest
   value : is_macro_value one ≡ true
-  is : f ≡ record { at = one.state.place; size = length one.cells }
+  is : f ≡ record { at = one.state.place; size = length one.cells; path = false }
 
 unit-pieces : (all front xs : List (Piece UnitState)) → all ≡ front ++ xs → EachOf (UnitPiece all) (macro_fields xs)
 unit-pieces all front [] split = tt
@@ -411,7 +411,7 @@ unfolding debug_data
 placed-there v q p placed = placed
 
 -- the field of a section of debug data is that of the view
-own-fails : (v : View) (before behind : List UnitSection) (z : UnitSection) (u : SectionFields) (g : TextField) (r : Refusal) → (debug_data v).found Info ≡ before ++ z ∷ behind
+own-fails : (v : View) (before behind : List UnitSection) (z : UnitSection) (u : SectionFields) (g : OffsetField) (r : Refusal) → (debug_data v).found Info ≡ before ++ z ∷ behind
     → SectionSays (debug_data v) z u → OffsetFails v.order u.number (view_cells v u.number) (field_place g.at g.size offset_field) r
     → OffsetFails (debug_data v).base.order z.number z.contents (field_place g.at g.size offset_field) r
 unfolding debug_data
@@ -433,34 +433,34 @@ section-row v starts places us i u r taken t ms lt is row =
     all : FoundReadings (debug_data v) 0 ((debug_data v).found Info) us → DataReadings
     all f = record { units = f.readings; offsets = []; lines = t.tables; macros = ms.readings; names = [] }
 
-    own-placed : (g : TextField) (y : Piece UnitState) → PieceFacts u.number (view_cells v u.number) y → g ≡ record { at = y.state.place; size = length y.cells }
+    own-placed : (g : OffsetField) (y : Piece UnitState) → PieceFacts u.number (view_cells v u.number) y → g ≡ record { at = y.state.place; size = length y.cells; path = false }
         → is_placed (field_of v.order (cells_at (view_cells v u.number) g.at g.size)) ≡ true → is_placed (field_of v.order y.cells) ≡ true
     own-placed g y facts is placed =
         ap (λ (cs : List Cell). is_placed (field_of v.order cs)) (sym (piece-is u.number (view_cells v u.number) y facts))
-        ∙ subst (λ (k : TextField). is_placed (field_of v.order (cells_at (view_cells v u.number) k.at k.size)) ≡ true) is placed
+        ∙ subst (λ (k : OffsetField). is_placed (field_of v.order (cells_at (view_cells v u.number) k.at k.size)) ≡ true) is placed
 
-    by_field : (f : FoundReadings (debug_data v) 0 ((debug_data v).found Info) us) (x : ReadingOf v f.readings u) (g : TextField) → StartPiece x.reading.pieces g
+    by_field : (f : FoundReadings (debug_data v) 0 ((debug_data v).found Info) us) (x : ReadingOf v f.readings u) (g : OffsetField) → StartPiece x.reading.pieces g
         → is_placed (field_of v.order (cells_at (view_cells v u.number) g.at g.size)) ≡ true → says_start v.order (located v Line) starts (cells_at (view_cells v u.number) g.at g.size) ≡ false → StartsFail (debug_data v) (at Stray u.number g.at)
     by_field f x g s placed none =
         let facts : PieceFacts u.number (view_cells v u.number) s.one =
         piece-among (PieceFacts u.number (view_cells v u.number)) s.front s.rest s.one (subst (EachPiece (PieceFacts u.number (view_cells v u.number))) s.split x.facts) in
         let absent : says_start v.order (located v Line) starts (cells_at (view_cells v u.number) s.one.state.place (length s.one.cells)) ≡ false =
-        subst (λ (y : TextField). says_start v.order (located v Line) starts (cells_at (view_cells v u.number) y.at y.size) ≡ false) s.is none in
+        subst (λ (y : OffsetField). says_start v.order (located v Line) starts (cells_at (view_cells v u.number) y.at y.size) ≡ false) s.is none in
         let is_placed_ : is_placed (field_of v.order s.one.cells) ≡ true = own-placed g s.one facts s.is placed in
-        refused-at (StartsFail (debug_data v)) s.one.state.section u.number s.one.state.place g.at facts.own (sym (ap (λ (y : TextField). y.at) s.is))
+        refused-at (StartsFail (debug_data v)) s.one.state.section u.number s.one.state.place g.at facts.own (sym (ap (λ (y : OffsetField). y.at) s.is))
         (stray (all f) (record { units = f.reads; lines = t.are; macros = ms.are })
         (table_row s.one (record { before = x.before; behind = x.behind; section = x.reading; sections = x.sections; front = s.front; rest = s.rest; pieces = s.split }) s.role (placed-there v (all f) s.one.cells is_placed_)
         (none-there v (all f) starts s.one u.number t.is facts absent)))
 
-    by_unit : (f : FoundReadings (debug_data v) 0 ((debug_data v).found Info) us) (x : ReadingOf v f.readings u) (g : TextField) → UnitPiece x.reading.pieces g
+    by_unit : (f : FoundReadings (debug_data v) 0 ((debug_data v).found Info) us) (x : ReadingOf v f.readings u) (g : OffsetField) → UnitPiece x.reading.pieces g
         → is_placed (field_of v.order (cells_at (view_cells v u.number) g.at g.size)) ≡ true → says_unit v.order places (cells_at (view_cells v u.number) g.at g.size) ≡ false → StartsFail (debug_data v) (at Stray u.number g.at)
     by_unit f x g s placed none =
         let facts : PieceFacts u.number (view_cells v u.number) s.one =
         piece-among (PieceFacts u.number (view_cells v u.number)) s.front s.rest s.one (subst (EachPiece (PieceFacts u.number (view_cells v u.number))) s.split x.facts) in
         let absent : says_unit v.order places (cells_at (view_cells v u.number) s.one.state.place (length s.one.cells)) ≡ false =
-        subst (λ (y : TextField). says_unit v.order places (cells_at (view_cells v u.number) y.at y.size) ≡ false) s.is none in
+        subst (λ (y : OffsetField). says_unit v.order places (cells_at (view_cells v u.number) y.at y.size) ≡ false) s.is none in
         let is_placed_ : is_placed (field_of v.order s.one.cells) ≡ true = own-placed g s.one facts s.is placed in
-        refused-at (StartsFail (debug_data v)) s.one.state.section u.number s.one.state.place g.at facts.own (sym (ap (λ (y : TextField). y.at) s.is))
+        refused-at (StartsFail (debug_data v)) s.one.state.section u.number s.one.state.place g.at facts.own (sym (ap (λ (y : OffsetField). y.at) s.is))
         (stray (all f) (record { units = f.reads; lines = t.are; macros = ms.are })
         (unit_row s.one (record { before = x.before; behind = x.behind; section = x.reading; sections = x.sections; front = s.front; rest = s.rest; pieces = s.split }) s.value (placed-there v (all f) s.one.cells is_placed_)
         (no-unit-there v (all f) places s.one u.number ms.start facts absent)))
@@ -471,7 +471,7 @@ section-row v starts places us i u r taken t ms lt is row =
     places_each : EachOf (PlaceOf (debug_data v) section.section) section.says.places
     places_each = facts-each v u section
 
-    unread : (g : TextField) (q : Refusal) → RowField (debug_data v) section.section g → OffsetFails v.order u.number (view_cells v u.number) (field_place g.at g.size offset_field) q
+    unread : (g : OffsetField) (q : Refusal) → RowField (debug_data v) section.section g → OffsetFails v.order u.number (view_cells v u.number) (field_place g.at g.size offset_field) q
         → ValueRelocationFails (debug_data v) q
     unread g q row fails = row.row q (own-fails v section.before section.behind section.section u g q section.split section.says fails)
 

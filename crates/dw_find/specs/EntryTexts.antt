@@ -16,7 +16,7 @@ use Rattle.dw_base.specs.declared.fault.Kind.TheVariants.{StringOffset}
 use Rattle.dw_base.specs.declared.fault.Refusal.{Refusal}
 use Rattle.dw_base.specs.declared.shared.Order.{Order}
 use Rattle.dw_base.specs.declared.shared.Params.{Params}
-use Rattle.dw_base.specs.declared.texts.TextField.{TextField}
+use Rattle.dw_offsets.specs.declared.fields.OffsetField.{OffsetField}
 use Rattle.dw_base.specs.declared.values.Spec.{Spec}
 use Rattle.dw_base.specs.declared.values.Value.{Value}
 use Rattle.dw_base.specs.declared.values.ValueClass.{ValueClass}
@@ -77,7 +77,7 @@ with_paths u ts = record {
 
 -- what was found, with one more field that holds an offset into a section, path that stands in its value, or value by index; and with the first place of a
 -- value that can't say a start
-abbrev pub noted : FoundTexts → DebugSection → TextField → FoundTexts
+abbrev pub noted : FoundTexts → DebugSection → OffsetField → FoundTexts
 noted f into field = record { paths = with_field f.paths into field; base = f.base; indexes = f.indexes }
 
 abbrev pub inline_noted : FoundTexts → InlinePath → FoundTexts

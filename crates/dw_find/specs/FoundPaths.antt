@@ -1,5 +1,5 @@
 -- What was found of paths in the debug data of a view, by its readings; and why there is nothing.
-use Rattle.std.specs.Prelude.{◌≡◌, ℕ, ◌-◌, List, [], ◌∷◌, ◌++◌, length, take}
+use Rattle.std.specs.Prelude.{◌≡◌, ℕ, List, [], ◌∷◌, ◌++◌}
 use Rattle.dw_lines.specs.ViewTables.{tables_read}
 use Rattle.dw_meaning.specs.DataFails.{IndexesRead, InlineFails, SlotTextFails, StartsFail}
 use Rattle.dw_meaning.specs.DataOutput.{DataReads}
@@ -23,18 +23,18 @@ use Rattle.dw_base.specs.NameOffsets.{NamesRefuse}
 use Rattle.dw_offsets.specs.PathSlots.{SlotsTaken, slots_in}
 use Rattle.dw_find.specs.IndexedTexts.{TextsIndexed, TextsRefuse, UnitsStart}
 use Rattle.dw_find.specs.ViewFields.{AllHaveOffsets, AllHavePlaces, AllRoomsFit}
-use Rattle.dw_find.specs.SlotPaths.{lines_count, slots_of_view, slots_read}
+use Rattle.dw_find.specs.AllFields.{Fields, all_of, fields_read, standing}
+use Rattle.dw_find.specs.SlotPaths.{slots_of_view}
 use Rattle.dw_find.specs.TextPlaces.{AllPlaced, AllFitRooms}
 use Rattle.dw_find.specs.NamedStarts.{AllStarts}
-use Rattle.dw_find.specs.SectionFields.{SectionFields, paths_of}
+use Rattle.dw_find.specs.SectionFields.{SectionFields}
 use Rattle.dw_find.specs.UnitPlaces.{UnitPlaces}
 use Rattle.dw_find.specs.MacroNames.{MacrosName}
-use Rattle.dw_find.specs.MacroSections.{SectionUnits, macros_read}
+use Rattle.dw_find.specs.MacroSections.{SectionUnits}
 use Rattle.dw_find.specs.UnitTexts.{UnitsRefuse}
-use Rattle.dw_find.specs.ViewLines.{lines_of_view}
 use Rattle.dw_base.specs.UnitHeaders.{UnitSection}
 use Rattle.dw_base.specs.declared.debug_sections.DebugSection.TheVariants.{Info, StrOffsets}
-use Rattle.dw_base.specs.declared.texts.TextField.{TextField}
+use Rattle.dw_offsets.specs.declared.fields.OffsetField.{OffsetField}
 
 -- the offsets in the headers of all units can be read
 pub record HeadersRead (d : DebugData) : Type 0 where
@@ -62,28 +62,23 @@ pub record UnitsNamed (m : PathMap) (v : View) (list : List Contribution) (start
   pub indexed : TextsIndexed (debug_data v) list marks
   pub named : MacrosName v starts places ss
 
--- what the slots say of paths was put behind what the units say
+-- what the slots say of texts was put behind what was found
 pub record SlotsFound (m : PathMap) (v : View) (list : List Contribution) (marks : List ℕ) (old new : List SectionFields) : Type 0 where
-  pub fields : List TextField
+  pub fields : List OffsetField
   pub taken : SlotsTaken m (slots_in v) marks (slots_of list) [] fields
   pub is : new ≡ old ++ slots_of_view v fields
 
--- the sections without that of line tables, which is the last, if there is one
-abbrev pub without_lines : View → List SectionFields → List SectionFields
-without_lines v us = take (length us - lines_count v) us
-
--- the debug data of a view can be read, its relocations are ones that may stand there, its line tables are these, its paths fit the rooms in which they stand, and its slots can be mapped;
--- its unit sections say this of paths, behind them its slots, behind these its macro units, and behind these its line tables. All of these
--- are fields of the view, by the cells of its sections.
-pub record PathsFound (m : PathMap) (v : View) (us : List SectionFields) (ts : List LineTable) : Type 0 where
+-- the debug data of a view can be read, its relocations are ones that may stand there, its line tables are these, its paths fit the rooms in which they
+-- stand, and its slots can be mapped; and this is what they say of texts. All of these are fields of the view, by the cells of its sections.
+pub record PathsFound (m : PathMap) (v : View) (fields : Fields) (ts : List LineTable) : Type 0 where
   pub readings : DataReadings
   pub reads : DataReads (debug_data v) readings
   pub inline : EachReading (InlineFits m) readings.units
   pub slots : EachPiece (SlotFits m (around_of (debug_data v) readings)) readings.offsets
-  pub offsets : AllHaveOffsets v us
-  pub places : AllHavePlaces v (without_lines v us)
-  pub rooms : AllRoomsFit m v (without_lines v us)
-  pub is : us ≡ ((paths_of readings.units ++ slots_read v readings) ++ macros_read readings.macros) ++ lines_of_view v ts
+  pub offsets : AllHaveOffsets v (all_of fields)
+  pub places : AllHavePlaces v (standing fields)
+  pub rooms : AllRoomsFit m v (standing fields)
+  pub is : fields ≡ fields_read v readings ts
   pub tables : ts ≡ tables_read (line_source (debug_data v)) readings.lines
   pub relocations : RelocationsReadIn (debug_data v) (moving_sections v)
 

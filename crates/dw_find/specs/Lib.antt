@@ -16,6 +16,8 @@ pub mod ViewFields
 pub mod LineStarts
 pub mod ViewLines
 pub mod SlotPaths
+pub mod NameSections
+pub mod AllFields
 pub mod MacroNames
 pub mod FoundPaths
 pub mod ReadData

@@ -11,7 +11,7 @@ use Rattle.dw_base.specs.declared.debug_sections.DebugSection.TheVariants.{Line,
 use Rattle.dw_base.specs.declared.fault.Kind.TheVariants.{Stray}
 use Rattle.dw_base.specs.declared.fault.Refusal.{Refusal}
 use Rattle.dw_base.specs.declared.shared.Order.{Order}
-use Rattle.dw_base.specs.declared.texts.TextField.{TextField}
+use Rattle.dw_offsets.specs.declared.fields.OffsetField.{OffsetField}
 use Rattle.dw_meaning.specs.DataFails.{StartsFail}
 use Rattle.dw_meaning.specs.RelocationFails.{ValueRelocationFails}
 use Rattle.dw_find.specs.NamedStarts.{says_start, says_unit}
@@ -34,11 +34,11 @@ pub record IsStartGap (starts : List ℕ) (start i : ℕ) : Type 0 where
   pub behind : (k : ℕ) → i ≤ k → k < length starts → start < get_or starts k 0
 
 -- a field of a section doesn't say this; or a relocation lies on it only in part, or gives it no place
-pub data FieldStrays (order : Order) (section : ℕ) (cells : List Cell) (says : List Cell → Bool) (fields : List TextField) : Refusal → Type 0 where
-  field : (k : ℕ) (f : TextField) → k < length fields → f ≡ get_or fields k f → is_placed (field_of order (cells_at cells f.at f.size)) ≡ true
+pub data FieldStrays (order : Order) (section : ℕ) (cells : List Cell) (says : List Cell → Bool) (fields : List OffsetField) : Refusal → Type 0 where
+  field : (k : ℕ) (f : OffsetField) → k < length fields → f ≡ get_or fields k f → is_placed (field_of order (cells_at cells f.at f.size)) ≡ true
       → says (cells_at cells f.at f.size) ≡ false
       → FieldStrays order section cells says fields (at Stray section f.at)
-  no_offset : (k : ℕ) (f : TextField) {r : Refusal} → k < length fields → f ≡ get_or fields k f
+  no_offset : (k : ℕ) (f : OffsetField) {r : Refusal} → k < length fields → f ≡ get_or fields k f
       → OffsetFails order section cells (field_place f.at f.size offset_field) r → FieldStrays order section cells says fields r
 
 -- so does a value of a section of a view that is to say where a line table or a macro unit starts, or its form can't

@@ -8,12 +8,12 @@ use Rattle.dw_base.specs.UnitHeaders.{UnitSection}
 use Rattle.dw_base.specs.ViewData.{located}
 use Rattle.dw_base.specs.declared.debug_sections.DebugSection.TheVariants.{Line, Macro}
 use Rattle.dw_base.specs.declared.shared.Order.{Order}
-use Rattle.dw_base.specs.declared.texts.TextField.{TextField}
+use Rattle.dw_offsets.specs.declared.fields.OffsetField.{OffsetField}
 use Rattle.dw_find.specs.UnitPlaces.{UnitPlaces, names_place}
 use Rattle.dw_find.specs.SectionFields.{SectionFields, fields_into}
 
 -- this says each of these fields of a section, by its cells
-abbrev pub FieldsSay : (List Cell → Bool) → List Cell → List TextField → Type 0
+abbrev pub FieldsSay : (List Cell → Bool) → List Cell → List OffsetField → Type 0
 FieldsSay says cells [] = ⊤
 FieldsSay says cells (f ∷ fs) = IsTrue (says (cells_at cells f.at f.size)) × FieldsSay says cells fs
 
@@ -32,10 +32,10 @@ pub record SectionStarts (v : View) (starts : List ℕ) (places : UnitPlaces) (u
   pub units : FieldsSay (says_unit v.order places) (view_cells v u.number) (fields_into u Macro)
 
 -- the same of the cells of a section of debug data
-abbrev pub StartsNamed : DebugData → List ℕ → List Cell → List TextField → Type 0
+abbrev pub StartsNamed : DebugData → List ℕ → List Cell → List OffsetField → Type 0
 StartsNamed d starts cells fs = FieldsSay (says_start d.base.order (located_cells (d.found Line)) starts) cells fs
 
-abbrev pub UnitsNamed : DebugData → UnitPlaces → List Cell → List TextField → Type 0
+abbrev pub UnitsNamed : DebugData → UnitPlaces → List Cell → List OffsetField → Type 0
 UnitsNamed d places cells fs = FieldsSay (says_unit d.base.order places) cells fs
 
 pub record SectionNamed (d : DebugData) (starts : List ℕ) (places : UnitPlaces) (z : UnitSection) (u : SectionFields) : Type 0 where

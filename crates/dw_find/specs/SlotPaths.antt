@@ -1,4 +1,4 @@
--- What the section of string offsets says of paths: the fields of the slots that paths name (DWARF 5, 7.26).
+-- What the section of string offsets says of texts: the fields of its slots (DWARF 5, 7.26).
 use Rattle.std.specs.Prelude.{ℕ, List, [], ◌∷◌, ◌++◌, length, Option, Some, None}
 use Rattle.dw_base.specs.DebugData.{DebugData, DataReadings, around_of, path_slots}
 use Rattle.dw_base.specs.DebugSections.{name_of}
@@ -8,45 +8,36 @@ use Rattle.dw_base.specs.Pieces.{Piece}
 use Rattle.dw_base.specs.SectionTexts.{slot_role}
 use Rattle.dw_base.specs.ViewData.{debug_data}
 use Rattle.dw_base.specs.declared.debug_sections.DebugSection.{DebugSection}
-use Rattle.dw_base.specs.declared.debug_sections.DebugSection.TheVariants.{Str, StrOffsets, Line}
-use Rattle.dw_base.specs.declared.texts.TextField.{TextField}
+use Rattle.dw_base.specs.declared.debug_sections.DebugSection.TheVariants.{Str, StrOffsets}
+use Rattle.dw_offsets.specs.declared.fields.OffsetField.{OffsetField}
 use Rattle.dw_base.specs.declared.texts.TextSection.{TextSection}
 use Rattle.dw_base.specs.declared.texts.TextSection.TheVariants.{InStr}
 use Rattle.dw_find.specs.SectionFields.{SectionFields, field_by, lists_by}
 
--- the fields of paths' offsets into a table among pieces of string offsets
-abbrev pub offset_fields : TextSection → List ℕ → List (Piece OffsetState) → List TextField
+-- the fields of offsets into a table of texts among pieces of string offsets, by which slots paths name
+abbrev pub offset_fields : TextSection → List ℕ → List (Piece OffsetState) → List OffsetField
 offset_fields table paths [] = []
 offset_fields table paths (x ∷ xs) = field_by table (slot_role paths x.state) x.state.place (length x.cells) ++ offset_fields table paths xs
 
--- what a section of string offsets says of paths, by its number and these fields, which hold offsets into `.debug_str`
-abbrev pub slots_into : List TextField → DebugSection → List TextField
+-- what a section of string offsets says of texts, by its number and these fields, which hold offsets into `.debug_str`
+abbrev pub slots_into : List OffsetField → DebugSection → List OffsetField
 slots_into fields Str = fields
 slots_into fields s = []
 
-abbrev pub slots_with : ℕ → List TextField → SectionFields
+abbrev pub slots_with : ℕ → List OffsetField → SectionFields
 slots_with number fields = record { number = number; fields = lists_by (slots_into fields); inline = []; stray = None }
 
 -- the same of the section of a view, where there is one
-abbrev pub slots_by : Option ℕ → List TextField → List SectionFields
+abbrev pub slots_by : Option ℕ → List OffsetField → List SectionFields
 slots_by None fields = []
 slots_by (Some number) fields = slots_with number fields ∷ []
 
-abbrev pub slots_of_view : View → List TextField → List SectionFields
+abbrev pub slots_of_view : View → List OffsetField → List SectionFields
 slots_of_view v fields = slots_by (section_named v (name_of StrOffsets)) fields
 
--- the fields of the slots that paths name, by what was read
-abbrev pub read_fields : DebugData → DataReadings → List TextField
+-- the fields of the slots, by what was read
+abbrev pub read_fields : DebugData → DataReadings → List OffsetField
 read_fields d r = offset_fields InStr (path_slots (around_of d r)) r.offsets
 
 abbrev pub slots_read : View → DataReadings → List SectionFields
 slots_read v r = slots_of_view v (read_fields (debug_data v) r)
-
--- how many sections of string offsets a view has: one or none
-abbrev pub count_of : Option ℕ → ℕ
-count_of None = 0
-count_of (Some i) = 1
-
--- how many sections of line tables it has: one or none
-abbrev pub lines_count : View → ℕ
-lines_count v = count_of (section_named v (name_of Line))

@@ -23,7 +23,7 @@ use Rattle.dw_base.specs.declared.debug_sections.DebugSection.TheVariants.{Str, 
 use Rattle.dw_base.specs.declared.dwarf_numbers.TheConstants.{DW_AT_stmt_list}
 use Rattle.dw_base.specs.declared.shared.Order.{Order}
 use Rattle.dw_base.specs.declared.shared.Params.{Params}
-use Rattle.dw_base.specs.declared.texts.TextField.{TextField}
+use Rattle.dw_offsets.specs.declared.fields.OffsetField.{OffsetField}
 use Rattle.dw_base.specs.declared.texts.TextSection.{TextSection}
 use Rattle.dw_base.specs.declared.texts.TextSection.TheVariants.{InStr, InLineStr}
 use Rattle.dw_base.specs.declared.units.Scanned.{Scanned}
@@ -191,8 +191,8 @@ abbrev pub PlacesName : DebugData → List Cell → List TextPlace → Type 0
 PlacesName d cells [] = ⊤
 PlacesName d cells (t ∷ ts) = PlaceNames t.role d (cells_at cells t.at t.len) × PlacesName d cells ts
 
--- the fields of paths' offsets into a table among these places
-abbrev pub fields_in : TextSection → List TextPlace → List TextField
+-- the fields of offsets into a table of texts among these places
+abbrev pub fields_in : TextSection → List TextPlace → List OffsetField
 fields_in table [] = []
 fields_in table (t ∷ ts) = field_by table t.role t.at t.len ++ fields_in table ts
 
@@ -206,25 +206,25 @@ inline_in [] = []
 inline_in (t ∷ ts) = inline_at t.role t.at t.len ++ inline_in ts
 
 -- the fields that say where line tables start
-abbrev pub start_at : Role → ℕ → ℕ → List TextField
-start_at line_start at len = record { at = at; size = len } ∷ []
+abbrev pub start_at : Role → ℕ → ℕ → List OffsetField
+start_at line_start at len = record { at = at; size = len; path = false } ∷ []
 start_at r at len = []
 
-abbrev pub starts_in : List TextPlace → List TextField
+abbrev pub starts_in : List TextPlace → List OffsetField
 starts_in [] = []
 starts_in (t ∷ ts) = start_at t.role t.at t.len ++ starts_in ts
 
 -- those that say where macro units start
-abbrev pub unit_start_at : ℕ → ℕ → Indexed → List TextField
-unit_start_at at len unit_start = record { at = at; size = len } ∷ []
+abbrev pub unit_start_at : ℕ → ℕ → Indexed → List OffsetField
+unit_start_at at len unit_start = record { at = at; size = len; path = false } ∷ []
 unit_start_at at len i = []
 
-abbrev pub macros_in : List TextPlace → List TextField
+abbrev pub macros_in : List TextPlace → List OffsetField
 macros_in [] = []
 macros_in (t ∷ ts) = unit_start_at t.at t.len t.says ++ macros_in ts
 
 -- the fields among these places that hold offsets into a section of debug data
-abbrev pub places_into : List TextPlace → DebugSection → List TextField
+abbrev pub places_into : List TextPlace → DebugSection → List OffsetField
 places_into ts Str = fields_in InStr ts
 places_into ts LineStr = fields_in InLineStr ts
 places_into ts Line = starts_in ts
@@ -252,7 +252,7 @@ indexes_in (t ∷ ts) = index_at t.at t.says ++ indexes_in ts
 -- the base that a place says, or else those behind it
 abbrev pub base_or : ℕ → ℕ → Indexed → Option TextBase → Option TextBase
 base_or at len (unit_base n) o = Some (BaseNumber n)
-base_or at len base_offset o = Some (BaseField (record { at = at; size = len }))
+base_or at len base_offset o = Some (BaseField (record { at = at; size = len; path = false }))
 base_or at len i o = o
 
 -- the base among the places of a unit: where several values say one, the first counts
@@ -262,7 +262,7 @@ base_in (t ∷ ts) = base_or t.at t.len t.says (base_in ts)
 
 -- the base that a value says: a field of an offset, or else a number
 abbrev pub said_of : Bool → Value → TextBase
-said_of true v = BaseField (record { at = v.at; size = v.len })
+said_of true v = BaseField (record { at = v.at; size = v.len; path = false })
 said_of false v = BaseNumber v.number
 
 -- what bases go by: the byte order, and the section of string offsets

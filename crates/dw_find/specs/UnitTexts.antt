@@ -1,4 +1,4 @@
--- What a pass over the entries of a unit, and over the units of a section, finds of texts and paths; and what it refuses.
+-- What a pass over a unit section finds of texts and paths; and what it refuses.
 use Rattle.std.specs.Prelude.{true, ◌≡◌, ℕ, ◌+◌, List, [], ◌∷◌, ◌++◌, ⊤, Option, Some, None}
 use Rattle.dw_base.specs.AbbreviationTables.{Abbreviation, abbreviation_of}
 use Rattle.dw_meaning.specs.DataFails.{DataFails, TextFails}

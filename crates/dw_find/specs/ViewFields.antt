@@ -7,7 +7,7 @@ use Rattle.dw_base.specs.Paths.{PathMap}
 use Rattle.dw_base.specs.ViewData.{debug_data}
 use Rattle.dw_base.specs.declared.debug_sections.DebugSection.{DebugSection}
 use Rattle.dw_base.specs.declared.debug_sections.DebugSection.TheVariants.{Str as str_section, LineStr as line_str_section, Line, Macro}
-use Rattle.dw_base.specs.declared.texts.TextField.{TextField}
+use Rattle.dw_offsets.specs.declared.fields.OffsetField.{OffsetField}
 use Rattle.dw_base.specs.declared.texts.TextSection.{TextSection}
 use Rattle.dw_base.specs.declared.texts.TextSection.TheVariants.{InStr, InLineStr}
 use Rattle.dw_find.specs.Fields.{OffsetTable, AllApart, AreOffsetFields, AreStartFields}
@@ -36,8 +36,8 @@ table_number d InLineStr = (d.found line_str_section).number
 abbrev pub offsets_in : View → TextSection → OffsetTable
 offsets_in v table = offsets_of (debug_data v) table
 
--- the fields of paths' offsets into a table
-abbrev pub fields_of : TextSection → SectionFields → List TextField
+-- the fields of offsets into a table of texts
+abbrev pub fields_of : TextSection → SectionFields → List OffsetField
 fields_of InStr u = fields_into u str_section
 fields_of InLineStr u = fields_into u line_str_section
 
@@ -45,7 +45,7 @@ fields_of InLineStr u = fields_into u line_str_section
 abbrev pub info_of : View → SectionFields → List ℕ
 info_of v u = section_bytes v u.number
 
--- it is there, and each of its fields of paths holds an offset that names a text, by the cells of the section
+-- it is there, and each of its fields of texts holds an offset that names one, by the cells of the section
 pub record HasOffsets (v : View) (u : SectionFields) : Type 0 where
   pub there : u.number < length v.sections
   pub str : AreOffsetFields v.order ((debug_data v).found str_section) (view_cells v u.number) (fields_into u str_section)
@@ -55,7 +55,7 @@ abbrev pub AllHaveOffsets : View → List SectionFields → Type 0
 AllHaveOffsets v [] = ⊤
 AllHaveOffsets v (u ∷ us) = HasOffsets v u × AllHaveOffsets v us
 
--- a section of a view: it is there, its fields of line tables and of macro units are fields, no two fields of paths and of line tables have
+-- a section of a view: it is there, its fields of line tables and of macro units are fields, no two fields of texts and of line tables have
 -- a byte in common, and its paths that stand in their values have rooms
 pub record HasPlaces (v : View) (u : SectionFields) : Type 0 where
   pub there : u.number < length v.sections

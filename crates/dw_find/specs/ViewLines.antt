@@ -1,5 +1,4 @@
--- The line tables of a view, as they were read: where they start, the fields of their paths by offset, and the tables with mapped paths, from new places
--- by old ones (DWARF 5, 6.2.4).
+-- The line tables of a view, as they were read: where they start, and the fields of their texts by offset (DWARF 5, 6.2.4).
 use Rattle.std.specs.Prelude.{Bool, ℕ, ◌==◌, ◌&&◌, not, if◌then◌else◌, List, [], ◌∷◌, ◌++◌, Option, Some, None}
 use Rattle.dw_base.specs.DebugData.{line_source}
 use Rattle.dw_base.specs.DebugSections.{name_of}
@@ -8,12 +7,12 @@ use Rattle.dw_base.specs.Forms.{width_size}
 use Rattle.dw_base.specs.LineSources.{LineSource}
 use Rattle.dw_base.specs.LineTables.{LineTable}
 use Rattle.dw_base.specs.ViewData.{debug_data}
-use Rattle.dw_base.specs.WrittenLines.{paths_of}
 use Rattle.dw_base.specs.declared.debug_sections.DebugSection.{DebugSection}
 use Rattle.dw_base.specs.declared.debug_sections.DebugSection.TheVariants.{Str, LineStr, Line}
+use Rattle.dw_base.specs.declared.line_tables.LineText.{LineText}
 use Rattle.dw_base.specs.declared.line_tables.TextPlace.{TextPlace}
 use Rattle.dw_base.specs.declared.shared.Width.{Width}
-use Rattle.dw_base.specs.declared.texts.TextField.{TextField}
+use Rattle.dw_offsets.specs.declared.fields.OffsetField.{OffsetField}
 use Rattle.dw_base.specs.declared.texts.TextSection.{TextSection}
 use Rattle.dw_base.specs.declared.texts.TextSection.TheVariants.{InStr, InLineStr}
 use Rattle.dw_find.specs.SectionFields.{SectionFields, lists_by}
@@ -30,25 +29,26 @@ is_text_of section str InStr x = not (x.section == section) && x.section == str
 is_text_of section str InLineStr x = not (x.section == section) && not (x.section == str)
 
 -- the field of its offset, where it lies there
-abbrev pub text_field : ℕ → ℕ → TextSection → Width → TextPlace → List TextField
-text_field section str table w x = if is_text_of section str table x then record { at = x.field; size = width_size w } ∷ [] else []
+abbrev pub text_field : ℕ → ℕ → TextSection → Width → LineText → List OffsetField
+text_field section str table w x =
+    if is_text_of section str table x.place then record { at = x.place.field; size = width_size w; path = x.path } ∷ [] else []
 
-abbrev pub text_fields : ℕ → ℕ → TextSection → Width → List TextPlace → List TextField
+abbrev pub text_fields : ℕ → ℕ → TextSection → Width → List LineText → List OffsetField
 text_fields section str table w [] = []
 text_fields section str table w (x ∷ xs) = text_field section str table w x ++ text_fields section str table w xs
 
--- those of the paths of line tables: of each its directories, then its files
-abbrev pub table_fields : ℕ → ℕ → TextSection → List LineTable → List TextField
+-- those of the texts of line tables
+abbrev pub table_fields : ℕ → ℕ → TextSection → List LineTable → List OffsetField
 table_fields section str table [] = []
-table_fields section str table (t ∷ ts) = text_fields section str table t.width (paths_of t) ++ table_fields section str table ts
+table_fields section str table (t ∷ ts) = text_fields section str table t.width t.texts ++ table_fields section str table ts
 
 -- those that hold offsets into a section of debug data, by the number of the first table of texts
-abbrev pub tables_into : ℕ → ℕ → List LineTable → DebugSection → List TextField
+abbrev pub tables_into : ℕ → ℕ → List LineTable → DebugSection → List OffsetField
 tables_into section str ts Str = table_fields section str InStr ts
 tables_into section str ts LineStr = table_fields section str InLineStr ts
 tables_into section str ts s = []
 
--- what line tables say of paths
+-- what line tables say of texts
 abbrev pub lines_with : LineSource → List LineTable → SectionFields
 lines_with g ts = record {
   number = g.number;

@@ -9,7 +9,8 @@ ghost use Rattle.dw_base.specs.RelocationRows.{OffsetFails, field_place, offset_
 ghost use Rattle.dw_base.specs.ViewData.{located};
 ghost use Rattle.dw_find.specs.Fields.{IsStartField};
 
-use dw_base::{DebugSection, Field, Refusal, TextField};
+use dw_base::{DebugSection, Field, Refusal};
+use dw_offsets::OffsetField;
 use dw_view::{SectionBytes, View};
 
 /// The offset that a field holds into a section: one into another section counts as past it. Refused as
@@ -59,7 +60,7 @@ pub(crate) fn cells_offset(
 pub(crate) fn section_offset(
     view: &View,
     section: u32,
-    field: TextField,
+    field: OffsetField,
     of: DebugSection,
 ) -> Result<u64, Refusal>
     requires there { section < length view.now.sections }
@@ -75,13 +76,13 @@ pub(crate) fn section_offset(
 
 /// What such a field reads as: a number or a place.
 #[tactic(auto, using(crate::proofs::FieldOffsetLaws::read_rules))]
-pub(crate) fn cells_field(view: &View, section: u32, at: u64, size: u8) -> Result<Field, Refusal>
+pub(crate) fn cells_field(view: &View, section: u32, field: OffsetField) -> Result<Field, Refusal>
     requires there { section < length view.now.sections }
-    requires field { IsStartField (section_bytes view.now section) (record { at = at; size = size }) }
-    ensures field { IfOk result (λ f. f ≡ field_of view.now.order (cells_at (view_cells view.now section) at size)) }
-    ensures placed { OnOk result (is_placed (field_of view.now.order (cells_at (view_cells view.now section) at size)) ≡ true) }
-    ensures refused { IfErr result (OffsetFails view.now.order section (view_cells view.now section) (field_place at size offset_field)) }
+    requires field { IsStartField (section_bytes view.now section) field }
+    ensures field { IfOk result (λ f. f ≡ field_of view.now.order (cells_at (view_cells view.now section) field.at field.size)) }
+    ensures placed { OnOk result (is_placed (field_of view.now.order (cells_at (view_cells view.now section) field.at field.size)) ≡ true) }
+    ensures refused { IfErr result (OffsetFails view.now.order section (view_cells view.now section) (field_place field.at field.size offset_field)) }
 {
-    let field = view.offset(section, at, size)?;
-    Ok(field)
+    let read = view.offset(section, field.at, field.size)?;
+    Ok(read)
 }

@@ -2,7 +2,7 @@
 //! tables or macro units start, the paths that stand in their values, and the values that name texts by index (DWARF 5, 7.5.5,
 //! class string, and 3.1.1).
 
-use dw_base::TextField;
+use dw_offsets::OffsetField;
 
 /// A path that stands in its value.
 #[derive(Clone, Copy)]
@@ -19,7 +19,7 @@ pub(crate) enum TextBase {
     /// A number.
     Number(u64),
     /// The field of an offset into the section of string offsets.
-    Field(TextField),
+    Field(OffsetField),
 }
 
 /// A value that names a text by index.

@@ -10,7 +10,8 @@ ghost use Rattle.dw_find.specs.SectionFields.{SectionFields as PathsOf, fields_i
 
 use crate::field_offsets::offset_at;
 use crate::fields::{InlinePath, TextBase, TextIndex};
-use dw_base::{DebugSection, Refusal, TextField, Value, nul_end};
+use dw_base::{DebugSection, Refusal, Value, nul_end};
+use dw_offsets::OffsetField;
 use dw_view::{SectionBytes, View};
 use std::alloc::{AllocError, Global};
 use std::marker::Model;
@@ -21,7 +22,7 @@ pub struct SectionFields {
     /// The section's number.
     pub section: u32,
     /// For each section of debug data, in the order of the table, the fields that hold offsets into it.
-    fields: [Vec<TextField>; 9],
+    fields: [Vec<OffsetField>; 9],
     /// The paths that stand in their values.
     pub inline: Vec<InlinePath>,
     /// Where the first value begins that is to say where a line table or a macro unit starts, and has a form that can't.
@@ -59,7 +60,7 @@ impl SectionFields {
 
     /// The fields that hold offsets into a section of debug data: of paths into the tables of texts, and those that say where
     /// line tables and macro units start.
-    pub fn fields(&self, into: DebugSection) -> &[TextField]
+    pub fn fields(&self, into: DebugSection) -> &[OffsetField]
         ensures fields { result.now ≡ fields_into self.now into }
     {
         self.fields[into as usize].as_slice()
@@ -67,7 +68,7 @@ impl SectionFields {
 
     /// Puts these fields in the stead of those that hold offsets into a section.
     #[tactic(auto, using(crate::proofs::FieldListLaws::list_rules))]
-    pub(crate) fn put(&mut self, into: DebugSection, fields: Vec<TextField>)
+    pub(crate) fn put(&mut self, into: DebugSection, fields: Vec<OffsetField>)
         ensures { self.new ≡ with_fields self.old into fields.items }
     {
         self.fields[into as usize] = fields;
@@ -75,7 +76,7 @@ impl SectionFields {
 
     /// Adds a field that holds an offset into a section, behind those that do.
     #[tactic(auto, using(crate::proofs::FieldListLaws::list_rules))]
-    pub(crate) fn push(&mut self, into: DebugSection, field: TextField) -> Result<(), AllocError>
+    pub(crate) fn push(&mut self, into: DebugSection, field: OffsetField) -> Result<(), AllocError>
         ensures { OnOk result (self.new ≡ with_field self.old into field) }
     {
         self.fields[into as usize].push(field)?;
@@ -134,7 +135,7 @@ impl FoundTexts {
     pub(crate) fn push_field(
         &mut self,
         into: DebugSection,
-        field: TextField,
+        field: OffsetField,
     ) -> Result<(), AllocError>
         ensures { OnOk result (self.new ≡ noted self.old into field) }
     {

@@ -5,7 +5,7 @@
 //! or a macro unit starts says it), and what was found of paths is what they say; they are
 //! refused only by a condition that holds in them, at its place.
 //! It does not promise: anything of what the paths are mapped to; rows of line tables.
-//! Read first: `specs/ReadData.antt`, then `specs/FoundPaths.antt`, `specs/SectionFields.antt` and `specs/TextPlaces.antt`.
+//! Read first: `specs/ReadData.antt`, then `specs/FoundPaths.antt`, `specs/AllFields.antt`, `specs/SectionFields.antt` and `specs/TextPlaces.antt`.
 //!
 //! # Example
 //!
@@ -16,6 +16,7 @@
 //! ```
 #![tactic(auto)]
 
+mod all_fields;
 mod all_sections;
 mod field_offsets;
 mod fields;
@@ -35,6 +36,7 @@ mod texts;
 mod unit_places;
 mod units;
 
+pub use all_fields::Fields;
 pub use fields::InlinePath;
 pub use found::SectionFields;
 pub use lines::starts_of;

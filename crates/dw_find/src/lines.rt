@@ -1,17 +1,16 @@
-//! What the line tables of a view say of paths by offsets (DWARF 5, 6.2.4): their fields are those of the tables, in order.
+//! What the line tables of a view say of texts by offsets (DWARF 5, 6.2.4): their fields are those of the tables, in order.
 //!
 //! Read first: `specs/ViewLines.antt`.
 
 ghost use Rattle.std.specs.Prelude.{◌≡◌, ◌++◌, ◌<◌, IfOk, OnOk};
-ghost use Rattle.dw_base.specs.LineTables.{texts_of};
-ghost use Rattle.dw_base.specs.WrittenLines.{paths_of};
 ghost use Rattle.dw_lines.specs.ViewSources.{view_source};
 ghost use Rattle.dw_find.specs.ViewLines.{is_text_of, lines_of_view, lines_with, starts_of, table_fields, text_field, text_fields};
 
 use crate::found::SectionFields;
 use crate::tables::table_number;
-use dw_base::{DebugSection, FilePlace, TextField, TextPlace, TextSection, Width};
+use dw_base::{DebugSection, LineText, TextPlace, TextSection, Width};
 use dw_lines::LineTable;
+use dw_offsets::OffsetField;
 use dw_view::View;
 use std::alloc::{AllocError, Global};
 
@@ -22,18 +21,11 @@ fn start_of(table: &LineTable) -> u64
     table.start
 }
 
-/// The directories of a table.
-fn dirs_of(table: &LineTable) -> &[TextPlace]
-    ensures { result.now ≡ table.now.dirs }
+/// The texts of a table.
+fn texts_of(table: &LineTable) -> &[LineText]
+    ensures { result.now ≡ table.now.texts }
 {
-    &table.dirs
-}
-
-/// The files of a table.
-fn files_of(table: &LineTable) -> &[FilePlace]
-    ensures { result.now ≡ table.now.files }
-{
-    &table.files
+    &table.texts
 }
 
 /// How wide the offsets of a table are.
@@ -55,7 +47,7 @@ pub fn starts_of(alloc: Global, tables: &[LineTable]) -> Result<Vec<u64>, AllocE
     Ok(starts)
 }
 
-/// Puts what the line tables say of paths behind what was found, where there are any.
+/// Puts what the line tables say of texts behind what was found, where there are any.
 #[tactic(auto, using(crate::proofs::LineFieldLaws::push_rules))]
 pub(crate) fn push_lines(
     alloc: Global,
@@ -71,7 +63,7 @@ pub(crate) fn push_lines(
     Ok(())
 }
 
-/// What the line tables of the section of a number say of paths.
+/// What the line tables of the section of a number say of texts.
 #[tactic(auto, using(crate::proofs::LineFieldLaws::with_rules))]
 fn lines_with(
     alloc: Global,
@@ -90,7 +82,7 @@ fn lines_with(
     Ok(paths)
 }
 
-/// The fields of the tables' paths that lie in a table of texts.
+/// The fields of the tables' texts that lie in a table of texts.
 #[tactic(auto, using(crate::proofs::LineFieldLaws::tables_rules))]
 fn table_fields(
     alloc: Global,
@@ -98,7 +90,7 @@ fn table_fields(
     str: u32,
     texts: TextSection,
     tables: &[LineTable],
-) -> Result<Vec<TextField>, AllocError>
+) -> Result<Vec<OffsetField>, AllocError>
     ensures { IfOk result (λ fields. fields.items ≡ table_fields section str texts tables.now) }
 {
     let mut fields = Vec::new(alloc);
@@ -108,55 +100,36 @@ fn table_fields(
     Ok(fields)
 }
 
-/// Appends those of one table: of its directories, then of its files.
+/// Appends those of one table.
 #[tactic(auto, using(crate::proofs::LineFieldLaws::table_rules))]
 fn push_fields(
     section: u32,
     str: u32,
     texts: TextSection,
     table: &LineTable,
-    fields: &mut Vec<TextField>,
+    fields: &mut Vec<OffsetField>,
 ) -> Result<(), AllocError>
-    ensures { OnOk result (fields.new.items ≡ fields.old.items ++ text_fields section str texts table.now.width (paths_of table.now)) }
+    ensures { OnOk result (fields.new.items ≡ fields.old.items ++ text_fields section str texts table.now.width table.now.texts) }
 {
     let width = width_of(table);
-    push_dirs(section, str, texts, width, dirs_of(table), fields)?;
-    push_files(section, str, texts, width, files_of(table), fields)?;
+    push_texts(section, str, texts, width, texts_of(table), fields)?;
     Ok(())
 }
 
-/// Appends those of directories.
-#[tactic(auto, using(crate::proofs::LineFieldLaws::dirs_rules))]
-fn push_dirs(
+/// Appends those of texts.
+#[tactic(auto, using(crate::proofs::LineFieldLaws::texts_rules))]
+fn push_texts(
     section: u32,
     str: u32,
     texts: TextSection,
     width: Width,
-    dirs: &[TextPlace],
-    fields: &mut Vec<TextField>,
+    all: &[LineText],
+    fields: &mut Vec<OffsetField>,
 ) -> Result<(), AllocError>
-    ensures { OnOk result (fields.new.items ≡ fields.old.items ++ text_fields section str texts width dirs.now) }
+    ensures { OnOk result (fields.new.items ≡ fields.old.items ++ text_fields section str texts width all.now) }
 {
-    for dir in dirs {
-        push_field(section, str, texts, width, *dir, fields)?;
-    }
-    Ok(())
-}
-
-/// Appends those of files.
-#[tactic(auto, using(crate::proofs::LineFieldLaws::files_rules))]
-fn push_files(
-    section: u32,
-    str: u32,
-    texts: TextSection,
-    width: Width,
-    files: &[FilePlace],
-    fields: &mut Vec<TextField>,
-) -> Result<(), AllocError>
-    ensures { OnOk result (fields.new.items ≡ fields.old.items ++ text_fields section str texts width (texts_of files.now)) }
-{
-    for file in files {
-        push_field(section, str, texts, width, file.text, fields)?;
+    for text in all {
+        push_field(section, str, texts, width, *text, fields)?;
     }
     Ok(())
 }
@@ -168,15 +141,16 @@ fn push_field(
     str: u32,
     texts: TextSection,
     width: Width,
-    text: TextPlace,
-    fields: &mut Vec<TextField>,
+    text: LineText,
+    fields: &mut Vec<OffsetField>,
 ) -> Result<(), AllocError>
     ensures { OnOk result (fields.new.items ≡ fields.old.items ++ text_field section str texts width text) }
 {
-    if lies_in(section, str, texts, text) {
-        fields.push(TextField {
-            at: text.field,
+    if lies_in(section, str, texts, text.place) {
+        fields.push(OffsetField {
+            at: text.place.field,
             size: width.offset_size(),
+            path: text.path,
         })?;
     }
     Ok(())

@@ -1,21 +1,24 @@
-//! What the debug data of a view say of paths: its units, string offsets, macro units and line tables.
+//! What the debug data of a view say of texts: its units, string offsets, line tables, macro units and name tables.
 //!
 //! Read first: `specs/FoundPaths.antt`.
 
-ghost use Rattle.std.specs.Prelude.{◌≡◌, length, replicate, IfErr, IfOk, OnOk};
+ghost use Rattle.std.specs.Prelude.{◌≡◌, ◌++◌, length, replicate, IfErr, IfOk, OnOk};
 ghost use Rattle.dw_base.specs.Refusals.{Blames};
 ghost use Rattle.dw_base.specs.Slots.{slots_of};
 ghost use Rattle.dw_base.specs.StringOffsets.{AreContributions};
 ghost use Rattle.dw_base.specs.ViewData.{debug_data, string_offsets};
+ghost use Rattle.dw_offsets.specs.NameFields.{fields_of_names};
 ghost use Rattle.dw_offsets.specs.PathSlots.{SlotsRefuse, slots_in};
 ghost use Rattle.dw_lines.specs.ViewTables.{TablesFound};
 ghost use Rattle.dw_find.specs.FoundPaths.{PathsFound, PathsRefuse, SlotsFound, UnitPathsRefuse, UnitsFound, UnitsNamed};
 ghost use Rattle.dw_find.specs.IndexedTexts.{TablesStart, TextsIndexed, UnitsStart};
 ghost use Rattle.dw_find.specs.MacroSections.{UnitsFoundIn};
+ghost use Rattle.dw_find.specs.NameSections.{names_of_view};
 ghost use Rattle.dw_find.specs.NamedSlots.{no_slots};
 ghost use Rattle.dw_find.specs.SlotPaths.{slots_with};
 ghost use Rattle.dw_find.specs.UnitTexts.{texts_of};
 
+use crate::all_fields::Fields;
 use crate::all_sections::all_texts;
 use crate::found::{SectionFields, TextTable, TextTables};
 use crate::lines::{push_lines, starts_of};
@@ -23,18 +26,20 @@ use crate::macros::{MacroSection, macros_name, push_macros};
 use crate::rooms::all_rooms_fit;
 use crate::slots::NamedSlots;
 use crate::unit_places::UnitPlaces;
-use dw_base::{DebugSection, Fault, TextField};
+use dw_base::{DebugSection, Fault};
 use dw_fields::check_fields;
 use dw_lines::LineTable;
-use dw_offsets::{ContributionList, SlotMarks, contributions, name_tables, path_slots};
+use dw_offsets::{
+    ContributionList, NameTableList, OffsetField, SlotMarks, all_slots, contributions, name_fields,
+    name_tables,
+};
 use dw_paths::Maps;
 use dw_view::View;
 use std::alloc::{AllocError, Global};
 
-/// What the unit sections of the view say of paths, in the order of their numbers, behind them what its string
-/// offsets say, behind these its macro units, and behind these its line tables. Refused where one of these sections or a
-/// name table can't be read or names no text, where what is to say where a line table or a macro unit starts names none,
-/// where a path that stands in its value would grow, where a slot is shared, and where a relocation stands that may not.
+/// What the debug data of the view say of texts, kind by kind. Refused where one of their sections or a name table can't be read or
+/// names no text, where what is to say where a line table or a macro unit starts names none, where a path that stands in
+/// its value would grow, where a slot is shared, and where a relocation stands that may not.
 #[tactic(auto, using(crate::proofs::FoundPathLaws::found_rules))]
 pub fn found_paths(
     alloc: Global,
@@ -42,21 +47,27 @@ pub fn found_paths(
     maps: &Maps,
     tables: &[LineTable],
     macros: &[MacroSection],
-) -> Result<Vec<SectionFields>, Fault>
+) -> Result<Fields, Fault>
     requires tables { TablesFound view.now tables.now }
     requires macros { UnitsFoundIn view.now macros.now }
-    ensures found { IfOk result (λ paths. PathsFound maps.now view.now paths.items tables.now) }
+    ensures found { IfOk result (λ fields. PathsFound maps.now view.now fields tables.now) }
     ensures refused { IfErr result (Blames (PathsRefuse maps.now view.now)) }
 {
     let list = contributions(alloc, view)?;
     let names = name_tables(alloc, view)?;
     let starts = starts_of(alloc, tables)?;
-    let (marks, mut paths) = named_paths(alloc, view, maps, &list, starts.as_slice(), macros)?;
-    push_slots(alloc, view, maps, &list, &marks, &mut paths)?;
-    push_macros(alloc, macros, &mut paths)?;
-    push_lines(alloc, view, tables, &mut paths)?;
+    let (marks, units) = named_paths(alloc, view, maps, &list, starts.as_slice(), macros)?;
+    let mut slots = Vec::new(alloc);
+    push_slots(alloc, view, maps, &list, &marks, &mut slots)?;
+    let mut lines = Vec::new(alloc);
+    push_lines(alloc, view, tables, &mut lines)?;
+    let mut macro_fields = Vec::new(alloc);
+    push_macros(alloc, view, macros, &mut macro_fields)?;
+    let mut name_texts = Vec::new(alloc);
+    push_names(alloc, view, &names, &mut name_texts)?;
     check_fields(alloc, view, list.as_slice(), names.as_slice(), tables)?;
-    Ok(paths)
+    let fields = Fields::new(units, slots, lines, macro_fields, name_texts);
+    Ok(fields)
 }
 
 /// What the unit sections say of paths, with the slots that their values name marked. What is to say where a line table
@@ -133,7 +144,7 @@ fn text_tables<'a>(view: &'a View) -> TextTables<'a>
     }
 }
 
-/// Puts what the string offsets say of paths behind what the units say, where there are any.
+/// Puts what the string offsets say of texts behind what was found, where there are any.
 #[tactic(auto, using(crate::proofs::SlotPathLaws::push_rules))]
 fn push_slots(
     alloc: Global,
@@ -147,16 +158,33 @@ fn push_slots(
     ensures found { OnOk result (SlotsFound maps.now view.now list.now marks.now paths.old.items paths.new.items) }
     ensures refused { IfErr result (Blames (SlotsRefuse maps.now (slots_in view.now) marks.now (slots_of list.now))) }
 {
-    let fields = path_slots(alloc, view, maps, list, marks)?;
+    let fields = all_slots(alloc, view, maps, list, marks)?;
     if let Some(section) = view.first(DebugSection::StrOffsets) {
         paths.push(slots_with(alloc, section, fields))?;
     }
     Ok(())
 }
 
-/// What the section of string offsets says of paths, by the fields of its slots.
+/// Puts what the name tables say of texts behind what was found, where there is a section of them.
+#[tactic(auto, using(crate::proofs::NameHaveLaws::names_rules))]
+fn push_names(
+    alloc: Global,
+    view: &View,
+    names: &NameTableList,
+    paths: &mut Vec<SectionFields>,
+) -> Result<(), AllocError>
+    ensures { OnOk result (paths.new.items ≡ paths.old.items ++ names_of_view view.now (fields_of_names names.now)) }
+{
+    let fields = name_fields(alloc, names)?;
+    if let Some(section) = view.first(DebugSection::Names) {
+        paths.push(slots_with(alloc, section, fields))?;
+    }
+    Ok(())
+}
+
+/// What the section of string offsets, or that of name tables, says of texts, by these fields.
 #[tactic(auto, using(crate::proofs::SlotPathLaws::with_rules))]
-fn slots_with(alloc: Global, section: u32, fields: Vec<TextField>) -> SectionFields
+fn slots_with(alloc: Global, section: u32, fields: Vec<OffsetField>) -> SectionFields
     ensures paths { result ≡ slots_with section fields.items }
 {
     let mut paths = SectionFields::new(alloc, section);

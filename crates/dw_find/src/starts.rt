@@ -22,7 +22,8 @@ ghost use Rattle.dw_find.specs.UnitTexts.{AllTaken};
 use crate::field_offsets::{cells_field, section_offset};
 use crate::found::SectionFields;
 use crate::unit_places::UnitPlaces;
-use dw_base::{DebugSection, Kind, Order, Refusal, TextField, number_in};
+use dw_base::{DebugSection, Kind, Order, Refusal, number_in};
+use dw_offsets::OffsetField;
 use dw_view::View;
 
 /// Tests that each value of all unit sections that is to say where a line table starts names one of these starts, and that
@@ -83,7 +84,7 @@ fn lines_start(
     view: &View,
     section: u32,
     starts: &[u64],
-    fields: &[TextField],
+    fields: &[OffsetField],
 ) -> Result<(), Refusal>
     requires there { section < length view.now.sections }
     requires fields { AreStartFields (section_bytes view.now section) fields.now }
@@ -101,7 +102,12 @@ fn lines_start(
 
 /// A field holds the start of a line table.
 #[tactic(auto, using(crate::proofs::StartLaws::says_rules))]
-fn line_starts(view: &View, section: u32, starts: &[u64], field: TextField) -> Result<bool, Refusal>
+fn line_starts(
+    view: &View,
+    section: u32,
+    starts: &[u64],
+    field: OffsetField,
+) -> Result<bool, Refusal>
     requires there { section < length view.now.sections }
     requires field { IsStartField (section_bytes view.now section) field }
     requires rises { Rises starts.now }
@@ -121,7 +127,7 @@ fn units_start(
     view: &View,
     section: u32,
     places: &UnitPlaces,
-    fields: &[TextField],
+    fields: &[OffsetField],
 ) -> Result<(), Refusal>
     requires there { section < length view.now.sections }
     requires fields { AreStartFields (section_bytes view.now section) fields.now }
@@ -141,7 +147,7 @@ fn unit_starts(
     view: &View,
     section: u32,
     places: &UnitPlaces,
-    field: TextField,
+    field: OffsetField,
 ) -> Result<bool, Refusal>
     requires there { section < length view.now.sections }
     requires field { IsStartField (section_bytes view.now section) field }
@@ -149,13 +155,13 @@ fn unit_starts(
     ensures placed { OnOk result (is_placed (field_of view.now.order (cells_at (view_cells view.now section) field.at field.size)) ≡ true) }
     ensures refused { IfErr result (OffsetFails view.now.order section (view_cells view.now section) (field_place field.at field.size offset_field)) }
 {
-    let read = cells_field(view, section, field.at, field.size)?;
+    let read = cells_field(view, section, field)?;
     Ok(places.names(read))
 }
 
 /// The start that a field holds.
 #[tactic(auto, using(crate::proofs::StartLaws::field_rules))]
-pub fn start_in(order: Order, info: &[u8], field: TextField) -> u64
+pub fn start_in(order: Order, info: &[u8], field: OffsetField) -> u64
     requires field { IsStartField info.now field }
     ensures { result ≡ spelled order info.now field.at field.size }
 {

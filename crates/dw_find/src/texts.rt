@@ -20,10 +20,11 @@ use crate::found::{FoundTexts, SectionTexts, TextTable};
 use crate::later::later_len;
 use dw_base::dwarf_numbers::DW_AT_stmt_list;
 use dw_base::{
-    DebugSection, Fault, Kind, Refusal, Spec, TextField, UnitHeader, Value, ValueClass, is_base,
-    is_macros, is_path, is_start_form, is_start_name, own_form,
+    DebugSection, Fault, Kind, Refusal, Spec, UnitHeader, Value, ValueClass, is_base, is_macros,
+    is_path, is_start_form, is_start_name, own_form,
 };
 use dw_forms::value_at;
+use dw_offsets::OffsetField;
 use std::alloc::AllocError;
 
 /// Takes the values of entry `number`, of a tag and with these attributes, which begin at a place of the
@@ -78,7 +79,7 @@ fn value_text(
         let size = noted_text(texts, unit, bytes, number, tag, spec, place, found)?;
         return Ok(size);
     }
-    let later = later_len(texts, unit, bytes, spec, place)?;
+    let later = later_len(texts, unit, bytes, spec, place, found)?;
     if let Some(size) = later {
         return Ok(size);
     }
@@ -161,7 +162,7 @@ fn note_start(says: bool, value: &Value, found: &mut FoundTexts) -> Result<(), A
     ensures found { OnOk result (found.new ≡ with_places found.old (line_at says value.now)) }
 {
     if says {
-        found.push_field(DebugSection::Line, field_of(value))?;
+        found.push_field(DebugSection::Line, field_of(value, false))?;
     }
     Ok(())
 }
@@ -206,11 +207,11 @@ fn note_unit(value: &Value, found: &mut FoundTexts) -> Result<(), AllocError>
     requires sized { (value.now.len ≡ 4) ⊎ (value.now.len ≡ 8) }
     ensures found { OnOk result (found.new ≡ with_places found.old (said_value true true 0 value.now)) }
 {
-    found.push_field(DebugSection::Macro, field_of(value))?;
+    found.push_field(DebugSection::Macro, field_of(value, false))?;
     Ok(())
 }
 
-/// Notes what a value at a place says of a path or by index, where it is a path's or a base's, or an index.
+/// Notes what a value at a place says of a text, by offset or index, of a path that stands in it, or of a base.
 #[tactic(auto, using(crate::proofs::EntryTextLaws::note_rules))]
 fn note_value(
     texts: &SectionTexts,
@@ -232,15 +233,11 @@ fn note_value(
     match value.class {
         ValueClass::StrOffset => {
             offset_names(texts, texts.str(), value)?;
-            if path {
-                found.push_field(DebugSection::Str, field_of(value))?;
-            }
+            found.push_field(DebugSection::Str, field_of(value, path))?;
         }
         ValueClass::LineStrOffset => {
             offset_names(texts, texts.line_str(), value)?;
-            if path {
-                found.push_field(DebugSection::LineStr, field_of(value))?;
-            }
+            found.push_field(DebugSection::LineStr, field_of(value, path))?;
         }
         ValueClass::InlineText => {
             if path {
@@ -272,21 +269,22 @@ fn text_base(field: bool, value: &Value) -> TextBase
     ensures { result ≡ said_of field value.now }
 {
     if field {
-        TextBase::Field(field_of(value))
+        TextBase::Field(field_of(value, false))
     } else {
         TextBase::Number(value.number)
     }
 }
 
-/// The field of a value that is an offset.
+/// The field of a value that is an offset, of a path or not.
 #[tactic(auto, using(crate::proofs::EntryTextLaws::field_rules))]
-fn field_of(value: &Value) -> TextField
+pub(crate) fn field_of(value: &Value, path: bool) -> OffsetField
     requires sized { (value.now.len ≡ 4) ⊎ (value.now.len ≡ 8) }
-    ensures { result ≡ record { at = value.now.at; size = value.now.len } }
+    ensures { result ≡ record { at = value.now.at; size = value.now.len; path = path } }
 {
-    TextField {
+    OffsetField {
         at: value.at,
         size: value.len as u8,
+        path,
     }
 }
 

@@ -3,4 +3,4 @@ use Rattle.dw_find.specs.MacroSections.{macros_of}
 use Rattle.dw_find.proofs.macros.push_macros.Given as goal
 
 abbrev pub invariant-loop-section : goal.invariant-loop-section
-invariant-loop-section l = l.paths.items ++ macros_of (drop l.section-index l.macros) ≡ l.fn.paths.items ++ macros_of l.macros
+invariant-loop-section l = l.paths.items ++ macros_of l.view (drop l.section-index l.macros) ≡ l.fn.paths.items ++ macros_of l.view l.macros
