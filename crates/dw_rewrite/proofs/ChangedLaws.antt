@@ -12,12 +12,12 @@ use Rattle.dw_base.specs.Texts.{is_in, laid_texts}
 use Rattle.dw_base.specs.declared.fault.Fault.{Fault}
 use Rattle.dw_base.specs.declared.fault.Fault.TheVariants.{NoMemory, Refused}
 use Rattle.dw_base.proofs.TextLaws.{laid_texts-append}
-use Rattle.dw_base.specs.declared.texts.TextField.{TextField}
+use Rattle.dw_offsets.specs.declared.fields.OffsetField.{OffsetField}
 use Rattle.dw_find.specs.Fields.{AreOffsetFields, IsOffsetField}
-use Rattle.dw_rewrite.specs.Changes.{AreFieldsOf, AreNoted, FieldSource, IsFieldOf, IsNoted, Knows, Remembers, offset_at, offset_bytes, path_at, path_of, patched, patched_at, put_at, texts_at, with_all_known, with_known}
+use Rattle.dw_rewrite.specs.Changes.{AreFieldsOf, AreNoted, FieldSource, IsFieldOf, IsNoted, Knows, Remembers, field_mention, offset_at, offset_bytes, patched, patched_at, put_at, texts_at, with_all_known, with_known}
 
 -- one field more of a list
-pub field_front : (fields : List TextField) (d : TextField) (i : ℕ) → i < length fields → drop i fields ≡ get_or fields i d ∷ drop (i + 1) fields
+pub field_front : (fields : List OffsetField) (d : OffsetField) (i : ℕ) → i < length fields → drop i fields ≡ get_or fields i d ∷ drop (i + 1) fields
 field_front fields d i lt =
     let next : suc i ≡ i + 1 = omega arith in
     drop-cons fields i d lt ∙ ap (λ (n : ℕ). get_or fields i d ∷ drop n fields) next
@@ -39,72 +39,72 @@ length-with_mention plan m ts x = by_asks (plan.asks x)
     by_asks false = omega arith
 
 -- nor do more of them
-pub length-texts_at : (plan : Plan) (m : PathMap) (s : FieldSource) (ts : List (List ℕ)) (fields : List TextField)
+pub length-texts_at : (plan : Plan) (m : PathMap) (s : FieldSource) (ts : List (List ℕ)) (fields : List OffsetField)
     → length (laid_texts ts) ≤ length (laid_texts (texts_at plan m s ts fields))
 length-texts_at plan m s ts [] = omega arith
 length-texts_at plan m s ts (f ∷ fs) =
-    omega (arith, length-with_mention plan m ts (path_at s f), length-texts_at plan m s (with_mention plan m ts (path_at s f)) fs)
+    omega (arith, length-with_mention plan m ts (field_mention s f), length-texts_at plan m s (with_mention plan m ts (field_mention s f)) fs)
 
 -- the texts of the fields that are left, from one on
-pub texts_step : (plan : Plan) (m : PathMap) (s : FieldSource) (ts : List (List ℕ)) (fields : List TextField) (i : ℕ) (f : TextField)
+pub texts_step : (plan : Plan) (m : PathMap) (s : FieldSource) (ts : List (List ℕ)) (fields : List OffsetField) (i : ℕ) (f : OffsetField)
     → i < length fields → f ≡ get_or fields i f
-    → texts_at plan m s (with_mention plan m ts (path_at s f)) (drop (i + 1) fields) ≡ texts_at plan m s ts (drop i fields)
+    → texts_at plan m s (with_mention plan m ts (field_mention s f)) (drop (i + 1) fields) ≡ texts_at plan m s ts (drop i fields)
 texts_step plan m s ts fields i f lt is =
-    sym (ap (texts_at plan m s ts) (field_front fields f i lt ∙ ap (λ (g : TextField). g ∷ drop (i + 1) fields) (sym is)))
+    sym (ap (texts_at plan m s ts) (field_front fields f i lt ∙ ap (λ (g : OffsetField). g ∷ drop (i + 1) fields) (sym is)))
 
 -- a table that is too long at a field is too long at the end
-pub refused_at : (plan : Plan) (m : PathMap) (s : FieldSource) (str : List ℕ) (ts first : List (List ℕ)) (fields : List TextField) (i : ℕ) (f : TextField) (fault : Fault)
+pub refused_at : (plan : Plan) (m : PathMap) (s : FieldSource) (str : List ℕ) (ts first : List (List ℕ)) (fields : List OffsetField) (i : ℕ) (f : OffsetField) (fault : Fault)
     → i < length fields → f ≡ get_or fields i f
     → texts_at plan m s ts (drop i fields) ≡ texts_at plan m s first fields
-    → Blames (TooLong (length (table_bytes (record { kept = str; texts = with_mention plan m ts (path_at s f) })))) fault
+    → Blames (TooLong (length (table_bytes (record { kept = str; texts = with_mention plan m ts (field_mention s f) })))) fault
     → Blames (TooLong (length (table_bytes (record { kept = str; texts = texts_at plan m s first fields })))) fault
 refused_at plan m s str ts first fields i f NoMemory lt is same b = tt
 refused_at plan m s str ts first fields i f (Refused _) lt is same (long over) =
-    let next : List (List ℕ) = with_mention plan m ts (path_at s f) in
+    let next : List (List ℕ) = with_mention plan m ts (field_mention s f) in
     let whole : texts_at plan m s next (drop (i + 1) fields) ≡ texts_at plan m s first fields = texts_step plan m s ts fields i f lt is ∙ same in
     let longer : length (laid_texts next) ≤ length (laid_texts (texts_at plan m s first fields)) =
     subst (λ (us : List (List ℕ)). length (laid_texts next) ≤ length (laid_texts us)) whole (length-texts_at plan m s next (drop (i + 1) fields)) in
     long (omega (arith, longer, over, length-append str (laid_texts next), length-append str (laid_texts (texts_at plan m s first fields))))
 
 -- the default is not asked for inside a list
-get_or-any : (fields : List TextField) (i : ℕ) (d f : TextField) → i < length fields → get_or fields i d ≡ get_or fields i f
+get_or-any : (fields : List OffsetField) (i : ℕ) (d f : OffsetField) → i < length fields → get_or fields i d ≡ get_or fields i f
 get_or-any [] i d f lt = absurd (omega arith)
 get_or-any (g ∷ gs) zero d f lt = refl
 get_or-any (g ∷ gs) (suc i) d f lt = get_or-any gs i d f (omega arith)
 
 -- one more field is noted
-pub noted_step : (plan : Plan) (s : FieldSource) (fields : List TextField) (i : ℕ) (f : TextField) (old new : ℕ → Option ℕ)
+pub noted_step : (plan : Plan) (s : FieldSource) (fields : List OffsetField) (i : ℕ) (f : OffsetField) (old new : Bool → ℕ → Option ℕ)
     → f ≡ get_or fields i f → AreNoted plan s fields i old
-    → Remembers old new → IsNoted plan s.table.bytes new (offset_at s f) → AreNoted plan s fields (i + 1) new
+    → Remembers old new → IsNoted plan s.table.bytes new f.path (offset_at s f) → AreNoted plan s fields (i + 1) new
 noted_step plan s fields i f old new is noted remembers here = record {
-  each = λ (k : ℕ) (d : TextField) (lt : k < i + 1) (within : k < length fields). elim (cases_lt k i) [
-    | inl below ↦ record { noted = λ asks. remembers.each (offset_at s (get_or fields k d)) ((noted.each k d below within).noted asks) }
+  each = λ (k : ℕ) (d : OffsetField) (lt : k < i + 1) (within : k < length fields). elim (cases_lt k i) [
+    | inl below ↦ record { noted = λ asks. remembers.each (get_or fields k d).path (offset_at s (get_or fields k d)) ((noted.each k d below within).noted asks) }
     | inr past ↦
         let same : i ≡ k = omega arith in
         let field : f ≡ get_or fields k d = is ∙ get_or-any fields i f d (omega arith) ∙ ap (λ (n : ℕ). get_or fields n d) same in
-        subst (λ (g : TextField). IsNoted plan s.table.bytes new (offset_at s g)) field here
+        subst (λ (g : OffsetField). IsNoted plan s.table.bytes new g.path (offset_at s g)) field here
   ];
 }
 
 -- none is noted
-pub noted_start : (plan : Plan) (s : FieldSource) (fields : List TextField) (known : ℕ → Option ℕ) → AreNoted plan s fields 0 known
-noted_start plan s fields known = record { each = λ (k : ℕ) (d : TextField) (lt : k < 0) within. absurd (omega arith) }
+pub noted_start : (plan : Plan) (s : FieldSource) (fields : List OffsetField) (known : Bool → ℕ → Option ℕ) → AreNoted plan s fields 0 known
+noted_start plan s fields known = record { each = λ (k : ℕ) (d : OffsetField) (lt : k < 0) within. absurd (omega arith) }
 
 -- nothing was forgotten on the way
-pub remembers_on : (first old new : ℕ → Option ℕ) → Remembers first old → Remembers old new → Remembers first new
-remembers_on first old new a b = record { each = λ (o : ℕ) is. b.each o (a.each o is) }
+pub remembers_on : (first old new : Bool → ℕ → Option ℕ) → Remembers first old → Remembers old new → Remembers first new
+remembers_on first old new a b = record { each = λ (path : Bool) (o : ℕ) is. b.each path o (a.each path o is) }
 
 -- a field of a list of them
-pub path_there : (s : FieldSource) (fields : List TextField) (i : ℕ) (f : TextField) → AreOffsetFields s.order s.table s.cells fields → i < length fields
+pub path_there : (s : FieldSource) (fields : List OffsetField) (i : ℕ) (f : OffsetField) → AreOffsetFields s.order s.table s.cells fields → i < length fields
     → f ≡ get_or fields i f → IsOffsetField s.order s.table s.cells f
 path_there s fields i f all lt is = subst (IsOffsetField s.order s.table s.cells) (sym is) (all.each i f lt)
 
 -- and of those that are fields alone
-pub field_there : (s : FieldSource) (fields : List TextField) (i : ℕ) (f : TextField) → AreFieldsOf s fields → i < length fields → f ≡ get_or fields i f → IsFieldOf s f
+pub field_there : (s : FieldSource) (fields : List OffsetField) (i : ℕ) (f : OffsetField) → AreFieldsOf s fields → i < length fields → f ≡ get_or fields i f → IsFieldOf s f
 field_there s fields i f all lt is = subst (IsFieldOf s) (sym is) (all.each i f lt)
 
--- what is put where a place is known is what its path asks for
-put_is : (asks : Bool) (s : FieldSource) (out : List ℕ) (f : TextField) (new : ℕ) (known : Option ℕ) → ((v : ℕ) → known ≡ Some v → (asks ≡ true) × (v ≡ new))
+-- what is put where a place is known is what its mention asks for
+put_is : (asks : Bool) (s : FieldSource) (out : List ℕ) (f : OffsetField) (new : ℕ) (known : Option ℕ) → ((v : ℕ) → known ≡ Some v → (asks ≡ true) × (v ≡ new))
     → (asks ≡ true → is_some known ≡ true) → with_known s out f known ≡ cond asks (put_at out f.at f.size (offset_bytes s f new)) out
 put_is true s out f new None right noted = let gone : false ≡ true = noted refl in absurd cc
 put_is true s out f new (Some v) right noted = ap (λ (n : ℕ). put_at out f.at f.size (offset_bytes s f n)) (right v refl).1
@@ -112,17 +112,17 @@ put_is false s out f new None right noted = refl
 put_is false s out f new (Some v) right noted = let gone : false ≡ true = (right v refl).0 in absurd cc
 
 -- so the known places make the patched bytes
-pub put_is_patched : (plan : Plan) (m : PathMap) (s : FieldSource) (ts : List (List ℕ)) (out : List ℕ) (fields : List TextField) (known : ℕ → Option ℕ)
+pub put_is_patched : (plan : Plan) (m : PathMap) (s : FieldSource) (ts : List (List ℕ)) (out : List ℕ) (fields : List OffsetField) (known : Bool → ℕ → Option ℕ)
     → Knows plan m s.table.bytes ts known → AreNoted plan s fields (length fields) known
     → with_all_known s known out fields ≡ patched (record { plan = plan; texts = ts }) m s out fields
 put_is_patched plan m s ts out [] known knows noted = refl
 put_is_patched plan m s ts out (f ∷ fs) known knows noted =
     let offset : ℕ = offset_at s f in
-    let first : IsNoted plan s.table.bytes known (offset_at s f) = noted.each 0 f (omega arith) (omega arith) in
-    let here : with_known s out f (known offset) ≡ patched_at (record { plan = plan; texts = ts }) m s out f =
-    put_is (plan.asks (path_of s.table.bytes offset)) s out f (new_place plan m ts (path_of s.table.bytes offset)) (known offset)
-    (λ (v : ℕ) is. ((knows.each offset v is).asks, (knows.each offset v is).place_is)) first.noted in
+    let first : IsNoted plan s.table.bytes known f.path (offset_at s f) = noted.each 0 f (omega arith) (omega arith) in
+    let here : with_known s out f (known f.path offset) ≡ patched_at (record { plan = plan; texts = ts }) m s out f =
+    put_is (plan.asks (field_mention s f)) s out f (new_place plan m ts (field_mention s f)) (known f.path offset)
+    (λ (v : ℕ) is. ((knows.each f.path offset v is).asks, (knows.each f.path offset v is).place_is)) first.noted in
     let rest : AreNoted plan s fs (length fs) known =
-    record { each = λ (k : ℕ) (d : TextField) (lt : k < length fs) (within : k < length fs). noted.each (suc k) d (omega arith) (omega arith) } in
+    record { each = λ (k : ℕ) (d : OffsetField) (lt : k < length fs) (within : k < length fs). noted.each (suc k) d (omega arith) (omega arith) } in
     ap (λ (b : List ℕ). with_all_known s known b fs) here
     ∙ put_is_patched plan m s ts (patched_at (record { plan = plan; texts = ts }) m s out f) fs known knows rest

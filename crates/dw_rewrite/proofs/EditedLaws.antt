@@ -9,7 +9,7 @@ use Rattle.dw_base.specs.InlinePaths.{inline_fits, mapped_inline}
 use Rattle.dw_base.specs.Paths.{PathMap}
 use Rattle.dw_base.specs.Pieces.{Piece, joined}
 use Rattle.dw_base.specs.Roles.{Role, fixed, offset, inline_path, line_start, role_of}
-use Rattle.dw_base.specs.StringTables.{Mention, Plan, appending, with_mention, texts_after, new_place}
+use Rattle.dw_base.specs.StringTables.{Mention, Plan, with_mention, texts_after, new_place}
 use Rattle.dw_base.specs.NewOffsets.{with_offset}
 use Rattle.dw_base.specs.TextChanges.{TableChange, TableChanges, mention_at, mentions_by, mentions_of, moved_field, moved_start, change_of, edited_by}
 use Rattle.dw_base.specs.Texts.{text, text_in}
@@ -20,18 +20,18 @@ use Rattle.dw_base.proofs.UnitEditLaws.{length-bytes_of}
 use Rattle.dw_base.proofs.UnitHeaderLaws.{bytes_of-append}
 use Rattle.dw_base.proofs.ViewCellLaws.{piece-cells}
 use Rattle.dw_base.specs.declared.debug_sections.DebugSection.TheVariants.{Line}
-use Rattle.dw_base.specs.declared.texts.TextField.{TextField}
+use Rattle.dw_offsets.specs.declared.fields.OffsetField.{OffsetField}
 use Rattle.dw_base.specs.declared.texts.TextSection.{TextSection}
 use Rattle.dw_base.specs.declared.texts.TextSection.TheVariants.{InStr, InLineStr}
-use Rattle.dw_rewrite.specs.Changes.{FieldSource, new_start, offset_at, offset_bytes, patched, patched_at, path_at, put_at, start_known, texts_at, with_all_known, with_known}
-use Rattle.dw_find.specs.SectionFields.{field_by, path_fields, inline_text}
+use Rattle.dw_rewrite.specs.Changes.{FieldSource, new_start, offset_at, offset_bytes, patched, patched_at, field_mention, put_at, start_known, texts_at, with_all_known, with_known}
+use Rattle.dw_find.specs.SectionFields.{field_by, piece_fields, inline_text}
 use Rattle.dw_rewrite.specs.UnitsAfter.{inlined_at, start_source, text_source}
 use Rattle.dw_find.proofs.PlacedLaws.{PlacedCells}
 use Rattle.dw_find.proofs.PieceFieldLaws.{FieldsFrom}
 
--- a field of a piece at a place
-abbrev field_at : ℕ → List Cell → TextField
-field_at place p = record { at = place; size = length p }
+-- a field of a piece at a place, of a path or not
+abbrev field_at : Bool → ℕ → List Cell → OffsetField
+field_at path place p = record { at = place; size = length p; path = path }
 
 -- a piece stands in cells at a place
 pub piece-there : (p more cells : List Cell) (place : ℕ) → p ++ more ≡ drop place cells → cells_at cells place (length p) ≡ p
@@ -41,49 +41,41 @@ pub bytes-there : (p more cells : List Cell) (place : ℕ) → p ++ more ≡ dro
 bytes-there p more cells place e = sym (bytes_of-append p more) ∙ ap bytes_of e ∙ bytes_of-drop place cells
 
 -- the mention of a piece is that of its field
-mention_is : (around : Around) (table : TextSection) (p more cells : List Cell) (place : ℕ) → p ++ more ≡ drop place cells
-    → mention_at around table true p ≡ path_at (text_source around cells table) (field_at place p)
-mention_is around table p more cells place e =
-    ap (λ (q : List Cell). record { path = true; text = text_in (table_of around table).bytes (offset_of around.lasting.base.order (table_of around table) q) })
+mention_is : (around : Around) (table : TextSection) (path : Bool) (p more cells : List Cell) (place : ℕ) → p ++ more ≡ drop place cells
+    → mention_at around table path p ≡ field_mention (text_source around cells table) (field_at path place p)
+mention_is around table path p more cells place e =
+    ap (λ (q : List Cell). record { path = path; text = text_in (table_of around table).bytes (offset_of around.lasting.base.order (table_of around table) q) })
     (sym (piece-there p more cells place e))
 
 -- what a piece adds to the texts
 pub piece_texts : (r : Role) (table : TextSection) (plan : Plan) (m : PathMap) (around : Around) (cells : List Cell) (ts : List (List ℕ)) (p behind : List Cell) (place : ℕ) (more : List Mention)
-    (fs : List TextField) → plan ≡ appending m (table_of around table).bytes → p ++ behind ≡ drop place cells
+    (fs : List OffsetField) → p ++ behind ≡ drop place cells
     → ((us : List (List ℕ)) → texts_after plan m us more ≡ texts_at plan m (text_source around cells table) us fs)
     → texts_after plan m ts (mentions_by r table around p ++ more) ≡ texts_at plan m (text_source around cells table) ts (field_by table r place (length p) ++ fs)
-piece_texts fixed InStr plan m around cells ts p behind place more fs is e h = h ts
-piece_texts fixed InLineStr plan m around cells ts p behind place more fs is e h = h ts
-piece_texts inline_path InStr plan m around cells ts p behind place more fs is e h = h ts
-piece_texts inline_path InLineStr plan m around cells ts p behind place more fs is e h = h ts
-piece_texts line_start InStr plan m around cells ts p behind place more fs is e h = h ts
-piece_texts line_start InLineStr plan m around cells ts p behind place more fs is e h = h ts
-piece_texts (offset InStr true) InStr plan m around cells ts p behind place more fs is e h =
-    ap (λ (x : Mention). texts_after plan m (with_mention plan m ts x) more) (mention_is around InStr p behind cells place e)
-    ∙ h (with_mention plan m ts (path_at (text_source around cells InStr) (field_at place p)))
-piece_texts (offset InStr true) InLineStr plan m around cells ts p behind place more fs is e h = h ts
-piece_texts (offset InLineStr true) InStr plan m around cells ts p behind place more fs is e h = h ts
-piece_texts (offset InLineStr true) InLineStr plan m around cells ts p behind place more fs is e h =
-    ap (λ (x : Mention). texts_after plan m (with_mention plan m ts x) more) (mention_is around InLineStr p behind cells place e)
-    ∙ h (with_mention plan m ts (path_at (text_source around cells InLineStr) (field_at place p)))
-piece_texts (offset InStr false) InStr plan m around cells ts p behind place more fs is e h =
-    let none : with_mention plan m ts (mention_at around InStr false p) ≡ ts = rw is refl in
-    ap (λ (us : List (List ℕ)). texts_after plan m us more) none ∙ h ts
-piece_texts (offset InStr false) InLineStr plan m around cells ts p behind place more fs is e h = h ts
-piece_texts (offset InLineStr false) InStr plan m around cells ts p behind place more fs is e h = h ts
-piece_texts (offset InLineStr false) InLineStr plan m around cells ts p behind place more fs is e h =
-    let none : with_mention plan m ts (mention_at around InLineStr false p) ≡ ts = rw is refl in
-    ap (λ (us : List (List ℕ)). texts_after plan m us more) none ∙ h ts
+piece_texts fixed InStr plan m around cells ts p behind place more fs e h = h ts
+piece_texts fixed InLineStr plan m around cells ts p behind place more fs e h = h ts
+piece_texts inline_path InStr plan m around cells ts p behind place more fs e h = h ts
+piece_texts inline_path InLineStr plan m around cells ts p behind place more fs e h = h ts
+piece_texts line_start InStr plan m around cells ts p behind place more fs e h = h ts
+piece_texts line_start InLineStr plan m around cells ts p behind place more fs e h = h ts
+piece_texts (offset InStr path) InStr plan m around cells ts p behind place more fs e h =
+    ap (λ (x : Mention). texts_after plan m (with_mention plan m ts x) more) (mention_is around InStr path p behind cells place e)
+    ∙ h (with_mention plan m ts (field_mention (text_source around cells InStr) (field_at path place p)))
+piece_texts (offset InStr path) InLineStr plan m around cells ts p behind place more fs e h = h ts
+piece_texts (offset InLineStr path) InStr plan m around cells ts p behind place more fs e h = h ts
+piece_texts (offset InLineStr path) InLineStr plan m around cells ts p behind place more fs e h =
+    ap (λ (x : Mention). texts_after plan m (with_mention plan m ts x) more) (mention_is around InLineStr path p behind cells place e)
+    ∙ h (with_mention plan m ts (field_mention (text_source around cells InLineStr) (field_at path place p)))
 
 -- the texts of pieces are those of their fields
 pub texts_by_fields : (table : TextSection) (plan : Plan) (m : PathMap) (around : Around) (cells : List Cell) (ts : List (List ℕ)) (place : ℕ) (xs : List (Piece UnitState))
-    → plan ≡ appending m (table_of around table).bytes → PlacedCells cells place xs
-    → texts_after plan m ts (mentions_of table around xs) ≡ texts_at plan m (text_source around cells table) ts (path_fields table xs)
-texts_by_fields table plan m around cells ts place [] is l = refl
-texts_by_fields table plan m around cells ts place (x ∷ xs) is l =
-    piece_texts (role_of x) table plan m around cells ts x.cells (joined xs) place (mentions_of table around xs) (path_fields table xs) is l.1
-    (λ (us : List (List ℕ)). texts_by_fields table plan m around cells us (place + length x.cells) xs is l.2)
-    ∙ ap (λ (i : ℕ). texts_at plan m (text_source around cells table) ts (field_by table (role_of x) i (length x.cells) ++ path_fields table xs)) (sym l.0)
+    → PlacedCells cells place xs
+    → texts_after plan m ts (mentions_of table around xs) ≡ texts_at plan m (text_source around cells table) ts (piece_fields table xs)
+texts_by_fields table plan m around cells ts place [] l = refl
+texts_by_fields table plan m around cells ts place (x ∷ xs) l =
+    piece_texts (role_of x) table plan m around cells ts x.cells (joined xs) place (mentions_of table around xs) (piece_fields table xs) l.1
+    (λ (us : List (List ℕ)). texts_by_fields table plan m around cells us (place + length x.cells) xs l.2)
+    ∙ ap (λ (i : ℕ). texts_at plan m (text_source around cells table) ts (field_by table (role_of x) i (length x.cells) ++ piece_fields table xs)) (sym l.0)
 
 -- these bytes, behind a front, go from one to another, whatever follows them
 abbrev pub Turns : (List ℕ → List ℕ) → List ℕ → List ℕ → List ℕ → Type 0
@@ -100,39 +92,39 @@ put_behind front p q rest place n at size =
     ∙ ap (λ (b : List ℕ). front ++ q ++ b) behind ∙ append_assoc front q rest
 
 -- what a field that asks for a new place becomes
-field_turns : (asks : Bool) (s : FieldSource) (front : List ℕ) (p : List Cell) (rest : List ℕ) (place x : ℕ) → length front ≡ place → cells_at s.cells place (length p) ≡ p
-    → cond asks (put_at (front ++ (bytes_of p ++ rest)) place (length p) (offset_bytes s (field_at place p) x)) (front ++ (bytes_of p ++ rest))
+field_turns : (asks path : Bool) (s : FieldSource) (front : List ℕ) (p : List Cell) (rest : List ℕ) (place x : ℕ) → length front ≡ place → cells_at s.cells place (length p) ≡ p
+    → cond asks (put_at (front ++ (bytes_of p ++ rest)) place (length p) (offset_bytes s (field_at path place p) x)) (front ++ (bytes_of p ++ rest))
     ≡ front ++ (bytes_of (cond asks (with_offset s.order p x) p) ++ rest)
-field_turns true s front p rest place x at there =
-    put_behind front (bytes_of p) (offset_bytes s (field_at place p) x) rest place (length p) at (length-bytes_of p)
+field_turns true path s front p rest place x at there =
+    put_behind front (bytes_of p) (offset_bytes s (field_at path place p) x) rest place (length p) at (length-bytes_of p)
     ∙ ap (λ (q : List Cell). front ++ (bytes_of (with_offset s.order q x) ++ rest)) there
-field_turns false s front p rest place x at there = refl
+field_turns false path s front p rest place x at there = refl
 
-pub patched_turns : (table : TextSection) (changes : TableChanges) (around : Around) (cells : List Cell) (front : List ℕ) (p behind : List Cell) (place : ℕ)
+pub patched_turns : (table : TextSection) (path : Bool) (changes : TableChanges) (around : Around) (cells : List Cell) (front : List ℕ) (p behind : List Cell) (place : ℕ)
     → length front ≡ place → p ++ behind ≡ drop place cells
-    → Turns (λ out. patched_at (change_of changes table) changes.map (text_source around cells table) out (field_at place p)) front (bytes_of p)
-    (bytes_of (edited_by (offset table true) changes around p))
-patched_turns table changes around cells front p behind place at e rest =
-    let x : Mention = path_at (text_source around cells table) (field_at place p) in
-    let same : mention_at around table true p ≡ path_at (text_source around cells table) (field_at place p) = mention_is around table p behind cells place e in
-    field_turns ((change_of changes table).plan.asks x) (text_source around cells table) front p rest place
+    → Turns (λ out. patched_at (change_of changes table) changes.map (text_source around cells table) out (field_at path place p)) front (bytes_of p)
+    (bytes_of (edited_by (offset table path) changes around p))
+patched_turns table path changes around cells front p behind place at e rest =
+    let x : Mention = field_mention (text_source around cells table) (field_at path place p) in
+    let same : mention_at around table path p ≡ field_mention (text_source around cells table) (field_at path place p) = mention_is around table path p behind cells place e in
+    field_turns ((change_of changes table).plan.asks x) path (text_source around cells table) front p rest place
     (new_place (change_of changes table).plan changes.map (change_of changes table).texts x) at (piece-there p behind cells place e)
     ∙ ap (λ (y : Mention). front ++ (bytes_of (moved_field (change_of changes table) changes.map around.lasting.base.order y p) ++ rest)) (sym same)
 
 -- a field that says where a line table starts
 start_put : (s : FieldSource) (news : List ℕ) (number : Option ℕ) (front : List ℕ) (p : List Cell) (rest : List ℕ) (place : ℕ) → length front ≡ place → cells_at s.cells place (length p) ≡ p
-    → with_known s (front ++ (bytes_of p ++ rest)) (field_at place p) (new_start news number) ≡ front ++ (bytes_of (moved_start news s.order number p) ++ rest)
+    → with_known s (front ++ (bytes_of p ++ rest)) (field_at false place p) (new_start news number) ≡ front ++ (bytes_of (moved_start news s.order number p) ++ rest)
 start_put s news None front p rest place at there = refl
-start_put s news (Some k) front p rest place at there = field_turns true s front p rest place (get_or news k 0) at there
+start_put s news (Some k) front p rest place at there = field_turns true false s front p rest place (get_or news k 0) at there
 
 pub start_turns : (changes : TableChanges) (around : Around) (cells : List Cell) (front : List ℕ) (p behind : List Cell) (place : ℕ)
     → length front ≡ place → p ++ behind ≡ drop place cells
-    → Turns (λ out. with_known (start_source around cells) out (field_at place p)
-    (start_known (around.stands Line).starts (starts_from 0 (changes.new Line)) (offset_at (start_source around cells) (field_at place p)))) front (bytes_of p)
+    → Turns (λ out. with_known (start_source around cells) out (field_at false place p)
+    (start_known (around.stands Line).starts (starts_from 0 (changes.new Line)) false (offset_at (start_source around cells) (field_at false place p)))) front (bytes_of p)
     (bytes_of (edited_by line_start changes around p))
 start_turns changes around cells front p behind place at e rest =
     let there : cells_at cells place (length p) ≡ p = piece-there p behind cells place e in
-    start_put (start_source around cells) (starts_from 0 (changes.new Line)) (start_number 0 (around.stands Line).starts (offset_at (start_source around cells) (field_at place p))) front p rest place at there
+    start_put (start_source around cells) (starts_from 0 (changes.new Line)) (start_number 0 (around.stands Line).starts (offset_at (start_source around cells) (field_at false place p))) front p rest place at there
     ∙ ap (λ (q : List Cell). front ++ (bytes_of (moved_start (starts_from 0 (changes.new Line)) around.lasting.base.order
     (start_number 0 (around.stands Line).starts (offset_of around.lasting.base.order (around.stands Line).located q)) p) ++ rest)) there
 
@@ -196,27 +188,27 @@ field-behind : (asks : Bool) (n at size : ℕ) (bytes rest : List ℕ) → n ≤
 field-behind true n at size bytes rest le = put-behind n at size bytes rest le
 field-behind false n at size bytes rest le = behind-same n rest
 
-pub patched-behind : (c : TableChange) (m : PathMap) (s : FieldSource) (n : ℕ) (fs : List TextField) (rest : List ℕ) → FieldsFrom n fs
+pub patched-behind : (c : TableChange) (m : PathMap) (s : FieldSource) (n : ℕ) (fs : List OffsetField) (rest : List ℕ) → FieldsFrom n fs
     → Behind (λ out. patched c m s out fs) n rest
 patched-behind c m s n [] rest h = behind-same n rest
 patched-behind c m s n (f ∷ fs) rest h =
     let here : Behind (λ out. patched_at c m s out f) n rest =
-    field-behind (c.plan.asks (path_at s f)) n f.at f.size (offset_bytes s f (new_place c.plan m c.texts (path_at s f))) rest h.0 in
+    field-behind (c.plan.asks (field_mention s f)) n f.at f.size (offset_bytes s f (new_place c.plan m c.texts (field_mention s f))) rest h.0 in
     let more : Behind (λ out. patched c m s out fs) n here.after = patched-behind c m s n fs here.after h.1 in
     record {
       after = more.after;
       is = λ (front : List ℕ) (e : length front ≡ n). ap (λ (out : List ℕ). patched c m s out fs) (here.is front e) ∙ more.is front e;
     }
 
-known-put : (s : FieldSource) (n : ℕ) (f : TextField) (new : Option ℕ) (rest : List ℕ) → n ≤ f.at → Behind (λ out. with_known s out f new) n rest
+known-put : (s : FieldSource) (n : ℕ) (f : OffsetField) (new : Option ℕ) (rest : List ℕ) → n ≤ f.at → Behind (λ out. with_known s out f new) n rest
 known-put s n f None rest le = behind-same n rest
 known-put s n f (Some x) rest le = put-behind n f.at f.size (offset_bytes s f x) rest le
 
-pub known-behind : (s : FieldSource) (known : ℕ → Option ℕ) (n : ℕ) (fs : List TextField) (rest : List ℕ) → FieldsFrom n fs
+pub known-behind : (s : FieldSource) (known : Bool → ℕ → Option ℕ) (n : ℕ) (fs : List OffsetField) (rest : List ℕ) → FieldsFrom n fs
     → Behind (λ out. with_all_known s known out fs) n rest
 known-behind s known n [] rest h = behind-same n rest
 known-behind s known n (f ∷ fs) rest h =
-    let here : Behind (λ out. with_known s out f (known (offset_at s f))) n rest = known-put s n f (known (offset_at s f)) rest h.0 in
+    let here : Behind (λ out. with_known s out f (known f.path (offset_at s f))) n rest = known-put s n f (known f.path (offset_at s f)) rest h.0 in
     let more : Behind (λ out. with_all_known s known out fs) n here.after = known-behind s known n fs here.after h.1 in
     record {
       after = more.after;

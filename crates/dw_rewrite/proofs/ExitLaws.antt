@@ -59,6 +59,7 @@ use Rattle.dw_base.proofs.ReadsBackLaws.{reads_back-same, with_bodies-same}
 use Rattle.dw_base.proofs.SectionLaws.{length-contents}
 use Rattle.dw_meaning.proofs.TableKeptLaws.{TablePlace, nowhere, lies_at}
 use Rattle.dw_rewrite.specs.Bodies.{BodiesRefuse, FileBodiesMade, long_table, held_bodies, moved_numbers}
+use Rattle.dw_find.specs.AllFields.{Fields}
 use Rattle.dw_find.specs.FoundPaths.{PathsFound, PathsRefuse}
 use Rattle.dw_rewrite.specs.Bodies.BodiesRefuse.{addend_of, line_table_of, long_lines_of, long_table_of}
 use Rattle.dw_find.specs.FoundPaths.PathsRefuse.{units as paths_units, starts as paths_starts, inline as paths_inline, string_tables as paths_string_tables, name_tables as paths_name_tables, name_offsets as paths_name_offsets, relocations as paths_relocations, slots as paths_slots, shared as paths_shared}
@@ -66,7 +67,6 @@ use Rattle.dw_rewrite.specs.CheckedFiles.{IsChecked}
 use Rattle.dw_rewrite.specs.Rewritten.{AllStand, IsInFile, body_with, long_fault, long_or, long_refusal, told_refusal}
 use Rattle.dw_find.specs.MacroSections.{SectionUnits, UnitsFailIn, UnitsFoundIn}
 use Rattle.dw_find.specs.MacroSections.UnitsFailIn.{units as units_fail, offsets as offsets_fail}
-use Rattle.dw_find.specs.SectionFields.{SectionFields}
 use Rattle.dw_find.specs.UnitTexts.UnitsRefuse.{data_fails, header_fails, relocation_fails, text_fails}
 use Rattle.dw_rewrite.proofs.FileBodyLaws.{alloc-stays, bodies-same}
 use Rattle.dw_rewrite.proofs.MovedNumberLaws.{are-moved}
@@ -134,7 +134,7 @@ pub refused_paths : (m : PathMap) (b : List ℕ) (v : View) (f : Fault) → IsCh
 refused_paths m b v NoMemory j is h = tt
 refused_paths m b v (Refused r) j is h = data_fail m b r j.elf (subst (λ (w : View). PathsRefuse m w r) is h)
 
-pub found_paths : (m : PathMap) (b : List ℕ) (v : View) (us : List SectionFields) (ts : List LineTable) → v ≡ view_of b → PathsFound m v us ts → PathsFound m (view_of b) us ts
+pub found_paths : (m : PathMap) (b : List ℕ) (v : View) (us : Fields) (ts : List LineTable) → v ≡ view_of b → PathsFound m v us ts → PathsFound m (view_of b) us ts
 found_paths m b v us ts is h = subst (λ (w : View). PathsFound m w us ts) is h
 
 pub seen_tables : (b : List ℕ) (v : View) (ts : List LineTable) → v ≡ view_of b → TablesFound (view_of b) ts → TablesFound v ts
@@ -183,7 +183,7 @@ reads_checked b r j on_data reads = record {
   data_reads = reads;
 }
 
-pub seen_paths : (m : PathMap) (b : List ℕ) (v : View) (us : List SectionFields) (ts : List LineTable) → v ≡ view_of b → PathsFound m (view_of b) us ts → PathsFound m v us ts
+pub seen_paths : (m : PathMap) (b : List ℕ) (v : View) (us : Fields) (ts : List LineTable) → v ≡ view_of b → PathsFound m (view_of b) us ts → PathsFound m v us ts
 seen_paths m b v us ts is h = subst (λ (w : View). PathsFound m w us ts) (sym is) h
 
 pub seen_view : (b s : List ℕ) (v : View) → v ≡ view_of b → s ≡ b → v ≡ view_of s
@@ -315,7 +315,7 @@ long_fails m b (Refused x) small j on (addend_of r reads fits fails) =
     let other : IsOther x = addend_other (changes_of m (around_of (file_data b) r) r) (file_data b) (around_of (file_data b) r) r x fails in
     subst (EditFails m b) (sym (other_told b x other)) (addends_row r (reads_checked b r j on reads) fits fails)
 
-pub refused_bodies : (m : PathMap) (b : List ℕ) (v : View) (us : List SectionFields) (ts : List LineTable) (f told : Fault) → length b ≤ output_limit → IsChecked b
+pub refused_bodies : (m : PathMap) (b : List ℕ) (v : View) (us : Fields) (ts : List LineTable) (f told : Fault) → length b ≤ output_limit → IsChecked b
     → PathsFound m (view_of b) us ts → v ≡ view_of b → Blames (BodiesRefuse m (debug_data v)) f → told ≡ long_fault b f → Blames (EditFails m b) told
 refused_bodies m b v us ts f told small j found same h is =
     subst (λ (x : Fault). Blames (EditFails m b) x) (sym is)
@@ -335,7 +335,7 @@ in_file m b (Refused x) j (addend_of r reads fits fails) =
 pub told_in_file : (m : PathMap) (b : List ℕ) (v : View) (f : Fault) → IsChecked b → v ≡ view_of b → Blames (BodiesRefuse m (debug_data v)) f → Blames (IsInFile b) f
 told_in_file m b v f j same h = in_file m b f j (subst (λ (w : View). Blames (BodiesRefuse m (debug_data w)) f) same h)
 
-pub ruleset bodies_rules = (seen_paths, seen_macros, seen_view, seen_relocations, seen_bytes, made_bodies, told_in_file)
+pub ruleset bodies_rules = (seen_paths, seen_view, seen_relocations, seen_bytes, made_bodies, told_in_file)
 
 -- What was written is the output of a file that is taken.
 can_map : (m : PathMap) (b : List ℕ) (bodies : List Body) → IsPathMap m → IsChecked b → (d : FileBodiesMade m b bodies) → CanMap m b d.readings

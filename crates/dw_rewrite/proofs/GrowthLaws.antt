@@ -1,5 +1,5 @@
 -- A table of texts grows by the paths of sections, one after another.
-use Rattle.std.proofs.Common.{◌≡◌, ◌≢◌, inl, inr, ℕ, zero, suc, ◌+◌, ◌≤◌, ◌<◌, List, [], ◌∷◌, ◌++◌, length, get_or, drop, Option, Some, None, refl, sym, ap, ◌∙◌, subst, arith}
+use Rattle.std.proofs.Common.{Bool, ◌≡◌, ◌≢◌, inl, inr, ℕ, zero, suc, ◌+◌, ◌≤◌, ◌<◌, List, [], ◌∷◌, ◌++◌, length, get_or, drop, Option, Some, None, refl, sym, ap, ◌∙◌, subst, arith}
 use Rattle.std.proofs.Math.Seq.{drop-cons}
 use Rattle.std.proofs.lemmas.Bool.{cases_lt}
 use Rattle.std.proofs.lemmas.List.{length-append, drop_all}
@@ -10,7 +10,7 @@ use Rattle.dw_base.specs.Layout.{output_limit}
 use Rattle.dw_base.specs.LayoutFails.{TooLong, long}
 use Rattle.dw_base.specs.Paths.{PathMap}
 use Rattle.dw_base.specs.Refusals.{Blames}
-use Rattle.dw_base.specs.StringTables.{TextTable, table_bytes}
+use Rattle.dw_base.specs.StringTables.{TextTable, appending, table_bytes}
 use Rattle.dw_base.specs.Texts.{laid_texts}
 use Rattle.dw_base.specs.ViewData.{debug_data, located, located_at}
 use Rattle.dw_base.specs.declared.debug_sections.DebugSection.{DebugSection}
@@ -20,15 +20,16 @@ use Rattle.dw_base.specs.declared.fault.Fault.TheVariants.{NoMemory, Refused}
 use Rattle.dw_base.proofs.FileViewLaws.{section_after-within}
 use Rattle.dw_base.proofs.TextLaws.{ends_in-inside}
 use Rattle.dw_base.proofs.ViewCellLaws.{lines-located}
-use Rattle.dw_base.specs.declared.texts.TextField.{TextField}
+use Rattle.dw_offsets.specs.declared.fields.OffsetField.{OffsetField}
 use Rattle.dw_base.specs.declared.texts.TextSection.{TextSection}
 use Rattle.dw_base.specs.declared.texts.TextSection.TheVariants.{InStr, InLineStr}
 use Rattle.dw_find.specs.Fields.{AreOffsetFields, IsOffsetField}
-use Rattle.dw_rewrite.specs.Changes.{FieldSource, Remembers, texts_at}
+use Rattle.dw_rewrite.specs.Changes.{AreNoted, FieldSource, Knows, Remembers, texts_at}
 use Rattle.dw_find.specs.ViewFields.{AllHaveOffsets, AllHavePlaces, HasOffsets, HasPlaces, fields_of, offsets_in, table_number}
-use Rattle.dw_rewrite.specs.NewTables.{plan_in, section_texts_at, source_in, source_into, table_into, texts_of, all_texts_at, IsSectionNoted, AllNoted, Growing, GrownBy, TableMade, table_with, fault_at, LongTable, TablesRefuse, long_table, one_is_long}
+use Rattle.dw_rewrite.specs.NewTables.{plan_in, section_texts_at, source_in, source_into, table_into, texts_of, all_texts_at, IsSectionNoted, AllNoted, Growing, GrownBy, GrownByAll, TableMade, table_with, fault_at, LongTable, TablesRefuse, long_table, one_is_long}
 use Rattle.dw_find.specs.SectionFields.{SectionFields}
-use Rattle.dw_rewrite.proofs.ChangedLaws.{length-texts_at}
+use Rattle.dw_rewrite.proofs.ChangedLaws.{length-texts_at, remembers_on}
+use Rattle.dw_rewrite.proofs.NewOffsetLaws.{remembers_all}
 use Rattle.dw_find.proofs.PlaceValueLaws.{EachOf, each-get}
 
 -- where fields hold offsets into a table of texts, and into the line tables, as the code has it
@@ -75,7 +76,7 @@ into-none v section s e = into-source v section s None e
 pub ruleset into_rules = (into-some, into-none)
 
 -- what holds of a source and fields holds of those that are the same
-pub moved : (P : FieldSource → List TextField → Type 0) (s q : FieldSource) (f g : List TextField) → s ≡ q → f ≡ g → P s f → P q g
+pub moved : (P : FieldSource → List OffsetField → Type 0) (s q : FieldSource) (f g : List OffsetField) → s ≡ q → f ≡ g → P s f → P q g
 moved P s q f g es ef h = subst (λ (x : FieldSource). P x g) es (subst (P s) ef h)
 
 own-fields : (v : View) (u : SectionFields) (table : TextSection) → HasOffsets v u → AreOffsetFields v.order (texts_of v table) (view_cells v u.number) (fields_of table u)
@@ -83,7 +84,7 @@ own-fields v u InStr h = h.str
 own-fields v u InLineStr h = h.line_str
 
 -- no fields are fields of an empty table
-no-fields : (s : FieldSource) (fields : List TextField) → s.table.bytes ≡ [] → AreOffsetFields s.order s.table s.cells fields → fields ≡ []
+no-fields : (s : FieldSource) (fields : List OffsetField) → s.table.bytes ≡ [] → AreOffsetFields s.order s.table s.cells fields → fields ≡ []
 no-fields s [] none are = refl
 no-fields s (f ∷ fs) none are =
     let one : IsOffsetField s.order s.table s.cells f = are.each 0 f (omega arith) in
@@ -95,7 +96,7 @@ no-texts : (m : PathMap) (v : View) (table : TextSection) (ts : List (List ℕ))
 no-texts m v table ts [] none each = refl
 no-texts m v table ts (u ∷ us) none each =
     let fields : fields_of table u ≡ [] = no-fields (source_in v u.number table) (fields_of table u) none (own-fields v u table each.0) in
-    ap (λ (fs : List TextField). all_texts_at m v table (texts_at (plan_in m v table) m (source_in v u.number table) ts fs) us) fields
+    ap (λ (fs : List OffsetField). all_texts_at m v table (texts_at (plan_in m v table) m (source_in v u.number table) ts fs) us) fields
     ∙ no-texts m v table ts us none each.1
 
 -- a table that isn't there is empty
@@ -133,6 +134,30 @@ offsets-there v u h = h.there
 
 pub ruleset section_rules = (offsets-there)
 
+-- what is known of a table by a section's source is known of it
+pub source-knows : (m : PathMap) (v : View) (table : TextSection) (n : ℕ) (s : FieldSource) (ts : List (List ℕ)) (known : Bool → ℕ → Option ℕ) → s ≡ source_in v n table
+    → Knows (plan_in m v table) m (texts_of v table).bytes ts known → Knows (appending m s.table.bytes) m s.table.bytes ts known
+source-knows m v table n s ts known is h = subst (λ (x : FieldSource). Knows (appending m x.table.bytes) m x.table.bytes ts known) (sym is) h
+
+-- it has grown by the paths of the section
+pub section-grown : (m : PathMap) (v : View) (table : TextSection) (u : SectionFields) (n : ℕ) (s : FieldSource) (fields : List OffsetField) (old new : TextTable) (was known : Bool → ℕ → Option ℕ)
+    → n ≡ u.number → s ≡ source_in v n table → fields ≡ fields_of table u → new.kept ≡ s.table.bytes → length (table_bytes new) ≤ output_limit
+    → new.texts ≡ texts_at (appending m s.table.bytes) m s old.texts fields → Knows (appending m s.table.bytes) m s.table.bytes new.texts known
+    → AreNoted (appending m s.table.bytes) s fields (length fields) known → Remembers was known → GrownBy m v table u old new was known
+section-grown m v table u n s fields old new was known number is are kept small texts knows noted remembers =
+    let own : s ≡ source_in v u.number table = is ∙ ap (λ (k : ℕ). source_in v k table) number in
+    record {
+      grown = record {
+        kept = kept ∙ ap (λ (x : FieldSource). x.table.bytes) own;
+        small = small;
+        knows = subst (λ (x : FieldSource). Knows (appending m x.table.bytes) m x.table.bytes new.texts known) own knows;
+      };
+      texts = texts ∙ ap (λ (x : FieldSource). texts_at (appending m x.table.bytes) m x old.texts fields) own
+          ∙ ap (texts_at (plan_in m v table) m (source_in v u.number table) old.texts) are;
+      noted = moved (λ (x : FieldSource) (fs : List OffsetField). AreNoted (appending m x.table.bytes) x fs (length fs) known) s (source_in v u.number table) fields (fields_of table u) own are noted;
+      remembers = remembers;
+    }
+
 long-there : (m : PathMap) (v : View) (t : TextSection) (us : List SectionFields) → AllHaveOffsets v us
     → output_limit < length (table_bytes (table_with v t (all_texts_at m v t [] us))) → table_number (debug_data v) t ≢ 0
 long-there m v t us placed over zero_ =
@@ -153,7 +178,7 @@ table-row m v t us (Refused r) g n placed (long over) number is =
 pub ruleset table_rules = (table-row)
 
 -- one of the two tables is made with the new places that are known in it, or would be too long
-pub known-made : {m : PathMap} {v : View} {table : TextSection} {us : List SectionFields} {pool : TextTable} {known new : ℕ → Option ℕ} → new ≡ known
+pub known-made : {m : PathMap} {v : View} {table : TextSection} {us : List SectionFields} {pool : TextTable} {known new : Bool → ℕ → Option ℕ} → new ≡ known
     → TableMade m v table us pool known → TableMade m v table us pool new
 known-made {m} {v} {table} {us} {pool} e made = subst (TableMade m v table us pool) (sym e) made
 
@@ -161,11 +186,22 @@ pub tables-row : (m : PathMap) (v : View) (t : TextSection) (us : List SectionFi
 tables-row m v t us NoMemory b = tt
 tables-row m v t us (Refused r) b = one_is_long t b
 
--- where a pass over sections stands
-pub record TablePass (m : PathMap) (v : View) (table : TextSection) (us : List SectionFields) (pool : TextTable) (known : ℕ → Option ℕ) (i : ℕ) : Type 0 where
+-- where a pass over sections stands, by the texts and the places in front of it
+pub record TablePass (m : PathMap) (v : View) (table : TextSection) (us : List SectionFields) (front : List (List ℕ)) (first : Bool → ℕ → Option ℕ) (pool : TextTable)
+    (known : Bool → ℕ → Option ℕ) (i : ℕ) : Type 0 where
   pub grown : Growing m v table pool known
-  pub texts : all_texts_at m v table pool.texts (drop i us) ≡ all_texts_at m v table [] us
+  pub texts : all_texts_at m v table pool.texts (drop i us) ≡ all_texts_at m v table front us
   pub noted : AllNoted m v table us i known
+  pub remembers : Remembers first known
+
+pub pass-starts : (m : PathMap) (v : View) (table : TextSection) (us : List SectionFields) (pool : TextTable) (known : Bool → ℕ → Option ℕ) → Growing m v table pool known
+    → TablePass m v table us pool.texts known pool known 0
+pass-starts m v table us pool known g = record {
+  grown = g;
+  texts = refl;
+  noted = record { each = λ (k : ℕ) (d : SectionFields) below within. absurd (omega (arith, below)) };
+  remembers = remembers_all known;
+}
 
 sections-front : (us : List SectionFields) (u : SectionFields) (i : ℕ) → i < length us → u ≡ get_or us i u → drop i us ≡ u ∷ drop (i + 1) us
 sections-front us u i lt is =
@@ -177,15 +213,16 @@ get_or-any [] i d u lt = absurd (omega arith)
 get_or-any (x ∷ xs) zero d u lt = refl
 get_or-any (x ∷ xs) (suc i) d u lt = get_or-any xs i d u (omega arith)
 
-noted-later : (m : PathMap) (v : View) (table : TextSection) (u : SectionFields) (old new : ℕ → Option ℕ) → Remembers old new → IsSectionNoted m v table u old
+pub noted-later : (m : PathMap) (v : View) (table : TextSection) (u : SectionFields) (old new : Bool → ℕ → Option ℕ) → Remembers old new → IsSectionNoted m v table u old
     → IsSectionNoted m v table u new
 noted-later m v table u old new r n = record {
-  each = λ (k : ℕ) (d : TextField) lt within. record { noted = λ asks. r.each _ ((n.each k d lt within).noted asks) };
+  each = λ (k : ℕ) (d : OffsetField) lt within. record { noted = λ asks. r.each _ _ ((n.each k d lt within).noted asks) };
 }
 
-pub pass-more : (m : PathMap) (v : View) (table : TextSection) (us : List SectionFields) (old new : TextTable) (was known : ℕ → Option ℕ) (i : ℕ) (u : SectionFields) → i < length us
-    → u ≡ get_or us i u → TablePass m v table us old was i → GrownBy m v table u old new was known → TablePass m v table us new known (i + 1)
-pass-more m v table us old new was known i u lt is p g = record {
+pub pass-more : (m : PathMap) (v : View) (table : TextSection) (us : List SectionFields) (front : List (List ℕ)) (first : Bool → ℕ → Option ℕ) (old new : TextTable) (was known : Bool → ℕ → Option ℕ)
+    (i : ℕ) (u : SectionFields) → i < length us → u ≡ get_or us i u → TablePass m v table us front first old was i → GrownBy m v table u old new was known
+    → TablePass m v table us front first new known (i + 1)
+pass-more m v table us front first old new was known i u lt is p g = record {
   grown = g.grown;
   texts = ap (λ (ts : List (List ℕ)). all_texts_at m v table ts (drop (i + 1) us)) g.texts
       ∙ sym (ap (all_texts_at m v table old.texts) (sections-front us u i lt is)) ∙ p.texts;
@@ -198,31 +235,37 @@ pass-more m v table us old new was known i u lt is p g = record {
           subst (λ (x : SectionFields). IsSectionNoted m v table x known) here g.noted
     ];
   };
+  remembers = remembers_on first was known p.remembers g.remembers;
 }
 
-pub pass-ends : (m : PathMap) (v : View) (table : TextSection) (us : List SectionFields) (pool : TextTable) (known : ℕ → Option ℕ) (i : ℕ) → length us ≤ i
-    → TablePass m v table us pool known i → TableMade m v table us pool known
-pass-ends m v table us pool known i end p = record {
+pub pass-ends : (m : PathMap) (v : View) (table : TextSection) (us : List SectionFields) (old pool : TextTable) (first known : Bool → ℕ → Option ℕ) (i : ℕ) → length us ≤ i
+    → TablePass m v table us old.texts first pool known i → GrownByAll m v table us old pool first known
+pass-ends m v table us old pool first known i end p = record {
   grown = p.grown;
   texts = ap (all_texts_at m v table pool.texts) (sym (drop_all i us end)) ∙ p.texts;
   noted = record { each = λ (k : ℕ) (d : SectionFields) lt within. p.noted.each k d (omega (arith, end, within)) within };
+  remembers = p.remembers;
 }
 
-length-all_texts : (m : PathMap) (v : View) (table : TextSection) (ts : List (List ℕ)) (us : List SectionFields) → length (laid_texts ts) ≤ length (laid_texts (all_texts_at m v table ts us))
+pub length-all_texts : (m : PathMap) (v : View) (table : TextSection) (ts : List (List ℕ)) (us : List SectionFields) → length (laid_texts ts) ≤ length (laid_texts (all_texts_at m v table ts us))
 length-all_texts m v table ts [] = omega arith
 length-all_texts m v table ts (u ∷ us) =
     omega (arith, length-texts_at (plan_in m v table) m (source_in v u.number table) ts (fields_of table u), length-all_texts m v table (section_texts_at m v table ts u) us)
 
-pub pass-refused : (m : PathMap) (v : View) (table : TextSection) (us : List SectionFields) (pool : TextTable) (known : ℕ → Option ℕ) (i : ℕ) (u : SectionFields) (f : Fault) → i < length us
-    → u ≡ get_or us i u → TablePass m v table us pool known i → Blames (TooLong (length (table_bytes (table_with v table (section_texts_at m v table pool.texts u))))) f
-    → Blames (TooLong (length (table_bytes (table_with v table (all_texts_at m v table [] us))))) f
-pass-refused m v table us pool known i u NoMemory lt is p b = tt
-pass-refused m v table us pool known i u (Refused _) lt is p (long over) =
-    let next : List (List ℕ) = section_texts_at m v table pool.texts u in
-    let whole : all_texts_at m v table next (drop (i + 1) us) ≡ all_texts_at m v table [] us =
-    sym (ap (all_texts_at m v table pool.texts) (sections-front us u i lt is)) ∙ p.texts in
-    let longer : length (laid_texts next) ≤ length (laid_texts (all_texts_at m v table [] us)) =
-    subst (λ (ts : List (List ℕ)). length (laid_texts next) ≤ length (laid_texts ts)) whole (length-all_texts m v table next (drop (i + 1) us)) in
-    long (omega (arith, longer, over, length-append (texts_of v table).bytes (laid_texts next), length-append (texts_of v table).bytes (laid_texts (all_texts_at m v table [] us))))
+-- a table that is too long with some of the texts is too long with all
+pub longer-refused : (m : PathMap) (v : View) (table : TextSection) (some all : List (List ℕ)) (f : Fault) → length (laid_texts some) ≤ length (laid_texts all)
+    → Blames (TooLong (length (table_bytes (table_with v table some)))) f → Blames (TooLong (length (table_bytes (table_with v table all)))) f
+longer-refused m v table some all NoMemory longer b = tt
+longer-refused m v table some all (Refused _) longer (long over) =
+    long (omega (arith, longer, over, length-append (texts_of v table).bytes (laid_texts some), length-append (texts_of v table).bytes (laid_texts all)))
 
-pub ruleset grown_rules = (pass-ends)
+pub pass-refused : (m : PathMap) (v : View) (table : TextSection) (us : List SectionFields) (front : List (List ℕ)) (first : Bool → ℕ → Option ℕ) (pool : TextTable) (known : Bool → ℕ → Option ℕ) (i : ℕ)
+    (u : SectionFields) (f : Fault) → i < length us → u ≡ get_or us i u → TablePass m v table us front first pool known i
+    → Blames (TooLong (length (table_bytes (table_with v table (section_texts_at m v table pool.texts u))))) f
+    → Blames (TooLong (length (table_bytes (table_with v table (all_texts_at m v table front us))))) f
+pass-refused m v table us front first pool known i u f lt is p b =
+    let whole : all_texts_at m v table (section_texts_at m v table pool.texts u) (drop (i + 1) us) ≡ all_texts_at m v table front us =
+    sym (ap (all_texts_at m v table pool.texts) (sections-front us u i lt is)) ∙ p.texts in
+    longer-refused m v table (section_texts_at m v table pool.texts u) (all_texts_at m v table front us) f
+    (subst (λ (ts : List (List ℕ)). length (laid_texts (section_texts_at m v table pool.texts u)) ≤ length (laid_texts ts)) whole
+    (length-all_texts m v table (section_texts_at m v table pool.texts u) (drop (i + 1) us))) b

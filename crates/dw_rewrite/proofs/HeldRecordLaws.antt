@@ -1,5 +1,5 @@
--- The sections that hold relocations of sections of units, of string offsets and of macro units, as the code makes them, are those of the new
--- contents of these sections.
+-- The sections that hold relocations of sections of units, of string offsets, of macro units and of name tables, as the code makes them, are those of
+-- the new contents of these sections.
 use Rattle.std.proofs.Common.{Bool, true, false, ◌≡◌, ◌≢◌, ℕ, suc, ◌+◌, ◌<◌, ◌≤◌, List, [], ◌∷◌, ◌++◌, drop, if◌then◌else◌, Option, Some, None, refl, sym, ap, ◌∙◌, subst, arith, append_assoc}
 use Rattle.std.specs.Bool.{⊤}
 use Rattle.std.specs.Prelude.{◌&&◌}
@@ -10,6 +10,7 @@ use Rattle.dw_base.specs.DebugSections.{debug_section, name_of}
 use Rattle.dw_base.specs.Elf.{contents_of, section_count, section_name}
 use Rattle.dw_base.specs.FileViews.{View, ViewSection, section_named, view_cells, view_of}
 use Rattle.dw_base.specs.MacroReadings.{MacroReading, ReadsAllMacros}
+use Rattle.dw_base.specs.NamePieces.{ReadsNames}
 use Rattle.dw_base.specs.OffsetPieces.{ReadsOffsets}
 use Rattle.dw_base.specs.Paths.{PathMap}
 use Rattle.dw_base.specs.Pieces.{joined}
@@ -17,12 +18,12 @@ use Rattle.dw_base.specs.Readings.{Reading, Readings}
 use Rattle.dw_base.specs.RelocationBodies.{relocation_body}
 use Rattle.dw_base.specs.RelocationSectionFails.{RelocationSectionsRead}
 use Rattle.dw_base.specs.SectionRelocations.{RelocationSource, relocation_section, relocation_source}
-use Rattle.dw_base.specs.SectionTexts.{edited_macros, edited_with, macro_role, slot_role}
+use Rattle.dw_base.specs.SectionTexts.{edited_macros, edited_with, macro_role, name_role, slot_role}
 use Rattle.dw_base.specs.StringTables.{TextTable}
 use Rattle.dw_base.specs.TextChanges.{TableChanges, edited_all}
 use Rattle.dw_base.specs.UnitHeaders.{SectionKind, UnitBase, UnitSection}
 use Rattle.dw_base.specs.UnitPieces.{ReadsUnits}
-use Rattle.dw_base.specs.ViewData.{cells_located, debug_data, is_macro, macro_section, macro_sections, macro_sections_from, unit_kind, unit_section, unit_sections, unit_sections_from}
+use Rattle.dw_base.specs.ViewData.{cells_located, debug_data, is_macro, located, macro_section, macro_sections, macro_sections_from, unit_kind, unit_section, unit_sections, unit_sections_from}
 use Rattle.dw_base.specs.declared.debug_sections.DebugSection.{DebugSection}
 use Rattle.dw_base.specs.declared.debug_sections.DebugSection.TheVariants.{Info, Types, Abbrev, Str, LineStr, StrOffsets, Line, Macro, Names}
 use Rattle.dw_base.specs.declared.shared.Order.{Order}
@@ -33,18 +34,20 @@ use Rattle.dw_meaning.specs.DataOutput.{Body, DataReads}
 use Rattle.dw_meaning.specs.FileMeanings.{file_data}
 use Rattle.dw_meaning.specs.RelocatedBodies.{CellBody, cell_body, cells_of_number, macro_cells, new_cells, new_contents, old_contents, relocated_body, unit_cells}
 use Rattle.dw_meaning.proofs.CellBackLaws.{all-self, new-open, now_in}
-use Rattle.dw_meaning.proofs.CellKeptLaws.{SectionCells, cells-behind, cells-further, cells-here, cells-offsets, macros-pass}
+use Rattle.dw_meaning.proofs.CellKeptLaws.{SectionCells, cells-behind, cells-further, cells-here, cells-names, cells-offsets, macros-pass}
 use Rattle.dw_meaning.proofs.FileBackLaws.{AllAt}
-use Rattle.dw_meaning.proofs.FileKeptLaws.{IsApart, around_file, changes_file, macro-apart, named-apart, read-section}
-use Rattle.dw_meaning.proofs.TableKeptLaws.{drop-at}
+use Rattle.dw_meaning.proofs.FileKeptLaws.{IsApart, around_file, changes_file, differ, lines-number, macro-apart, name-apart, named-apart, offsets-number, offsets-place, read-section, tables-place}
+use Rattle.dw_meaning.proofs.TableKeptLaws.{FoundAt, drop-at}
 use Rattle.dw_patch.specs.RecordMoves.{moved_table}
 use Rattle.elf_layout.specs.declared.patch.Patch.{Patch}
-use Rattle.dw_find.specs.MacroSections.{macro_starts, macros_read, macros_with}
+use Rattle.dw_find.specs.MacroSections.{macro_starts, macro_texts, macros_read, macros_with}
+use Rattle.dw_find.specs.NameSections.{names_read, names_texts}
 use Rattle.dw_find.specs.SlotPaths.{read_fields, slots_by, slots_read, slots_with}
 use Rattle.dw_find.specs.SectionFields.{SectionFields, paths_in, paths_of}
 use Rattle.dw_find.specs.ViewFields.{AllHaveOffsets, AllHavePlaces, HasOffsets, HasPlaces}
 use Rattle.dw_find.proofs.MacroHaveLaws.{AllCells}
 use Rattle.dw_find.proofs.MacroStartLaws.{all-cells}
+use Rattle.dw_find.proofs.NameHaveLaws.{names-of}
 use Rattle.dw_find.proofs.OffsetPlaceLaws.{offsets-of}
 use Rattle.dw_find.proofs.PlaceValueLaws.{EachOf}
 use Rattle.dw_find.proofs.SectionFactLaws.{own-section}
@@ -53,11 +56,12 @@ use Rattle.dw_rewrite.specs.NewOffsets.{offsets_in, record_body, records_known}
 use Rattle.dw_rewrite.specs.NewTables.{Growing, IsSectionNoted}
 use Rattle.dw_rewrite.proofs.BodyLaws.{AllFull, IsFull, file-macros, file-units, macro_numbers, named-full, unit_numbers}
 use Rattle.dw_rewrite.proofs.HeldBodyLaws.{first-holds}
+use Rattle.dw_rewrite.proofs.LineRecordLaws.{name-found}
 use Rattle.dw_rewrite.proofs.MovedRecordLaws.{asked_in, section-asked}
 use Rattle.dw_rewrite.proofs.NewBodyLaws.{starts_after}
 use Rattle.dw_rewrite.proofs.RecordFitLaws.{read-from}
 use Rattle.dw_rewrite.proofs.SectionMakeLaws.{line_str_after, str_after}
-use Rattle.dw_rewrite.proofs.SectionRecordLaws.{IsReadFrom, macros-moved, slots-moved, told_in, units-moved}
+use Rattle.dw_rewrite.proofs.SectionRecordLaws.{IsReadFrom, macros-moved, names-moved, slots-moved, told_in, units-moved}
 
 -- Where units stand among new contents: in sections of units, of which each has a number of its own.
 record IsUnits (b : List ℕ) (i : ℕ) : Type 0 where
@@ -259,6 +263,35 @@ slots-new m b all i e =
     new-open m b all i
     ∙ cells-offsets (changes_file m b all) (file_data b) (around_file b all) all (old_contents b i) i (ap (λ (o : Option ℕ). (cells_located (view_of b) o).number) e)
 
+-- the section of name tables is none of string offsets or line tables
+names-others : (b : List ℕ) (i : ℕ) → section_named (view_of b) (name_of Names) ≡ Some i → (i ≢ ((file_data b).found StrOffsets).number) × (i ≢ ((file_data b).found Line).number)
+names-others b i e = (
+  subst (λ (n : ℕ). i ≢ n) (sym (offsets-number b))
+      (name-apart b (name_of StrOffsets) (located (view_of b) StrOffsets) i (offsets-place b) above (λ same. no_offsets (differ Names StrOffsets (sym f.named ∙ same)))),
+  subst (λ (n : ℕ). i ≢ n) (sym (lines-number b))
+      (name-apart b (name_of Line) (located (view_of b) Line) i (tables-place b) above (λ same. no_lines (differ Names Line (sym f.named ∙ same)))),
+)
+  where
+    f : FoundAt b (name_of Names) 1 i
+    f = name-found b (name_of Names) i e
+
+    above : 0 < i
+    above = let from = f.from in omega arith
+
+    no_offsets : Some Names ≡ Some StrOffsets → ⊥
+    no_offsets same = cc
+
+    no_lines : Some Names ≡ Some Line → ⊥
+    no_lines same = cc
+
+names-new : (m : PathMap) (b : List ℕ) (all : DataReadings) (i : ℕ) → section_named (view_of b) (name_of Names) ≡ Some i
+    → new_contents b (new_cells m (file_data b) all) i ≡ joined (edited_with name_role (changes_file m b all) (around_file b all) all.names)
+unfolding debug_data
+names-new m b all i e =
+    let others = names-others b i e in
+    new-open m b all i
+    ∙ cells-names (changes_file m b all) (file_data b) (around_file b all) all (old_contents b i) i (ap (λ (o : Option ℕ). (cells_located (view_of b) o).number) e) others.0 others.1
+
 -- A section of relocations of which the records are those of new contents.
 abbrev source_at : List ℕ → ℕ → RelocationSource
 source_at b k = relocation_source (contents_of b) b k
@@ -330,14 +363,26 @@ macro-held m b all zs [] sections cells reads offsets places full new = refl
 macro-held m b all [] (r ∷ rs) sections cells reads offsets places full new = absurd reads
 macro-held m b all (z ∷ zs) (r ∷ rs) sections cells reads offsets places full new =
     ap (λ (bs : List Body). bs ++ records_after m b all (macros_read rs))
-    (record-held b (new_cells m (file_data b) all) (told_in m (view_of b) all (macros_with r.number (macro_starts r.pieces))) r.number
+    (record-held b (new_cells m (file_data b) all) (told_in m (view_of b) all (macros_with r.number (macro_starts r.pieces) (macro_texts InStr r.pieces))) r.number
     (joined (edited_with macro_role (changes_file m b all) (around_file b all) r.pieces)) sections full.0 new.0
     (λ k from. macros-moved m (view_of b) all z r (source_at b k) (contents_of b r.number) cells.0 reads.0 reads.1 offsets.0 places.0 from))
     ∙ ap (λ (bs : List Body). held_body b (new_cells m (file_data b) all) (relocation_section b r.number) ++ bs)
     (macro-held m b all zs rs sections cells.1 reads.2 offsets.1 places.1 full.1 new.1)
 
+-- Name tables.
+names-held : (m : PathMap) (b : List ℕ) (all : DataReadings) (o : Option ℕ) → RelocationSectionsRead (contents_of b) b → section_named (view_of b) (name_of Names) ≡ o
+    → ReadsNames (view_of b).order (cells_located (view_of b) o).contents all.names → AllHaveOffsets (view_of b) (slots_by o (names_texts InStr all.names))
+    → AllHavePlaces (view_of b) (slots_by o (names_texts InStr all.names))
+    → records_after m b all (slots_by o (names_texts InStr all.names)) ≡ held_bodies b (new_cells m (file_data b) all) (numbers_in (slots_by o (names_texts InStr all.names)))
+names-held m b all None sections e reads offsets places = refl
+names-held m b all (Some i) sections e reads offsets places =
+    ap (λ (bs : List Body). bs ++ [])
+    (record-held b (new_cells m (file_data b) all) (told_in m (view_of b) all (slots_with i (names_texts InStr all.names))) i
+    (joined (edited_with name_role (changes_file m b all) (around_file b all) all.names)) sections (named-full b Names i e) (names-new m b all i e)
+    (λ k from. names-moved m (view_of b) all i (source_at b k) (contents_of b i) reads offsets.0 places.0 from))
+
 -- All of them, one after another.
-records-append : (b : List ℕ) (v : View) (ks kl kt : ℕ → Option ℕ) (us ws : List SectionFields) → records_known b v ks kl kt (us ++ ws) ≡ records_known b v ks kl kt us ++ records_known b v ks kl kt ws
+pub records-append : (b : List ℕ) (v : View) (ks kl kt : Bool → ℕ → Option ℕ) (us ws : List SectionFields) → records_known b v ks kl kt (us ++ ws) ≡ records_known b v ks kl kt us ++ records_known b v ks kl kt ws
 records-append b v ks kl kt [] ws = refl
 records-append b v ks kl kt (u ∷ us) ws =
     ap (λ (bs : List Body). record_body b (offsets_in v ks kl kt u) (relocation_section b u.number) ++ bs) (records-append b v ks kl kt us ws)
@@ -351,7 +396,7 @@ held-append b cells (u ∷ us) ws =
     ∙ sym (append_assoc (held_body b cells (relocation_section b u.number)) (held_bodies b cells (numbers_in us)) (held_bodies b cells (numbers_in ws)))
 
 -- those of which the code says them are those of which the edit does
-pub records-asked : (m : PathMap) (b : List ℕ) (v : View) (ps pl : TextTable) (ks kl kt : ℕ → Option ℕ) (us : List SectionFields) → Growing m v InStr ps ks → Growing m v InLineStr pl kl
+pub records-asked : (m : PathMap) (b : List ℕ) (v : View) (ps pl : TextTable) (ks kl kt : Bool → ℕ → Option ℕ) (us : List SectionFields) → Growing m v InStr ps ks → Growing m v InLineStr pl kl
     → EachOf (λ u. IsSectionNoted m v InStr u ks) us → EachOf (λ u. IsSectionNoted m v InLineStr u kl) us
     → records_known b v ks kl kt us ≡ records_known b v (asked_in m v InStr ps.texts) (asked_in m v InLineStr pl.texts) kt us
 records-asked m b v ps pl ks kl kt [] gs gl ns nl = refl
@@ -368,16 +413,18 @@ pub record FoundParts (v : View) (all : DataReadings) : Type 0 where
   pub slot_places : AllHavePlaces v (slots_read v all)
   pub macro_offsets : AllHaveOffsets v (macros_read all.macros)
   pub macro_places : AllHavePlaces v (macros_read all.macros)
+  pub name_offsets : AllHaveOffsets v (names_read v all)
+  pub name_places : AllHavePlaces v (names_read v all)
 
-pub records-after : (m : PathMap) (b : List ℕ) (all : DataReadings) → RelocationSectionsRead (contents_of b) b → DataReads (file_data b) all → FoundParts (view_of b) all
+front-after : (m : PathMap) (b : List ℕ) (all : DataReadings) → RelocationSectionsRead (contents_of b) b → DataReads (file_data b) all → FoundParts (view_of b) all
     → records_after m b all ((paths_of all.units ++ slots_read (view_of b) all) ++ macros_read all.macros)
     ≡ held_bodies b (new_cells m (file_data b) all) (numbers_in ((paths_of all.units ++ slots_read (view_of b) all) ++ macros_read all.macros))
-records-after m b all sections reads parts =
+front-after m b all sections reads parts =
     let v : View = view_of b in
     let cells : List CellBody = new_cells m (file_data b) all in
-    let ks : ℕ → Option ℕ = str_after m (view_of b) all in
-    let kl : ℕ → Option ℕ = line_str_after m (view_of b) all in
-    let kt : ℕ → Option ℕ = starts_after m (view_of b) all in
+    let ks : Bool → ℕ → Option ℕ = str_after m (view_of b) all in
+    let kl : Bool → ℕ → Option ℕ = line_str_after m (view_of b) all in
+    let kt : Bool → ℕ → Option ℕ = starts_after m (view_of b) all in
     let units : records_after m b all (paths_of all.units) ≡ held_bodies b (new_cells m (file_data b) all) (numbers_in (paths_of all.units)) =
     readings-held m b all [] ((file_data b).found Info) 0 all.units sections refl reads.units parts.unit_offsets parts.unit_places (file-units b all reads) (units-new m b all reads) in
     let slots : records_after m b all (slots_read (view_of b) all) ≡ held_bodies b (new_cells m (file_data b) all) (numbers_in (slots_read (view_of b) all)) =
@@ -393,3 +440,15 @@ records-after m b all sections reads parts =
     ∙ sym (held-append b cells (paths_of all.units) (slots_read (view_of b) all)))
     ∙ ap (λ (bs : List Body). held_bodies b (new_cells m (file_data b) all) (numbers_in (paths_of all.units ++ slots_read (view_of b) all)) ++ bs) macros
     ∙ sym (held-append b cells (paths_of all.units ++ slots_read (view_of b) all) (macros_read all.macros))
+
+pub records-after : (m : PathMap) (b : List ℕ) (all : DataReadings) → RelocationSectionsRead (contents_of b) b → DataReads (file_data b) all → FoundParts (view_of b) all
+    → records_after m b all (((paths_of all.units ++ slots_read (view_of b) all) ++ macros_read all.macros) ++ names_read (view_of b) all)
+    ≡ held_bodies b (new_cells m (file_data b) all) (numbers_in (((paths_of all.units ++ slots_read (view_of b) all) ++ macros_read all.macros) ++ names_read (view_of b) all))
+records-after m b all sections reads parts =
+    let names : records_after m b all (names_read (view_of b) all) ≡ held_bodies b (new_cells m (file_data b) all) (numbers_in (names_read (view_of b) all)) =
+    names-held m b all (section_named (view_of b) (name_of Names)) sections refl (names-of (view_of b) all.names reads.names) parts.name_offsets parts.name_places in
+    records-append b (view_of b) (str_after m (view_of b) all) (line_str_after m (view_of b) all) (starts_after m (view_of b) all) ((paths_of all.units ++ slots_read (view_of b) all) ++ macros_read all.macros)
+    (names_read (view_of b) all)
+    ∙ ap (λ (bs : List Body). bs ++ records_after m b all (names_read (view_of b) all)) (front-after m b all sections reads parts)
+    ∙ ap (λ (bs : List Body). held_bodies b (new_cells m (file_data b) all) (numbers_in ((paths_of all.units ++ slots_read (view_of b) all) ++ macros_read all.macros)) ++ bs) names
+    ∙ sym (held-append b (new_cells m (file_data b) all) ((paths_of all.units ++ slots_read (view_of b) all) ++ macros_read all.macros) (names_read (view_of b) all))

@@ -13,16 +13,19 @@ pub mod BodyLaws
 pub mod ExitLaws
 pub mod FieldSetLaws
 pub mod NewStartLaws
+pub mod NewPlaceLaws
 pub mod GrowthLaws
 pub mod SectionBytesLaws
 pub mod SlotWrittenLaws
 pub mod MacroWrittenLaws
+pub mod NameWrittenLaws
 pub mod LineReadLaws
 pub mod LineWriteLaws
 pub mod LineMentionLaws
 pub mod LineKnownLaws
 pub mod PushLaws
 pub mod NewBodyLaws
+pub mod ListGrowthLaws
 pub mod TableTextLaws
 pub mod MadeBodyLaws
 pub mod BodyRowLaws
@@ -46,5 +49,6 @@ pub mod MovedNumberLaws
 pub mod FileMadeLaws
 pub mod PieceMakeLaws
 pub mod SectionMakeLaws
+pub mod StandingLaws
 pub mod HeldRecordLaws
 pub mod RecordEndLaws

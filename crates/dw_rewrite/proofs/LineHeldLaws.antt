@@ -53,8 +53,8 @@ use Rattle.dw_lines.proofs.MoveLaws.{offsets-append}
 use Rattle.dw_lines.proofs.PathMoveLaws.{offsets-append as placed-append}
 use Rattle.dw_lines.proofs.ReadingLaws.{source-is}
 use Rattle.dw_lines.proofs.TableRunLaws.{clear-order, table-offsets}
+use Rattle.dw_find.specs.AllFields.{Fields, all_of}
 use Rattle.dw_find.specs.FoundPaths.{PathsFound}
-use Rattle.dw_find.specs.SectionFields.{SectionFields}
 use Rattle.dw_lines.specs.declared.moves.NewFieldOffset.{NewFieldOffset}
 use Rattle.dw_rewrite.specs.Bodies.{held_bodies, held_body, lines_numbers}
 use Rattle.dw_rewrite.specs.LineOffsets.{OffsetMisses, OffsetsMake, held_lines, line_offsets, line_record, line_runs, said_fields}
@@ -124,8 +124,8 @@ line-contents m b r i e =
     no e = cc
 
 -- so the records are those of the output
-held-is : (m : PathMap) (b : List ℕ) (us : List SectionFields) (ts : List LineTable) (ps pl : TextTable) (ks kl : ℕ → Option ℕ) (i k : ℕ) → RelocationSectionsRead (contents_of b) b
-    → (f : PathsFound m (view_of b) us ts) → TableMade m (view_of b) InStr us ps ks → TableMade m (view_of b) InLineStr us pl kl → section_named (view_of b) (name_of Line) ≡ Some i
+held-is : (m : PathMap) (b : List ℕ) (us : Fields) (ts : List LineTable) (ps pl : TextTable) (ks kl : Bool → ℕ → Option ℕ) (i k : ℕ) → RelocationSectionsRead (contents_of b) b
+    → (f : PathsFound m (view_of b) us ts) → TableMade m (view_of b) InStr (all_of us) ps ks → TableMade m (view_of b) InLineStr (all_of us) pl kl → section_named (view_of b) (name_of Line) ≡ Some i
     → relocation_section b i ≡ Some k
     → moved_table (relocation_source (contents_of b) b k) (line_runs m (line_source (file_data b)) ks kl ts) (said_fields (line_offsets m (line_source (file_data b)) ks kl ts))
     ≡ relocated_body b (new_cells m (file_data b) f.readings) k
@@ -148,8 +148,8 @@ held-is m b us ts ps pl ks kl i k relocations f s l e is =
     ∙ ap (relocation_body z (old_contents b i)) new
     ∙ ap (λ (j : ℕ). relocation_body z (old_contents b j) (new_contents b (new_cells m (file_data b) f.readings) j)) (sym held.info)
 
-pub lines-held : (m : PathMap) (b : List ℕ) (us : List SectionFields) (ts : List LineTable) (ps pl : TextTable) (ks kl : ℕ → Option ℕ) → RelocationSectionsRead (contents_of b) b
-    → (f : PathsFound m (view_of b) us ts) → TableMade m (view_of b) InStr us ps ks → TableMade m (view_of b) InLineStr us pl kl
+pub lines-held : (m : PathMap) (b : List ℕ) (us : Fields) (ts : List LineTable) (ps pl : TextTable) (ks kl : Bool → ℕ → Option ℕ) → RelocationSectionsRead (contents_of b) b
+    → (f : PathsFound m (view_of b) us ts) → TableMade m (view_of b) InStr (all_of us) ps ks → TableMade m (view_of b) InLineStr (all_of us) pl kl
     → line_record b m (line_source (file_data b)) ks kl ts (section_named (view_of b) (name_of Line))
     ≡ held_bodies b (new_cells m (file_data b) f.readings) (lines_numbers (section_named (view_of b) (name_of Line)))
 lines-held m b us ts ps pl ks kl relocations f s l = by_section (section_named (view_of b) (name_of Line)) refl
@@ -227,12 +227,12 @@ tables-make g m p q a e (r ∷ rs) own apart clear reads agree h =
       tables-make g m p q r.header.end e rs own (apart-behind g r rs apart) clear.1 reads.1 agree.1 parts.1,
     )
 
-known-fields : (m : PathMap) (g : LineSource) (ks kl : ℕ → Option ℕ) (ts : List LineTable) (rs : List LineReading) → ts ≡ tables_read g rs
+known-fields : (m : PathMap) (g : LineSource) (ks kl : Bool → ℕ → Option ℕ) (ts : List LineTable) (rs : List LineReading) → ts ≡ tables_read g rs
     → line_offsets m g ks kl ts ≡ offsets_from 0 (all_stretches_by_texts g m (text_known g ks kl) rs)
 known-fields m g ks kl ts rs is = ap (line_offsets m g ks kl) is ∙ ap (offsets_from 0) (stretches-read m g ks kl rs)
 
-file-makes : (m : PathMap) (b : List ℕ) (us : List SectionFields) (ts : List LineTable) (ps pl : TextTable) (ks kl : ℕ → Option ℕ) (f : PathsFound m (view_of b) us ts)
-    → TableMade m (view_of b) InStr us ps ks → TableMade m (view_of b) InLineStr us pl kl
+file-makes : (m : PathMap) (b : List ℕ) (us : Fields) (ts : List LineTable) (ps pl : TextTable) (ks kl : Bool → ℕ → Option ℕ) (f : PathsFound m (view_of b) us ts)
+    → TableMade m (view_of b) InStr (all_of us) ps ks → TableMade m (view_of b) InLineStr (all_of us) pl kl
     → OffsetsMake (line_source (file_data b)).cells (line_offsets m (line_source (file_data b)) ks kl ts)
     → EachTextsMake (line_source (file_data b)) (places_by (changes_of m (around_of (file_data b) f.readings) f.readings) (file_data b)) f.readings.lines
 unfolding table_change
@@ -243,11 +243,11 @@ file-makes m b us ts ps pl ks kl f s l h =
     (lines-agree m (view_of b) us ts ps pl ks kl f s l)
     (subst (OffsetsMake g.cells) (known-fields m g ks kl ts f.readings.lines f.tables) h)
 
-pub lines-fit : (m : PathMap) (b : List ℕ) (v : View) (us : List SectionFields) (ts : List LineTable) (ps pl : TextTable) (ks kl : ℕ → Option ℕ) → v ≡ view_of b → (f : PathsFound m v us ts)
-    → TableMade m v InStr us ps ks → TableMade m v InLineStr us pl kl → OffsetsMake (line_source (debug_data v)).cells (line_offsets m (line_source (debug_data v)) ks kl ts)
+pub lines-fit : (m : PathMap) (b : List ℕ) (v : View) (us : Fields) (ts : List LineTable) (ps pl : TextTable) (ks kl : Bool → ℕ → Option ℕ) → v ≡ view_of b → (f : PathsFound m v us ts)
+    → TableMade m v InStr (all_of us) ps ks → TableMade m v InLineStr (all_of us) pl kl → OffsetsMake (line_source (debug_data v)).cells (line_offsets m (line_source (debug_data v)) ks kl ts)
     → EachTextsMake (line_source (debug_data v)) (places_by (changes_of m (around_of (debug_data v) f.readings) f.readings) (debug_data v)) f.readings.lines
 lines-fit m b v us ts ps pl ks kl file =
-    subst (λ (w : View). (f : PathsFound m w us ts) → TableMade m w InStr us ps ks → TableMade m w InLineStr us pl kl
+    subst (λ (w : View). (f : PathsFound m w us ts) → TableMade m w InStr (all_of us) ps ks → TableMade m w InLineStr (all_of us) pl kl
     → OffsetsMake (line_source (debug_data w)).cells (line_offsets m (line_source (debug_data w)) ks kl ts)
     → EachTextsMake (line_source (debug_data w)) (places_by (changes_of m (around_of (debug_data w) f.readings) f.readings) (debug_data w)) f.readings.lines) (sym file)
     (file-makes m b us ts ps pl ks kl)
@@ -346,8 +346,8 @@ row-of m d rs r h =
     (in_lines h.before h.behind h.table x.text h.among
     (record { before = x.before; behind = x.behind; among = x.among; named = missed.named; place = missed.place; put = missed.put; misses = missed.misses }))
 
-file-misses : (m : PathMap) (b : List ℕ) (us : List SectionFields) (ts : List LineTable) (ps pl : TextTable) (ks kl : ℕ → Option ℕ) (r : Refusal) (f : PathsFound m (view_of b) us ts)
-    → TableMade m (view_of b) InStr us ps ks → TableMade m (view_of b) InLineStr us pl kl
+file-misses : (m : PathMap) (b : List ℕ) (us : Fields) (ts : List LineTable) (ps pl : TextTable) (ks kl : Bool → ℕ → Option ℕ) (r : Refusal) (f : PathsFound m (view_of b) us ts)
+    → TableMade m (view_of b) InStr (all_of us) ps ks → TableMade m (view_of b) InLineStr (all_of us) pl kl
     → OffsetMisses (line_source (file_data b)).number (line_source (file_data b)).cells (line_offsets m (line_source (file_data b)) ks kl ts) r
     → AddendsFail (changes_of m (around_of (file_data b) f.readings) f.readings) (file_data b) (around_of (file_data b) f.readings) f.readings r
 unfolding table_change
@@ -359,12 +359,12 @@ file-misses m b us ts ps pl ks kl r f s l h =
     (lines-agree m (view_of b) us ts ps pl ks kl f s l)
     (subst (λ (fs : List NewFieldOffset). OffsetMisses g.number g.cells fs r) (known-fields m g ks kl ts f.readings.lines f.tables) h))
 
-pub lines-fail : (m : PathMap) (b : List ℕ) (v : View) (us : List SectionFields) (ts : List LineTable) (ps pl : TextTable) (ks kl : ℕ → Option ℕ) (r : Refusal) → v ≡ view_of b
-    → (f : PathsFound m v us ts) → TableMade m v InStr us ps ks → TableMade m v InLineStr us pl kl
+pub lines-fail : (m : PathMap) (b : List ℕ) (v : View) (us : Fields) (ts : List LineTable) (ps pl : TextTable) (ks kl : Bool → ℕ → Option ℕ) (r : Refusal) → v ≡ view_of b
+    → (f : PathsFound m v us ts) → TableMade m v InStr (all_of us) ps ks → TableMade m v InLineStr (all_of us) pl kl
     → OffsetMisses (line_source (debug_data v)).number (line_source (debug_data v)).cells (line_offsets m (line_source (debug_data v)) ks kl ts) r
     → AddendsFail (changes_of m (around_of (debug_data v) f.readings) f.readings) (debug_data v) (around_of (debug_data v) f.readings) f.readings r
 lines-fail m b v us ts ps pl ks kl r file =
-    subst (λ (w : View). (f : PathsFound m w us ts) → TableMade m w InStr us ps ks → TableMade m w InLineStr us pl kl
+    subst (λ (w : View). (f : PathsFound m w us ts) → TableMade m w InStr (all_of us) ps ks → TableMade m w InLineStr (all_of us) pl kl
     → OffsetMisses (line_source (debug_data w)).number (line_source (debug_data w)).cells (line_offsets m (line_source (debug_data w)) ks kl ts) r
     → AddendsFail (changes_of m (around_of (debug_data w) f.readings) f.readings) (debug_data w) (around_of (debug_data w) f.readings) f.readings r) (sym file)
     (file-misses m b us ts ps pl ks kl r)

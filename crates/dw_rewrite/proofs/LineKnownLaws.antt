@@ -3,33 +3,29 @@ use Rattle.std.proofs.Common.{Bool, true, false, ◌≡◌, ◌≢◌, ℕ, zero
 use Rattle.std.specs.Prelude.{⊤}
 use Rattle.std.proofs.lemmas.Bool.{ne_eqb, true≢false}
 use Rattle.dw_base.specs.Forms.{width_size}
-use Rattle.dw_base.specs.LineChanges.{asked_place, line_place, path_in}
+use Rattle.dw_base.specs.LineChanges.{asked_place}
 use Rattle.dw_base.specs.LineReadings.{LineReading, TablesTo, table_read}
 use Rattle.dw_base.specs.LineSources.{LineSource}
 use Rattle.dw_base.specs.LineTables.{LineTable}
 use Rattle.dw_base.specs.LineWriteFails.{length_limit}
 use Rattle.dw_base.specs.Paths.{PathMap}
 use Rattle.dw_base.specs.StringTables.{Plan, new_place as place_in}
-use Rattle.dw_base.specs.TableTexts.{paths_among}
 use Rattle.dw_base.specs.TextChanges.{TableChange}
-use Rattle.dw_base.specs.TextLineChanges.{header_by_texts, on_paths, rest_by_texts, table_by_texts, tables_by_texts, text_changes, text_place, texts_changes}
+use Rattle.dw_base.specs.TextLineChanges.{header_by_texts, rest_by_texts, table_by_texts, tables_by_texts, text_changes, text_mention, text_place, texts_changes}
 use Rattle.dw_base.specs.TextWriteFails.{CanWriteTexts, TextWriteFails, text_header, text_offset, text_program, text_table, wide_text}
-use Rattle.dw_base.specs.WrittenLines.{Change, inline_change, new_place, offset_changes, paths_of, with_header_length, with_program, changed, behind_lengths, length_bytes}
+use Rattle.dw_base.specs.WrittenLines.{Change, inline_change, offset_changes, with_header_length, with_program, changed, behind_lengths, length_bytes}
 use Rattle.dw_base.specs.declared.fault.Refusal.{Refusal}
 use Rattle.dw_base.specs.declared.line_tables.LineText.{LineText}
-use Rattle.dw_base.specs.declared.line_tables.TextPlace.{TextPlace}
 use Rattle.dw_base.specs.declared.shared.Width.{Width}
-use Rattle.dw_base.specs.declared.texts.TextField.{TextField}
+use Rattle.dw_offsets.specs.declared.fields.OffsetField.{OffsetField}
 use Rattle.dw_base.specs.declared.texts.TextSection.TheVariants.{InStr, InLineStr}
 use Rattle.dw_lines.specs.NewTexts.{text_known}
 use Rattle.dw_lines.specs.ViewTables.{tables_read}
-use Rattle.dw_meaning.proofs.FurtherLaws.{FurtherStay}
-use Rattle.dw_meaning.proofs.LineTextLaws.{table-paths-among}
-use Rattle.dw_rewrite.specs.Changes.{FieldSource, IsNoted, Knows, offset_at, path_of}
+use Rattle.dw_rewrite.specs.Changes.{FieldSource, IsNoted, Knows, mention_as, offset_at}
 use Rattle.dw_rewrite.specs.NewLines.{AllCanWrite, lines_known}
 use Rattle.dw_find.specs.ViewLines.{is_text_of, table_fields, text_field, text_fields}
 use Rattle.dw_rewrite.proofs.LineMentionLaws.{IsWhole, line_texts, text-offset}
-use Rattle.dw_find.proofs.LinePlaceLaws.{EachReads, PathReads, table-paths}
+use Rattle.dw_find.proofs.LinePlaceLaws.{EachReads, TextReads, table-texts}
 use Rattle.dw_find.proofs.PlaceValueLaws.{EachOf}
 
 -- the new places of texts that stand elsewhere are the same
@@ -98,104 +94,85 @@ fails-same g m p q t r a (text_offset (wide_text x place here other is far)) =
     text_offset (wide_text x place here other (agree-at g q p t.texts x (agree-back g p q t.texts a) here other ∙ is) far)
 fails-same g m p q t r a (text_program h e f) = text_program h e f
 
--- the place of a path that is known is the one that it asks for
-pub known-asked : (plan : Plan) (m : PathMap) (table : List ℕ) (ts : List (List ℕ)) (known : ℕ → Option ℕ) (o : ℕ) → Knows plan m table ts known → IsNoted plan table known o
-    → known o ≡ (if plan.asks (path_of table o) then Some (place_in plan m ts (path_of table o)) else None)
-known-asked plan m table ts known o knows noted = by (known o) refl (plan.asks (path_of table o)) refl
+-- the place of a text that is known is the one that it asks for
+pub known-asked : (plan : Plan) (m : PathMap) (table : List ℕ) (ts : List (List ℕ)) (known : Bool → ℕ → Option ℕ) (path : Bool) (o : ℕ) → Knows plan m table ts known
+    → IsNoted plan table known path o → known path o ≡ (if plan.asks (mention_as path table o) then Some (place_in plan m ts (mention_as path table o)) else None)
+known-asked plan m table ts known path o knows noted = by (known path o) refl (plan.asks (mention_as path table o)) refl
   where
-    by : (k : Option ℕ) → known o ≡ k → (b : Bool) → plan.asks (path_of table o) ≡ b → k ≡ (if b then Some (place_in plan m ts (path_of table o)) else None)
+    by : (k : Option ℕ) → known path o ≡ k → (b : Bool) → plan.asks (mention_as path table o) ≡ b → k ≡ (if b then Some (place_in plan m ts (mention_as path table o)) else None)
     by None e true a = absurd (true≢false (sym (noted.noted a) ∙ ap is_some e))
     by None e false a = refl
-    by (Some n) e true a = ap Some (knows.each o n e).place_is
-    by (Some n) e false a = absurd (true≢false (sym (knows.each o n e).asks ∙ a))
+    by (Some n) e true a = ap Some (knows.each path o n e).place_is
+    by (Some n) e false a = absurd (true≢false (sym (knows.each path o n e).asks ∙ a))
 
--- of the paths of a table
-abbrev pub NotedIn : Plan → FieldSource → (ℕ → Option ℕ) → TextField → Type 0
-NotedIn plan s known f = IsNoted plan s.table.bytes known (offset_at s f)
+-- of the texts of a table
+abbrev pub NotedIn : Plan → FieldSource → (Bool → ℕ → Option ℕ) → OffsetField → Type 0
+NotedIn plan s known f = IsNoted plan s.table.bytes known f.path (offset_at s f)
 
-one-agrees : (g : LineSource) (m : PathMap) (str line_str : TableChange) (ks kl : ℕ → Option ℕ) (w : Width) (x : TextPlace) → IsWhole g → PathReads g w x
+one-agrees : (g : LineSource) (m : PathMap) (str line_str : TableChange) (ks kl : Bool → ℕ → Option ℕ) (w : Width) (x : LineText) → IsWhole g → TextReads g w x.place
     → Knows str.plan m g.str.bytes str.texts ks → Knows line_str.plan m g.line_str.bytes line_str.texts kl
     → EachOf (NotedIn str.plan (line_texts g InStr) ks) (text_field g.number g.str.number InStr w x)
     → EachOf (NotedIn line_str.plan (line_texts g InLineStr) kl) (text_field g.number g.str.number InLineStr w x)
-    → (x.section == g.number) ≡ false → new_place g ks kl x ≡ line_place m str line_str g x
-one-agrees g m str line_str ks kl w x whole reads s l ns nl other = by (x.section == g.number) (x.section == g.str.number) refl refl other ns nl
+    → (x.place.section == g.number) ≡ false
+    → (if x.place.section == g.str.number then ks x.path x.place.at else kl x.path x.place.at) ≡ text_place m str line_str g x
+one-agrees g m str line_str ks kl w x whole reads s l ns nl other = by (x.place.section == g.number) (x.place.section == g.str.number) refl refl other ns nl
   where
-    by : (a b : Bool) → (x.section == g.number) ≡ a → (x.section == g.str.number) ≡ b → a ≡ false
-        → EachOf (NotedIn str.plan (line_texts g InStr) ks) (if (not a && b) then record { at = x.field; size = width_size w } ∷ [] else [])
-        → EachOf (NotedIn line_str.plan (line_texts g InLineStr) kl) (if (not a && not b) then record { at = x.field; size = width_size w } ∷ [] else [])
-        → (if b then ks x.at else kl x.at) ≡ (if b then asked_place str m (path_in g.str.bytes x) else asked_place line_str m (path_in g.line_str.bytes x))
+    by : (a b : Bool) → (x.place.section == g.number) ≡ a → (x.place.section == g.str.number) ≡ b → a ≡ false
+        → EachOf (NotedIn str.plan (line_texts g InStr) ks) (if (not a && b) then record { at = x.place.field; size = width_size w; path = x.path } ∷ [] else [])
+        → EachOf (NotedIn line_str.plan (line_texts g InLineStr) kl) (if (not a && not b) then record { at = x.place.field; size = width_size w; path = x.path } ∷ [] else [])
+        → (if b then ks x.path x.place.at else kl x.path x.place.at)
+        ≡ (if b then asked_place str m (text_mention g.str.bytes x) else asked_place line_str m (text_mention g.line_str.bytes x))
     by true b e f is ns nl = absurd (true≢false is)
     by false true e f is ns nl =
-        let says : is_text_of g.number g.str.number InStr x ≡ true = rw (e, f) refl in
-        known-asked str.plan m g.str.bytes str.texts ks x.at s (subst (IsNoted str.plan g.str.bytes ks) (text-offset g InStr w x whole reads says) ns.0)
+        let says : is_text_of g.number g.str.number InStr x.place ≡ true = rw (e, f) refl in
+        known-asked str.plan m g.str.bytes str.texts ks x.path x.place.at s
+        (subst (IsNoted str.plan g.str.bytes ks x.path) (text-offset g InStr w x.place x.path whole reads says) ns.0)
     by false false e f is ns nl =
-        let says : is_text_of g.number g.str.number InLineStr x ≡ true = rw (e, f) refl in
-        known-asked line_str.plan m g.line_str.bytes line_str.texts kl x.at l (subst (IsNoted line_str.plan g.line_str.bytes kl) (text-offset g InLineStr w x whole reads says) nl.0)
+        let says : is_text_of g.number g.str.number InLineStr x.place ≡ true = rw (e, f) refl in
+        known-asked line_str.plan m g.line_str.bytes line_str.texts kl x.path x.place.at l
+        (subst (IsNoted line_str.plan g.line_str.bytes kl x.path) (text-offset g InLineStr w x.place x.path whole reads says) nl.0)
 
 each-parts : {X : Type 0} (P : X → Type 0) (xs ys : List X) → EachOf P (xs ++ ys) → EachOf P xs × EachOf P ys
 each-parts P [] ys h = (tt, h)
 each-parts P (x ∷ xs) ys h = let rest = each-parts P xs ys h.1 in ((h.0, rest.0), rest.1)
 
-abbrev PathsAgree : LineSource → (TextPlace → Option ℕ) → (TextPlace → Option ℕ) → List TextPlace → Type 0
-PathsAgree g p q [] = ⊤
-PathsAgree g p q (x ∷ xs) = ((x.section == g.number) ≡ false → p x ≡ q x) × PathsAgree g p q xs
-
-paths-agree : (g : LineSource) (m : PathMap) (str line_str : TableChange) (ks kl : ℕ → Option ℕ) (w : Width) (xs : List TextPlace) → IsWhole g → EachReads g w xs
+-- so are those of all
+texts-agree : (g : LineSource) (m : PathMap) (str line_str : TableChange) (ks kl : Bool → ℕ → Option ℕ) (w : Width) (xs : List LineText) → IsWhole g
+    → EachReads g w xs
     → Knows str.plan m g.str.bytes str.texts ks → Knows line_str.plan m g.line_str.bytes line_str.texts kl
     → EachOf (NotedIn str.plan (line_texts g InStr) ks) (text_fields g.number g.str.number InStr w xs)
     → EachOf (NotedIn line_str.plan (line_texts g InLineStr) kl) (text_fields g.number g.str.number InLineStr w xs)
-    → PathsAgree g (new_place g ks kl) (line_place m str line_str g) xs
-paths-agree g m str line_str ks kl w [] whole reads s l ns nl = tt
-paths-agree g m str line_str ks kl w (x ∷ xs) whole reads s l ns nl =
+    → EachAgree g (text_known g ks kl) (text_place m str line_str g) xs
+texts-agree g m str line_str ks kl w [] whole reads s l ns nl = tt
+texts-agree g m str line_str ks kl w (x ∷ xs) whole reads s l ns nl =
     let a = each-parts (NotedIn str.plan (line_texts g InStr) ks) (text_field g.number g.str.number InStr w x) (text_fields g.number g.str.number InStr w xs) ns in
-    let b = each-parts (NotedIn line_str.plan (line_texts g InLineStr) kl) (text_field g.number g.str.number InLineStr w x) (text_fields g.number g.str.number InLineStr w xs) nl in
-    (one-agrees g m str line_str ks kl w x whole reads.0 s l a.0 b.0, paths-agree g m str line_str ks kl w xs whole reads.1 s l a.1 b.1)
-
--- so it is of all texts, where one that isn't a path gets no new place
-texts-agree : (g : LineSource) (ks kl : ℕ → Option ℕ) (q : LineText → Option ℕ) (xs : List LineText) → FurtherStay q → PathsAgree g (new_place g ks kl) (on_paths q) (paths_among xs)
-    → EachAgree g (text_known g ks kl) q xs
-texts-agree g ks kl q [] stay a = tt
-texts-agree g ks kl q (x ∷ xs) stay a = by_path x.path refl a (texts-agree g ks kl q xs stay)
-  where
-    further : (b : Bool) → b ≡ false → (if b then new_place g ks kl x.place else None) ≡ None
-    further true e = absurd (true≢false e)
-    further false e = refl
-
-    known : (b : Bool) → b ≡ true → new_place g ks kl x.place ≡ q (record { place = x.place; path = true })
-        → (if b then new_place g ks kl x.place else None) ≡ q (record { place = x.place; path = b })
-    known true e is = is
-    known false e is = absurd (true≢false (sym e))
-
-    by_path : (b : Bool) → x.path ≡ b → PathsAgree g (new_place g ks kl) (on_paths q) (if b then x.place ∷ paths_among xs else paths_among xs)
-        → (PathsAgree g (new_place g ks kl) (on_paths q) (paths_among xs) → EachAgree g (text_known g ks kl) q xs)
-        → ((x.place.section == g.number) ≡ false → text_known g ks kl x ≡ q x) × EachAgree g (text_known g ks kl) q xs
-    by_path true e a rest = ((λ other. known x.path e (a.0 other)), rest a.1)
-    by_path false e a rest = ((λ other. further x.path e ∙ sym (stay.none x e)), rest a)
+    let b = each-parts (NotedIn line_str.plan (line_texts g InLineStr) kl) (text_field g.number g.str.number InLineStr w x) (text_fields g.number g.str.number InLineStr w xs) nl in (
+      (λ other. one-agrees g m str line_str ks kl w x whole reads.0 s l a.0 b.0 other),
+      texts-agree g m str line_str ks kl w xs whole reads.1 s l a.1 b.1,
+    )
 
 -- of all tables
 abbrev pub TablesAgree : LineSource → (LineText → Option ℕ) → (LineText → Option ℕ) → List LineReading → Type 0
 TablesAgree g p q [] = ⊤
 TablesAgree g p q (r ∷ rs) = EachAgree g p q (table_read g r).texts × TablesAgree g p q rs
 
-pub tables-agree : (g : LineSource) (m : PathMap) (str line_str : TableChange) (ks kl : ℕ → Option ℕ) (p e : ℕ) (rs : List LineReading) → IsWhole g → FurtherStay (text_place m str line_str g)
+pub tables-agree : (g : LineSource) (m : PathMap) (str line_str : TableChange) (ks kl : Bool → ℕ → Option ℕ) (p e : ℕ) (rs : List LineReading) → IsWhole g
     → TablesTo g p rs e → Knows str.plan m g.str.bytes str.texts ks → Knows line_str.plan m g.line_str.bytes line_str.texts kl
     → EachOf (NotedIn str.plan (line_texts g InStr) ks) (table_fields g.number g.str.number InStr (tables_read g rs))
     → EachOf (NotedIn line_str.plan (line_texts g InLineStr) kl) (table_fields g.number g.str.number InLineStr (tables_read g rs))
     → TablesAgree g (text_known g ks kl) (text_place m str line_str g) rs
-tables-agree g m str line_str ks kl p e [] whole stay reads s l ns nl = tt
-tables-agree g m str line_str ks kl p e (r ∷ rs) whole stay reads s l ns nl =
-    let a = each-parts (NotedIn str.plan (line_texts g InStr) ks) (text_fields g.number g.str.number InStr r.header.width (paths_of (table_read g r)))
+tables-agree g m str line_str ks kl p e [] whole reads s l ns nl = tt
+tables-agree g m str line_str ks kl p e (r ∷ rs) whole reads s l ns nl =
+    let a = each-parts (NotedIn str.plan (line_texts g InStr) ks) (text_fields g.number g.str.number InStr r.header.width (table_read g r).texts)
     (table_fields g.number g.str.number InStr (tables_read g rs)) ns in
-    let b = each-parts (NotedIn line_str.plan (line_texts g InLineStr) kl) (text_fields g.number g.str.number InLineStr r.header.width (paths_of (table_read g r)))
+    let b = each-parts (NotedIn line_str.plan (line_texts g InLineStr) kl) (text_fields g.number g.str.number InLineStr r.header.width (table_read g r).texts)
     (table_fields g.number g.str.number InLineStr (tables_read g rs)) nl in (
-      texts-agree g ks kl (text_place m str line_str g) (table_read g r).texts stay
-          (subst (PathsAgree g (new_place g ks kl) (line_place m str line_str g)) (sym (table-paths-among g p r reads.0))
-          (paths-agree g m str line_str ks kl r.header.width (paths_of (table_read g r)) whole (table-paths g p r reads.0) s l a.0 b.0)),
-      tables-agree g m str line_str ks kl r.header.end e rs whole stay reads.1 s l a.1 b.1,
+      texts-agree g m str line_str ks kl r.header.width (table_read g r).texts whole (table-texts g p r reads.0) s l a.0 b.0,
+      tables-agree g m str line_str ks kl r.header.end e rs whole reads.1 s l a.1 b.1,
     )
 
 -- the new tables
-pub lines-same : (g : LineSource) (m : PathMap) (str line_str : TableChange) (ks kl : ℕ → Option ℕ) (rs : List LineReading)
+pub lines-same : (g : LineSource) (m : PathMap) (str line_str : TableChange) (ks kl : Bool → ℕ → Option ℕ) (rs : List LineReading)
     → TablesAgree g (text_known g ks kl) (text_place m str line_str g) rs → lines_known m g ks kl (tables_read g rs) ≡ tables_by_texts m str line_str g rs
 lines-same g m str line_str ks kl [] a = refl
 lines-same g m str line_str ks kl (r ∷ rs) a =
@@ -207,7 +184,7 @@ abbrev pub EachCanWrite : LineSource → PathMap → TableChange → TableChange
 EachCanWrite g m str line_str [] = ⊤
 EachCanWrite g m str line_str (r ∷ rs) = CanWriteTexts g m (text_place m str line_str g) (table_read g r) × EachCanWrite g m str line_str rs
 
-pub all-can : (g : LineSource) (m : PathMap) (str line_str : TableChange) (ks kl : ℕ → Option ℕ) (rs : List LineReading)
+pub all-can : (g : LineSource) (m : PathMap) (str line_str : TableChange) (ks kl : Bool → ℕ → Option ℕ) (rs : List LineReading)
     → TablesAgree g (text_known g ks kl) (text_place m str line_str g) rs → AllCanWrite m g ks kl (tables_read g rs) → EachCanWrite g m str line_str rs
 all-can g m str line_str ks kl [] a can = tt
 all-can g m str line_str ks kl (r ∷ rs) a can =
@@ -229,7 +206,7 @@ abbrev head-of : LineTable → List LineTable → LineTable
 head-of d [] = d
 head-of d (x ∷ xs) = x
 
-pub table-refused : (g : LineSource) (m : PathMap) (str line_str : TableChange) (ks kl : ℕ → Option ℕ) (rs : List LineReading) (before behind : List LineTable) (t : LineTable) (r : Refusal)
+pub table-refused : (g : LineSource) (m : PathMap) (str line_str : TableChange) (ks kl : Bool → ℕ → Option ℕ) (rs : List LineReading) (before behind : List LineTable) (t : LineTable) (r : Refusal)
     → TablesAgree g (text_known g ks kl) (text_place m str line_str g) rs → tables_read g rs ≡ before ++ t ∷ behind → TextWriteFails g m (text_known g ks kl) t r
     → TableRefused g m str line_str rs r
 table-refused g m str line_str ks kl [] [] behind t r a split fails = absurd cc

@@ -1,26 +1,26 @@
--- The texts that line tables mention are those of the fields of their paths.
+-- The texts that line tables mention are those of their fields.
 use Rattle.std.proofs.Common.{Bool, true, false, ◌≡◌, ℕ, ◌==◌, ◌&&◌, not, List, [], ◌∷◌, ◌++◌, length, if◌then◌else◌, refl, sym, ap, ◌∙◌}
 use Rattle.std.proofs.lemmas.Bool.{eq-eqb, ne_eqb, true≢false}
 use Rattle.dw_base.specs.Cells.{bytes_of, cells_at, offset_of}
 use Rattle.dw_base.specs.Forms.{width_size}
-use Rattle.dw_base.specs.LineChanges.{path_in, mention_in, paths_mentions, line_mentions}
 use Rattle.dw_base.specs.LineReadings.{LineReading, TablesTo, table_read}
 use Rattle.dw_base.specs.LineSources.{LineSource}
 use Rattle.dw_base.specs.Paths.{PathMap}
 use Rattle.dw_base.specs.StringTables.{Mention, Plan, with_mention, texts_after}
 use Rattle.dw_base.specs.Texts.{ends_in, text_in}
-use Rattle.dw_base.specs.WrittenLines.{paths_of}
+use Rattle.dw_base.specs.TextLineChanges.{all_texts_mentions, mention_of, text_mention, texts_mentions}
+use Rattle.dw_base.specs.declared.line_tables.LineText.{LineText}
 use Rattle.dw_base.specs.declared.line_tables.TextPlace.{TextPlace}
 use Rattle.dw_base.specs.declared.shared.Width.{Width}
-use Rattle.dw_base.specs.declared.texts.TextField.{TextField}
+use Rattle.dw_offsets.specs.declared.fields.OffsetField.{OffsetField}
 use Rattle.dw_base.specs.declared.texts.TextSection.{TextSection}
 use Rattle.dw_base.specs.declared.texts.TextSection.TheVariants.{InStr, InLineStr}
 use Rattle.dw_lines.specs.ViewTables.{tables_read}
 use Rattle.dw_meaning.proofs.FieldPutLaws.{width-some}
 use Rattle.dw_meaning.proofs.LineColumnLaws.{texts_in}
-use Rattle.dw_rewrite.specs.Changes.{FieldSource, offset_at, path_at, texts_at}
+use Rattle.dw_rewrite.specs.Changes.{FieldSource, offset_at, field_mention, texts_at}
 use Rattle.dw_find.specs.ViewLines.{is_text_of, table_fields, text_field, text_fields}
-use Rattle.dw_find.proofs.LinePlaceLaws.{EachReads, PathReads, named_there, stands_there, table-paths}
+use Rattle.dw_find.proofs.LinePlaceLaws.{EachReads, TextReads, named_there, stands_there, table-texts}
 use Rattle.dw_find.proofs.LineTextLaws.{TextsApart, named-offset}
 
 -- where fields of line tables hold offsets into a table of texts
@@ -36,19 +36,19 @@ texts_after-append : (plan : Plan) (m : PathMap) (ts : List (List ℕ)) (xs ys :
 texts_after-append plan m ts [] ys = refl
 texts_after-append plan m ts (x ∷ xs) ys = texts_after-append plan m (with_mention plan m ts x) xs ys
 
-pub texts_at-append : (plan : Plan) (m : PathMap) (s : FieldSource) (ts : List (List ℕ)) (fs gs : List TextField)
+pub texts_at-append : (plan : Plan) (m : PathMap) (s : FieldSource) (ts : List (List ℕ)) (fs gs : List OffsetField)
     → texts_at plan m s ts (fs ++ gs) ≡ texts_at plan m s (texts_at plan m s ts fs) gs
 texts_at-append plan m s ts [] gs = refl
-texts_at-append plan m s ts (f ∷ fs) gs = texts_at-append plan m s (with_mention plan m ts (path_at s f)) fs gs
+texts_at-append plan m s ts (f ∷ fs) gs = texts_at-append plan m s (with_mention plan m ts (field_mention s f)) fs gs
 
--- the offset that the field of a path in a table of texts holds is the path's place
+-- the offset that the field of a text in a table of texts holds is the text's place
 no-both : (a : Bool) → (not a && false) ≡ true → ⊥
 no-both true e = true≢false (sym e)
 no-both false e = true≢false (sym e)
 
-pub text-offset : (g : LineSource) (table : TextSection) (w : Width) (x : TextPlace) → IsWhole g → PathReads g w x → is_text_of g.number g.str.number table x ≡ true
-    → offset_at (line_texts g table) (record { at = x.field; size = width_size w }) ≡ x.at
-text-offset g table w x whole (stands_there y is) e = absurd (by_table table e)
+pub text-offset : (g : LineSource) (table : TextSection) (w : Width) (x : TextPlace) (path : Bool) → IsWhole g → TextReads g w x → is_text_of g.number g.str.number table x ≡ true
+    → offset_at (line_texts g table) (record { at = x.field; size = width_size w; path = path }) ≡ x.at
+text-offset g table w x path whole (stands_there y is) e = absurd (by_table table e)
   where
     here : (x.section == g.number) ≡ true
     here = eq-eqb x.section g.number is
@@ -56,7 +56,7 @@ text-offset g table w x whole (stands_there y is) e = absurd (by_table table e)
     by_table : (t : TextSection) → is_text_of g.number g.str.number t x ≡ true → ⊥
     by_table InStr e = true≢false (sym e ∙ ap (λ (a : Bool). not a && x.section == g.str.number) here)
     by_table InLineStr e = true≢false (sym e ∙ ap (λ (a : Bool). not a && not (x.section == g.str.number)) here)
-text-offset g table w x whole (named_there z n field room reads ends) e =
+text-offset g table w x path whole (named_there z n field room reads ends) e =
     by_table table z (named-offset g (texts_in g z) field (width_size w) n whole.own (width-some w) room reads) ends e
   where
     by_table : (t u : TextSection) → offset_of g.order (texts_in g u) (cells_at g.cells field (width_size w)) ≡ n → ends_in (texts_in g u).bytes n ≡ true
@@ -71,48 +71,48 @@ text-offset g table w x whole (named_there z n field room reads ends) e =
         let same : (g.str.number == g.str.number) ≡ true = eq-eqb g.str.number g.str.number refl in
         absurd (no-both (g.str.number == g.number) (ap (λ (b : Bool). not (g.str.number == g.number) && not b) (sym same) ∙ e))
 
--- the text of a path
-path-texts : (g : LineSource) (table : TextSection) (w : Width) (plan : Plan) (m : PathMap) (ts : List (List ℕ)) (x : TextPlace) → IsWhole g → PathReads g w x
-    → texts_after plan m ts (mention_in g table x) ≡ texts_at plan m (line_texts g table) ts (text_field g.number g.str.number table w x)
-path-texts g InStr w plan m ts x whole reads = by (x.section == g.number) (x.section == g.str.number) refl refl
+-- a text
+text-texts : (g : LineSource) (table : TextSection) (w : Width) (plan : Plan) (m : PathMap) (ts : List (List ℕ)) (x : LineText) → IsWhole g → TextReads g w x.place
+    → texts_after plan m ts (mention_of g table x) ≡ texts_at plan m (line_texts g table) ts (text_field g.number g.str.number table w x)
+text-texts g InStr w plan m ts x whole reads = by (x.place.section == g.number) (x.place.section == g.str.number) refl refl
   where
-    by : (a b : Bool) → (x.section == g.number) ≡ a → (x.section == g.str.number) ≡ b
-        → texts_after plan m ts (if a then [] else (if b then path_in g.str.bytes x ∷ [] else []))
-        ≡ texts_at plan m (line_texts g InStr) ts (if (not a && b) then record { at = x.field; size = width_size w } ∷ [] else [])
+    by : (a b : Bool) → (x.place.section == g.number) ≡ a → (x.place.section == g.str.number) ≡ b
+        → texts_after plan m ts (if a then [] else (if b then text_mention g.str.bytes x ∷ [] else []))
+        ≡ texts_at plan m (line_texts g InStr) ts (if (not a && b) then record { at = x.place.field; size = width_size w; path = x.path } ∷ [] else [])
     by true b e f = refl
     by false false e f = refl
     by false true e f =
-        let says : is_text_of g.number g.str.number InStr x ≡ true = rw (e, f) refl in
-        ap (λ (n : ℕ). with_mention plan m ts (record { path = true; text = text_in g.str.bytes n })) (sym (text-offset g InStr w x whole reads says))
-path-texts g InLineStr w plan m ts x whole reads = by (x.section == g.number) (x.section == g.str.number) refl refl
+        let says : is_text_of g.number g.str.number InStr x.place ≡ true = rw (e, f) refl in
+        ap (λ (n : ℕ). with_mention plan m ts (record { path = x.path; text = text_in g.str.bytes n })) (sym (text-offset g InStr w x.place x.path whole reads says))
+text-texts g InLineStr w plan m ts x whole reads = by (x.place.section == g.number) (x.place.section == g.str.number) refl refl
   where
-    by : (a b : Bool) → (x.section == g.number) ≡ a → (x.section == g.str.number) ≡ b
-        → texts_after plan m ts (if a then [] else (if b then [] else path_in g.line_str.bytes x ∷ []))
-        ≡ texts_at plan m (line_texts g InLineStr) ts (if (not a && not b) then record { at = x.field; size = width_size w } ∷ [] else [])
+    by : (a b : Bool) → (x.place.section == g.number) ≡ a → (x.place.section == g.str.number) ≡ b
+        → texts_after plan m ts (if a then [] else (if b then [] else text_mention g.line_str.bytes x ∷ []))
+        ≡ texts_at plan m (line_texts g InLineStr) ts (if (not a && not b) then record { at = x.place.field; size = width_size w; path = x.path } ∷ [] else [])
     by true b e f = refl
     by false true e f = refl
     by false false e f =
-        let says : is_text_of g.number g.str.number InLineStr x ≡ true = rw (e, f) refl in
-        ap (λ (n : ℕ). with_mention plan m ts (record { path = true; text = text_in g.line_str.bytes n })) (sym (text-offset g InLineStr w x whole reads says))
+        let says : is_text_of g.number g.str.number InLineStr x.place ≡ true = rw (e, f) refl in
+        ap (λ (n : ℕ). with_mention plan m ts (record { path = x.path; text = text_in g.line_str.bytes n })) (sym (text-offset g InLineStr w x.place x.path whole reads says))
 
-paths-texts : (g : LineSource) (table : TextSection) (w : Width) (plan : Plan) (m : PathMap) (ts : List (List ℕ)) (xs : List TextPlace) → IsWhole g → EachReads g w xs
-    → texts_after plan m ts (paths_mentions g table xs) ≡ texts_at plan m (line_texts g table) ts (text_fields g.number g.str.number table w xs)
-paths-texts g table w plan m ts [] whole reads = refl
-paths-texts g table w plan m ts (x ∷ xs) whole reads =
-    texts_after-append plan m ts (mention_in g table x) (paths_mentions g table xs)
-    ∙ ap (λ (us : List (List ℕ)). texts_after plan m us (paths_mentions g table xs)) (path-texts g table w plan m ts x whole reads.0)
-    ∙ paths-texts g table w plan m (texts_at plan m (line_texts g table) ts (text_field g.number g.str.number table w x)) xs whole reads.1
+all-texts : (g : LineSource) (table : TextSection) (w : Width) (plan : Plan) (m : PathMap) (ts : List (List ℕ)) (xs : List LineText) → IsWhole g → EachReads g w xs
+    → texts_after plan m ts (texts_mentions g table xs) ≡ texts_at plan m (line_texts g table) ts (text_fields g.number g.str.number table w xs)
+all-texts g table w plan m ts [] whole reads = refl
+all-texts g table w plan m ts (x ∷ xs) whole reads =
+    texts_after-append plan m ts (mention_of g table x) (texts_mentions g table xs)
+    ∙ ap (λ (us : List (List ℕ)). texts_after plan m us (texts_mentions g table xs)) (text-texts g table w plan m ts x whole reads.0)
+    ∙ all-texts g table w plan m (texts_at plan m (line_texts g table) ts (text_field g.number g.str.number table w x)) xs whole reads.1
     ∙ sym (texts_at-append plan m (line_texts g table) ts (text_field g.number g.str.number table w x) (text_fields g.number g.str.number table w xs))
 
 -- those of tables
 pub lines-texts : (g : LineSource) (table : TextSection) (plan : Plan) (m : PathMap) (ts : List (List ℕ)) (p e : ℕ) (rs : List LineReading) → IsWhole g → TablesTo g p rs e
-    → texts_after plan m ts (line_mentions g table rs)
+    → texts_after plan m ts (all_texts_mentions g table rs)
     ≡ texts_at plan m (line_texts g table) ts (table_fields g.number g.str.number table (tables_read g rs))
 lines-texts g table plan m ts p e [] whole reads = refl
 lines-texts g table plan m ts p e (r ∷ rs) whole reads =
-    let xs : List TextPlace = paths_of (table_read g r) in
-    texts_after-append plan m ts (paths_mentions g table xs) (line_mentions g table rs)
-    ∙ ap (λ (us : List (List ℕ)). texts_after plan m us (line_mentions g table rs)) (paths-texts g table r.header.width plan m ts (paths_of (table_read g r)) whole (table-paths g p r reads.0))
-    ∙ lines-texts g table plan m (texts_at plan m (line_texts g table) ts (text_fields g.number g.str.number table r.header.width (paths_of (table_read g r)))) r.header.end e rs whole reads.1
-    ∙ sym (texts_at-append plan m (line_texts g table) ts (text_fields g.number g.str.number table r.header.width (paths_of (table_read g r)))
+    texts_after-append plan m ts (texts_mentions g table (table_read g r).texts) (all_texts_mentions g table rs)
+    ∙ ap (λ (us : List (List ℕ)). texts_after plan m us (all_texts_mentions g table rs))
+    (all-texts g table r.header.width plan m ts (table_read g r).texts whole (table-texts g p r reads.0))
+    ∙ lines-texts g table plan m (texts_at plan m (line_texts g table) ts (text_fields g.number g.str.number table r.header.width (table_read g r).texts)) r.header.end e rs whole reads.1
+    ∙ sym (texts_at-append plan m (line_texts g table) ts (text_fields g.number g.str.number table r.header.width (table_read g r).texts)
     (table_fields g.number g.str.number table (tables_read g rs)))

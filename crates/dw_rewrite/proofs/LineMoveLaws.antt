@@ -1,5 +1,5 @@
 -- Line tables are moved one behind another: runs and offsets so far, and those of the tables that are left, are those of all.
-use Rattle.std.proofs.Common.{◌≡◌, ◌≢◌, ℕ, zero, suc, ◌+◌, ◌<◌, ◌≤◌, ◌^◌, List, [], ◌∷◌, ◌++◌, length, get_or, drop, Option, Some, refl, sym, ap, ◌∙◌, subst, arith, append_assoc, append-nil}
+use Rattle.std.proofs.Common.{Bool, ◌≡◌, ◌≢◌, ℕ, zero, suc, ◌+◌, ◌<◌, ◌≤◌, ◌^◌, List, [], ◌∷◌, ◌++◌, length, get_or, drop, Option, Some, refl, sym, ap, ◌∙◌, subst, arith, append_assoc, append-nil}
 use Rattle.std.proofs.Math.Seq.{drop-cons}
 use Rattle.std.proofs.lemmas.List.{drop_all, length-append}
 use Rattle.dw_base.specs.Cells.{bytes_of}
@@ -47,7 +47,7 @@ pub apart-behind : (g : LineSource) (r : LineReading) (rs : List LineReading) �
 apart-behind g r [] h = tt
 apart-behind g r (x ∷ xs) h = h
 
-pub all-move : (m : PathMap) (g : LineSource) (ks kl : ℕ → Option ℕ) (p n e : ℕ) (rs : List LineReading) → bytes_of g.cells ≡ g.bytes → TablesApart g rs → EachClear g rs
+pub all-move : (m : PathMap) (g : LineSource) (ks kl : Bool → ℕ → Option ℕ) (p n e : ℕ) (rs : List LineReading) → bytes_of g.cells ≡ g.bytes → TablesApart g rs → EachClear g rs
     → TablesTo g p rs e → AllStandIn g (tables_read g rs) → n + length (all_lines (lines_known m g ks kl (tables_read g rs))) < 2 ^ 63
     → AllMove m g ks kl p n (tables_read g rs) (starts_from n (lines_known m g ks kl (tables_read g rs)))
 all-move m g ks kl p n e [] own apart clear tables stand small = tt
@@ -99,11 +99,11 @@ file-apart b (x ∷ xs) reads =
     )
 
 -- what was found and written of tables
-pub starts-known : (m : PathMap) (g : LineSource) (ks kl : ℕ → Option ℕ) (ts : List LineTable) (bs ns : List ℕ) → LinesWritten m g ks kl ts bs ns → length bs ≤ output_limit
+pub starts-known : (m : PathMap) (g : LineSource) (ks kl : Bool → ℕ → Option ℕ) (ts : List LineTable) (bs ns : List ℕ) → LinesWritten m g ks kl ts bs ns → length bs ≤ output_limit
     → StartsKnown m g ks kl ts ns
 starts-known m g ks kl ts bs ns w small = record { starts = w.starts; small = subst (λ (x : List ℕ). length x ≤ output_limit) w.bytes small }
 
-found-move : (m : PathMap) (v : View) (ks kl : ℕ → Option ℕ) (ts : List LineTable) (ns : List ℕ) → ((rs : List LineReading) → AreTables (line_source (debug_data v)) rs
+found-move : (m : PathMap) (v : View) (ks kl : Bool → ℕ → Option ℕ) (ts : List LineTable) (ns : List ℕ) → ((rs : List LineReading) → AreTables (line_source (debug_data v)) rs
     → TablesApart (line_source (debug_data v)) rs) → LeftRelocationsRead (debug_data v) (moving_sections v) → TablesFound v ts → StartsKnown m (line_source (debug_data v)) ks kl ts ns
     → AllMove m (line_source (debug_data v)) ks kl 0 0 ts ns
 found-move m v ks kl ts ns apart left found starts =
@@ -116,7 +116,7 @@ found-move m v ks kl ts ns apart left found starts =
     (left-clear (debug_data v) (moving_sections v) found.readings left found.reads) found.reads
     (subst (AllStandIn (line_source (debug_data v))) found.is (all-stand (line_source (debug_data v)) ts (length (line_source (debug_data v)).bytes) found)) (omega (arith, small))))
 
-pub view-move : (m : PathMap) (b : List ℕ) (v : View) (i : ℕ) (ks kl : ℕ → Option ℕ) (ts : List LineTable) (ns : List ℕ) → v ≡ view_of b
+pub view-move : (m : PathMap) (b : List ℕ) (v : View) (i : ℕ) (ks kl : Bool → ℕ → Option ℕ) (ts : List LineTable) (ns : List ℕ) → v ≡ view_of b
     → LeftRelocationsRead (debug_data v) (moving_sections v) → TablesFound v ts → StartsKnown m (line_source (debug_data v)) ks kl ts ns → Some i ≡ section_named v (name_of Line)
     → AllMove m (view_source v i) ks kl 0 0 ts ns
 view-move m b v i ks kl ts ns file left found starts e =
@@ -125,12 +125,12 @@ view-move m b v i ks kl ts ns file left found starts e =
     (subst (λ (w : View). (rs : List LineReading) → AreTables (line_source (debug_data w)) rs → TablesApart (line_source (debug_data w)) rs) (sym file) (file-apart b)) left found starts)
 
 -- a table among them
-record TableHere (m : PathMap) (g : LineSource) (ks kl : ℕ → Option ℕ) (place new : ℕ) (t : LineTable) (ts : List LineTable) (ns : List ℕ) (i : ℕ) : Type 0 where
+record TableHere (m : PathMap) (g : LineSource) (ks kl : Bool → ℕ → Option ℕ) (place new : ℕ) (t : LineTable) (ts : List LineTable) (ns : List ℕ) (i : ℕ) : Type 0 where
   inside : i < length ns
   moves : TableMoves m g ks kl place new (get_or ns i 0) t
   rest : AllMove m g ks kl (stretches_end place (table_stretches_by_texts g m (text_known g ks kl) t)) (new_end new (table_stretches_by_texts g m (text_known g ks kl) t)) ts (drop (suc i) ns)
 
-table-here : (m : PathMap) (g : LineSource) (ks kl : ℕ → Option ℕ) (place new : ℕ) (t : LineTable) (ts : List LineTable) (ns : List ℕ) (i : ℕ)
+table-here : (m : PathMap) (g : LineSource) (ks kl : Bool → ℕ → Option ℕ) (place new : ℕ) (t : LineTable) (ts : List LineTable) (ns : List ℕ) (i : ℕ)
     → AllMove m g ks kl place new (t ∷ ts) (drop i ns) → TableHere m g ks kl place new t ts ns i
 table-here m g ks kl place new t ts [] zero h = absurd h
 table-here m g ks kl place new t ts [] (suc i) h = absurd h
@@ -141,14 +141,14 @@ table-here m g ks kl place new t ts (n ∷ ns) (suc i) h =
     record { inside = omega (arith, inside); moves = r.moves; rest = r.rest }
 
 -- where a pass over tables stands
-pub record MovePass (m : PathMap) (g : LineSource) (ks kl : ℕ → Option ℕ) (ts : List LineTable) (ns : List ℕ) (runs : List Run) (offsets : List NewFieldOffset) (i : ℕ) : Type 0 where
+pub record MovePass (m : PathMap) (g : LineSource) (ks kl : Bool → ℕ → Option ℕ) (ts : List LineTable) (ns : List ℕ) (runs : List Run) (offsets : List NewFieldOffset) (i : ℕ) : Type 0 where
   pub place : ℕ
   pub new : ℕ
   pub runs_are : runs ++ runs_from place new (stretches_known m g ks kl (drop i ts)) ≡ line_runs m g ks kl ts
   pub offsets_are : offsets ++ offsets_from place (stretches_known m g ks kl (drop i ts)) ≡ line_offsets m g ks kl ts
   pub moves : AllMove m g ks kl place new (drop i ts) (drop i ns)
 
-pub pass-starts : (m : PathMap) (g : LineSource) (ks kl : ℕ → Option ℕ) (ts : List LineTable) (ns : List ℕ) (runs : List Run) (offsets : List NewFieldOffset) → runs ≡ [] → offsets ≡ []
+pub pass-starts : (m : PathMap) (g : LineSource) (ks kl : Bool → ℕ → Option ℕ) (ts : List LineTable) (ns : List ℕ) (runs : List Run) (offsets : List NewFieldOffset) → runs ≡ [] → offsets ≡ []
     → AllMove m g ks kl 0 0 ts ns → MovePass m g ks kl ts ns runs offsets 0
 pass-starts m g ks kl ts ns runs offsets r o moves = record {
   place = 0;
@@ -163,26 +163,26 @@ front ts t i lt is =
     let next : suc i ≡ i + 1 = omega arith in
     drop-cons ts i t lt ∙ ap (λ (x : LineTable). x ∷ drop (suc i) ts) (sym is) ∙ ap (λ (n : ℕ). t ∷ drop n ts) next
 
-here : (m : PathMap) (g : LineSource) (ks kl : ℕ → Option ℕ) (ts : List LineTable) (ns : List ℕ) (runs : List Run) (offsets : List NewFieldOffset) (i : ℕ) (t : LineTable)
+here : (m : PathMap) (g : LineSource) (ks kl : Bool → ℕ → Option ℕ) (ts : List LineTable) (ns : List ℕ) (runs : List Run) (offsets : List NewFieldOffset) (i : ℕ) (t : LineTable)
     (p : MovePass m g ks kl ts ns runs offsets i) → i < length ts → t ≡ get_or ts i t → TableHere m g ks kl p.place p.new t (drop (i + 1) ts) ns i
 here m g ks kl ts ns runs offsets i t p lt is =
     table-here m g ks kl p.place p.new t (drop (i + 1) ts) ns i (subst (λ (us : List LineTable). AllMove m g ks kl p.place p.new us (drop i ns)) (front ts t i lt is) p.moves)
 
 -- its start is there, and it moves from there
-pub pass-inside : (m : PathMap) (g : LineSource) (ks kl : ℕ → Option ℕ) (ts : List LineTable) (ns : List ℕ) (runs : List Run) (offsets : List NewFieldOffset) (i : ℕ) (t : LineTable)
+pub pass-inside : (m : PathMap) (g : LineSource) (ks kl : Bool → ℕ → Option ℕ) (ts : List LineTable) (ns : List ℕ) (runs : List Run) (offsets : List NewFieldOffset) (i : ℕ) (t : LineTable)
     → MovePass m g ks kl ts ns runs offsets i → i < length ts → t ≡ get_or ts i t → i < length ns
 pass-inside m g ks kl ts ns runs offsets i t p lt is = (here m g ks kl ts ns runs offsets i t p lt is).inside
 
-pub pass-stands : (m : PathMap) (g : LineSource) (ks kl : ℕ → Option ℕ) (ts : List LineTable) (ns : List ℕ) (runs : List Run) (offsets : List NewFieldOffset) (i : ℕ) (t : LineTable)
+pub pass-stands : (m : PathMap) (g : LineSource) (ks kl : Bool → ℕ → Option ℕ) (ts : List LineTable) (ns : List ℕ) (runs : List Run) (offsets : List NewFieldOffset) (i : ℕ) (t : LineTable)
     → MovePass m g ks kl ts ns runs offsets i → i < length ts → t ≡ get_or ts i t → StandsIn g t
 pass-stands m g ks kl ts ns runs offsets i t p lt is = (here m g ks kl ts ns runs offsets i t p lt is).moves.stands
 
-pub pass-order : (m : PathMap) (g : LineSource) (ks kl : ℕ → Option ℕ) (ts : List LineTable) (ns : List ℕ) (runs : List Run) (offsets : List NewFieldOffset) (i : ℕ) (t : LineTable)
+pub pass-order : (m : PathMap) (g : LineSource) (ks kl : Bool → ℕ → Option ℕ) (ts : List LineTable) (ns : List ℕ) (runs : List Run) (offsets : List NewFieldOffset) (i : ℕ) (t : LineTable)
     → MovePass m g ks kl ts ns runs offsets i → i < length ts → t ≡ get_or ts i t → TextsInOrder g m (text_known g ks kl) t
 pass-order m g ks kl ts ns runs offsets i t p lt is = (here m g ks kl ts ns runs offsets i t p lt is).moves.order
 
 -- one table more
-pub pass-more : (m : PathMap) (g : LineSource) (ks kl : ℕ → Option ℕ) (ts : List LineTable) (ns : List ℕ) (runs more : List Run) (offsets fields : List NewFieldOffset) (i n : ℕ) (t : LineTable)
+pub pass-more : (m : PathMap) (g : LineSource) (ks kl : Bool → ℕ → Option ℕ) (ts : List LineTable) (ns : List ℕ) (runs more : List Run) (offsets fields : List NewFieldOffset) (i n : ℕ) (t : LineTable)
     → MovePass m g ks kl ts ns runs offsets i → i < length ts → t ≡ get_or ts i t → n ≡ get_or ns i 0
     → more ≡ runs ++ runs_from t.start n (table_stretches_by_texts g m (text_known g ks kl) t) → fields ≡ offsets ++ offsets_from t.start (table_stretches_by_texts g m (text_known g ks kl) t)
     → MovePass m g ks kl ts ns more fields (i + 1)
@@ -212,33 +212,33 @@ pass-more m g ks kl ts ns runs more offsets fields i n t p lt is start e f =
           (drop (i + 1) ts) (drop k ns)) next h.rest;
     }
 
-pub pass-runs : (m : PathMap) (g : LineSource) (ks kl : ℕ → Option ℕ) (ts : List LineTable) (ns : List ℕ) (runs : List Run) (offsets : List NewFieldOffset) (i : ℕ) → length ts ≤ i
+pub pass-runs : (m : PathMap) (g : LineSource) (ks kl : Bool → ℕ → Option ℕ) (ts : List LineTable) (ns : List ℕ) (runs : List Run) (offsets : List NewFieldOffset) (i : ℕ) → length ts ≤ i
     → MovePass m g ks kl ts ns runs offsets i → runs ≡ line_runs m g ks kl ts
 pass-runs m g ks kl ts ns runs offsets i end p =
     sym (append-nil runs) ∙ ap (λ (us : List LineTable). runs ++ runs_from p.place p.new (stretches_known m g ks kl us)) (sym (drop_all i ts end)) ∙ p.runs_are
 
-pub pass-offsets : (m : PathMap) (g : LineSource) (ks kl : ℕ → Option ℕ) (ts : List LineTable) (ns : List ℕ) (runs : List Run) (offsets : List NewFieldOffset) (i : ℕ) → length ts ≤ i
+pub pass-offsets : (m : PathMap) (g : LineSource) (ks kl : Bool → ℕ → Option ℕ) (ts : List LineTable) (ns : List ℕ) (runs : List Run) (offsets : List NewFieldOffset) (i : ℕ) → length ts ≤ i
     → MovePass m g ks kl ts ns runs offsets i → offsets ≡ line_offsets m g ks kl ts
 pass-offsets m g ks kl ts ns runs offsets i end p =
     sym (append-nil offsets) ∙ ap (λ (us : List LineTable). offsets ++ offsets_from p.place (stretches_known m g ks kl us)) (sym (drop_all i ts end)) ∙ p.offsets_are
 
 -- a table that stands in a section of a number, by its own number
-pub order-own : (m : PathMap) (v : View) (i : ℕ) (ks kl : ℕ → Option ℕ) (t : LineTable) → StandsIn (view_source v i) t → TextsInOrder (view_source v i) m (text_known (view_source v i) ks kl) t
+pub order-own : (m : PathMap) (v : View) (i : ℕ) (ks kl : Bool → ℕ → Option ℕ) (t : LineTable) → StandsIn (view_source v i) t → TextsInOrder (view_source v i) m (text_known (view_source v i) ks kl) t
     → TextsInOrder (view_source v t.section) m (text_known (view_source v t.section) ks kl) t
 order-own m v i ks kl t s h = subst (λ (n : ℕ). TextsInOrder (view_source v n) m (text_known (view_source v n) ks kl) t) (sym s.section) h
 
-pub fits-own : (m : PathMap) (v : View) (i new : ℕ) (ks kl : ℕ → Option ℕ) (t : LineTable) → StandsIn (view_source v i) t
+pub fits-own : (m : PathMap) (v : View) (i new : ℕ) (ks kl : Bool → ℕ → Option ℕ) (t : LineTable) → StandsIn (view_source v i) t
     → new_end new (table_stretches_by_texts (view_source v i) m (text_known (view_source v i) ks kl) t) < 2 ^ 63
     → new_end new (table_stretches_by_texts (view_source v t.section) m (text_known (view_source v t.section) ks kl) t) < 2 ^ 63
 fits-own m v i new ks kl t s h = subst (λ (n : ℕ). new_end new (table_stretches_by_texts (view_source v n) m (text_known (view_source v n) ks kl) t) < 2 ^ 63) (sym s.section) h
 
-pub runs-there : (m : PathMap) (v : View) (i new : ℕ) (ks kl : ℕ → Option ℕ) (t : LineTable) (runs more : List Run) → StandsIn (view_source v i) t
+pub runs-there : (m : PathMap) (v : View) (i new : ℕ) (ks kl : Bool → ℕ → Option ℕ) (t : LineTable) (runs more : List Run) → StandsIn (view_source v i) t
     → more ≡ runs ++ runs_from t.start new (table_stretches_by_texts (view_source v t.section) m (text_known (view_source v t.section) ks kl) t)
     → more ≡ runs ++ runs_from t.start new (table_stretches_by_texts (view_source v i) m (text_known (view_source v i) ks kl) t)
 runs-there m v i new ks kl t runs more s e =
     e ∙ ap (λ (n : ℕ). runs ++ runs_from t.start new (table_stretches_by_texts (view_source v n) m (text_known (view_source v n) ks kl) t)) s.section
 
-pub offsets-there : (m : PathMap) (v : View) (i : ℕ) (ks kl : ℕ → Option ℕ) (t : LineTable) (offsets more : List NewFieldOffset) → StandsIn (view_source v i) t
+pub offsets-there : (m : PathMap) (v : View) (i : ℕ) (ks kl : Bool → ℕ → Option ℕ) (t : LineTable) (offsets more : List NewFieldOffset) → StandsIn (view_source v i) t
     → more ≡ offsets ++ offsets_from t.start (table_stretches_by_texts (view_source v t.section) m (text_known (view_source v t.section) ks kl) t)
     → more ≡ offsets ++ offsets_from t.start (table_stretches_by_texts (view_source v i) m (text_known (view_source v i) ks kl) t)
 offsets-there m v i ks kl t offsets more s e =

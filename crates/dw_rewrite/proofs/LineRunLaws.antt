@@ -325,7 +325,7 @@ table-sized g m places t = (
   ),
 )
 
-lines-sized : (m : PathMap) (g : LineSource) (ks kl : ℕ → Option ℕ) (ts : List LineTable) → AllSizedStretches (stretches_known m g ks kl ts)
+lines-sized : (m : PathMap) (g : LineSource) (ks kl : Bool → ℕ → Option ℕ) (ts : List LineTable) → AllSizedStretches (stretches_known m g ks kl ts)
 lines-sized m g ks kl [] = tt
 lines-sized m g ks kl (t ∷ ts) =
     stretches-both (table_stretches_by_texts g m (text_known g ks kl) t) (stretches_known m g ks kl ts) (table-sized g m (text_known g ks kl) t) (lines-sized m g ks kl ts)
@@ -337,10 +337,10 @@ stretches-sized a (other_stretch n bytes ∷ xs) h = stretches-sized (a + n) xs 
 stretches-sized a (offset_stretch zero to ∷ xs) h = stretches-sized (a + 0) xs h.1
 stretches-sized a (offset_stretch (suc n) to ∷ xs) h = (h.0, stretches-sized (a + suc n) xs h.1)
 
-pub offsets-sized : (m : PathMap) (g : LineSource) (ks kl : ℕ → Option ℕ) (ts : List LineTable) → OffsetsSized (line_offsets m g ks kl ts)
+pub offsets-sized : (m : PathMap) (g : LineSource) (ks kl : Bool → ℕ → Option ℕ) (ts : List LineTable) → OffsetsSized (line_offsets m g ks kl ts)
 offsets-sized m g ks kl ts = stretches-sized 0 (stretches_known m g ks kl ts) (lines-sized m g ks kl ts)
 
 -- what tables that were read become
-pub stretches-read : (m : PathMap) (g : LineSource) (ks kl : ℕ → Option ℕ) (rs : List LineReading) → stretches_known m g ks kl (tables_read g rs) ≡ all_stretches_by_texts g m (text_known g ks kl) rs
+pub stretches-read : (m : PathMap) (g : LineSource) (ks kl : Bool → ℕ → Option ℕ) (rs : List LineReading) → stretches_known m g ks kl (tables_read g rs) ≡ all_stretches_by_texts g m (text_known g ks kl) rs
 stretches-read m g ks kl [] = refl
 stretches-read m g ks kl (r ∷ rs) = ap (λ (xs : List Stretch). table_stretches_by_texts g m (text_known g ks kl) (table_read g r) ++ xs) (stretches-read m g ks kl rs)

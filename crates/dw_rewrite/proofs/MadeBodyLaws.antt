@@ -1,8 +1,6 @@
 -- The new bodies, as the code makes them, are those of the readings of debug data; and why there are none.
-use Rattle.std.proofs.Common.{◌≡◌, ℕ, zero, suc, ◌+◌, ◌-◌, ◌^◌, ◌<◌, ◌≤◌, List, [], ◌∷◌, ◌++◌, length, drop, get_or, Option, Some, None, refl, sym, ap, ◌∙◌, subst, arith}
-use Rattle.std.proofs.Math.Seq.{drop-append_seam}
+use Rattle.std.proofs.Common.{Bool, ◌≡◌, ℕ, zero, suc, ◌+◌, ◌^◌, ◌<◌, ◌≤◌, List, [], ◌∷◌, ◌++◌, length, get_or, Option, Some, None, refl, sym, ap, ◌∙◌, subst, arith}
 use Rattle.std.proofs.lemmas.List.{length-append}
-use Rattle.dw_base.specs.Cells.{CellSection}
 use Rattle.dw_base.specs.DebugData.{DebugData, DataReadings, around_of, line_source}
 use Rattle.dw_base.specs.DebugSections.{name_of}
 use Rattle.dw_base.specs.FileViews.{View, section_named}
@@ -17,78 +15,44 @@ use Rattle.dw_base.specs.TextChanges.{TableChange}
 use Rattle.dw_base.specs.TextLineChanges.{table_by_texts, text_place}
 use Rattle.dw_base.specs.Texts.{laid_texts}
 use Rattle.dw_base.specs.ViewData.{debug_data}
-use Rattle.dw_base.specs.declared.debug_sections.DebugSection.TheVariants.{Info, Str, LineStr, StrOffsets, Line, Macro, Names}
-use Rattle.dw_base.specs.declared.texts.TextField.{TextField}
+use Rattle.dw_base.specs.declared.debug_sections.DebugSection.TheVariants.{Info, Str, LineStr, StrOffsets, Line, Names}
 use Rattle.dw_base.specs.declared.texts.TextSection.{TextSection}
 use Rattle.dw_base.specs.declared.texts.TextSection.TheVariants.{InStr, InLineStr}
 use Rattle.dw_lines.specs.NewTexts.{text_known}
 use Rattle.dw_lines.specs.ViewTables.{TablesFound}
 use Rattle.dw_meaning.specs.DataOutput.{Body, DataFits, EachWritable, cells_body, changes_of, lines_body, macro_bodies, macros_after, names_after, new_bodies, new_lines, offsets_after, table_change, unit_bodies}
 use Rattle.dw_meaning.specs.NewAddends.{AddendsFit}
-use Rattle.dw_find.specs.FoundPaths.{PathsFound, without_lines}
-use Rattle.dw_find.specs.MacroSections.{HaveUnits, SectionUnits, UnitsFoundIn, macros_read}
-use Rattle.dw_meaning.proofs.DataKeptLaws.{places-stay}
+use Rattle.dw_find.specs.AllFields.{Fields, all_of, standing}
+use Rattle.dw_find.specs.FoundPaths.{PathsFound}
+use Rattle.dw_find.specs.MacroSections.{macros_read}
+use Rattle.dw_find.specs.NameSections.{names_read}
 use Rattle.dw_rewrite.specs.Changes.{FieldSource, Knows, start_known}
 use Rattle.dw_rewrite.specs.NewStarts.{StartsFit}
 use Rattle.dw_find.specs.ViewFields.{AllHaveOffsets, AllHavePlaces, AllRoomsFit, fields_of, table_number}
 use Rattle.dw_rewrite.specs.NewTables.{IsSectionNoted, TableMade, bodies_after, bodies_known, plan_in, source_in, table_body_of, texts_of}
-use Rattle.dw_find.specs.SlotPaths.{count_of, lines_count, read_fields, slots_by, slots_of_view, slots_read}
-use Rattle.dw_rewrite.specs.PushedBodies.{macros_count, names_body, one_body, pushed_bodies, slots_count, some_sections, without_slots, slots_among as slots_in}
+use Rattle.dw_find.specs.SlotPaths.{slots_read}
+use Rattle.dw_rewrite.specs.PushedBodies.{one_body, pushed_bodies}
 use Rattle.dw_find.specs.SectionFields.{SectionFields, paths_of}
 use Rattle.dw_rewrite.specs.NewLines.{AllCanWrite, LinesWritten, lines_known}
 use Rattle.dw_find.specs.ViewLines.{lines_by, lines_of_view, lines_with, starts_of, table_fields}
 use Rattle.dw_rewrite.proofs.LineKnownLaws.{EachCanWrite, NotedIn, TablesAgree, all-can, lines-same, tables-agree}
-use Rattle.dw_rewrite.proofs.MacroWrittenLaws.{macros-bodies, macros-number}
+use Rattle.dw_rewrite.proofs.ListGrowthLaws.{of-macros, of-names, of-slots, of-units}
+use Rattle.dw_rewrite.proofs.MacroWrittenLaws.{macros-bodies}
 use Rattle.dw_find.proofs.TableStartLaws.{read-starts}
-use Rattle.dw_rewrite.proofs.NewBodyLaws.{known-bodies, made-noted, names-body, readings-bodies, slots-body, starts_after}
+use Rattle.dw_rewrite.proofs.NameWrittenLaws.{names-body}
+use Rattle.dw_rewrite.proofs.NewBodyLaws.{known-bodies, made-noted, readings-bodies, slots-body, starts_after}
 use Rattle.dw_find.proofs.PlaceValueLaws.{EachOf}
 use Rattle.dw_find.proofs.StartLaws.{starts-rise}
-use Rattle.dw_find.proofs.FoundUnitLaws.{front-is, lines-number, without-is}
 use Rattle.dw_rewrite.proofs.TableTextLaws.{lines-none, lines-whole, made-table, same-lines, same-texts, table-bytes}
 use Rattle.dw_rewrite.proofs.LineMentionLaws.{line_texts}
-use Rattle.dw_rewrite.proofs.PushLaws.{offsets-front}
-
-back-is : {X : Type 0} (xs ys : List X) (n : ℕ) → length ys ≡ n → drop (length (xs ++ ys) - n) (xs ++ ys) ≡ ys
-back-is xs ys n e =
-    let size : length (xs ++ ys) - n ≡ length xs = omega (arith, e, length-append xs ys) in
-    ap (λ (k : ℕ). drop k (xs ++ ys)) size ∙ drop-append_seam xs ys
-
-slots-number : (o : Option ℕ) (fields : List TextField) → length (slots_by o fields) ≡ count_of o
-slots-number None fields = refl
-slots-number (Some i) fields = refl
-
-pub found-without : (m : PathMap) (v : View) (us : List SectionFields) (ts : List LineTable) (f : PathsFound m v us ts)
-    → without_lines v us ≡ (paths_of f.readings.units ++ slots_read v f.readings) ++ macros_read f.readings.macros
-found-without m v us ts f = without-is v us ((paths_of f.readings.units ++ slots_read v f.readings) ++ macros_read f.readings.macros) ts f.is
-
-macros-many : (m : PathMap) (v : View) (us : List SectionFields) (ts : List LineTable) (f : PathsFound m v us ts) → length (macros_read f.readings.macros) ≡ macros_count v
-macros-many m v us ts f = macros-number (debug_data v).base.order ((debug_data v).found Macro) f.readings.macros f.reads.macros
-
--- the bodies of parts that are these
-abbrev bodies_of_parts : PathMap → View → (ℕ → Option ℕ) → (ℕ → Option ℕ) → (ℕ → Option ℕ) → Body → List SectionFields → List SectionFields → List SectionFields → List Body
-bodies_of_parts m v ks kl kt lines units slots macros =
-    one_body (bodies_known m v ks kl kt slots) ++ lines ∷ names_body v ∷ (bodies_known m v ks kl kt macros ++ bodies_known m v ks kl kt units)
-
-pushed-is : (m : PathMap) (v : View) (ks kl kt : ℕ → Option ℕ) (lines : Body) (us xs ms : List SectionFields) (fields : List TextField) → us ≡ (xs ++ slots_of_view v fields) ++ ms
-    → length ms ≡ macros_count v → pushed_bodies m v ks kl kt lines us ≡ bodies_of_parts m v ks kl kt lines xs (slots_of_view v fields) ms
-pushed-is m v ks kl kt lines us xs ms fields is many =
-    let number : length (slots_of_view v fields) ≡ slots_count v = slots-number (section_named v (name_of StrOffsets)) fields in
-    let front : List SectionFields = xs ++ slots_of_view v fields in
-    let parts : List SectionFields → List SectionFields → List Body =
-    λ ys zs. bodies_of_parts m v ks kl kt lines (without_slots v ys) (slots_in v ys) zs in
-    ap (pushed_bodies m v ks kl kt lines) is
-    ∙ ap (λ (ys : List SectionFields). parts ys (drop (length (front ++ ms) - macros_count v) (front ++ ms))) (front-is front ms (macros_count v) many)
-    ∙ ap (parts front) (back-is front ms (macros_count v) many)
-    ∙ ap (λ (ys : List SectionFields). bodies_of_parts m v ks kl kt lines ys (slots_in v front) ms) (front-is xs (slots_of_view v fields) (slots_count v) number)
-    ∙ ap (λ (ys : List SectionFields). bodies_of_parts m v ks kl kt lines xs ys ms) (back-is xs (slots_of_view v fields) (slots_count v) number)
 
 each-parts : {X : Type 0} (P : X → Type 0) (xs ys : List X) → EachOf P (xs ++ ys) → EachOf P xs × EachOf P ys
 each-parts P [] ys h = (tt, h)
 each-parts P (x ∷ xs) ys h = let rest = each-parts P xs ys h.1 in ((h.0, rest.0), rest.1)
 
 -- the known places make the bodies of some of the sections
-known-parts : (m : PathMap) (v : View) (us part : List SectionFields) (ts : List LineTable) (ps pl : TextTable) (ks kl kt : ℕ → Option ℕ) (f : PathsFound m v us ts) → TableMade m v InStr us ps ks
-    → TableMade m v InLineStr us pl kl → EachOf (λ u. IsSectionNoted m v InStr u ks) part → EachOf (λ u. IsSectionNoted m v InLineStr u kl) part
+known-parts : (m : PathMap) (v : View) (us : Fields) (part : List SectionFields) (ts : List LineTable) (ps pl : TextTable) (ks kl kt : Bool → ℕ → Option ℕ) (f : PathsFound m v us ts) → TableMade m v InStr (all_of us) ps ks
+    → TableMade m v InLineStr (all_of us) pl kl → EachOf (λ u. IsSectionNoted m v InStr u ks) part → EachOf (λ u. IsSectionNoted m v InLineStr u kl) part
     → bodies_known m v ks kl kt part ≡ bodies_after m v (table_change m InStr (around_of (debug_data v) f.readings) f.readings).texts
     (table_change m InLineStr (around_of (debug_data v) f.readings) f.readings).texts kt part
 known-parts m v us part ts ps pl ks kl kt f s l ns nl =
@@ -104,7 +68,7 @@ each-from : {X : Type 0} (P : X → Type 0) (xs : List X) → ((k : ℕ) (d : X)
 each-from P [] f = tt
 each-from P (x ∷ xs) f = (f 0 x (omega arith), each-from P xs (λ (k : ℕ) d (lt : k < length xs). f (suc k) d (omega arith)))
 
-noted-lines : (m : PathMap) (v : View) (table : TextSection) (i : ℕ) (ts : List LineTable) (known : ℕ → Option ℕ) → Some i ≡ section_named v (name_of Line)
+noted-lines : (m : PathMap) (v : View) (table : TextSection) (i : ℕ) (ts : List LineTable) (known : Bool → ℕ → Option ℕ) → Some i ≡ section_named v (name_of Line)
     → IsSectionNoted m v table (lines_with (line_source (debug_data v)) ts) known
     → EachOf (NotedIn (plan_in m v table) (line_texts (line_source (debug_data v)) table) known)
     (table_fields (line_source (debug_data v)).number (line_source (debug_data v)).str.number table ts)
@@ -117,14 +81,14 @@ noted-lines m v table i ts known e noted =
     (subst (EachOf (NotedIn (plan_in m v table) (source_in v (line_source (debug_data v)).number table) known))
     (sym (same-lines (line_source (debug_data v)) table ts)) all)
 
-table-knows : (m : PathMap) (v : View) (table : TextSection) (us : List SectionFields) (ts : List LineTable) (pool : TextTable) (known : ℕ → Option ℕ) (f : PathsFound m v us ts)
-    → TableMade m v table us pool known
+table-knows : (m : PathMap) (v : View) (table : TextSection) (us : Fields) (ts : List LineTable) (pool : TextTable) (known : Bool → ℕ → Option ℕ) (f : PathsFound m v us ts)
+    → TableMade m v table (all_of us) pool known
     → Knows (plan_in m v table) m (texts_of v table).bytes (table_change m table (around_of (debug_data v) f.readings) f.readings).texts known
 table-knows m v table us ts pool known f t =
     subst (λ (xs : List (List ℕ)). Knows (plan_in m v table) m (texts_of v table).bytes xs known) (made-table m v table us ts pool known f t) t.grown.knows
 
-lines-agree-by : (m : PathMap) (v : View) (us : List SectionFields) (ts : List LineTable) (ps pl : TextTable) (ks kl : ℕ → Option ℕ) (f : PathsFound m v us ts) → TableMade m v InStr us ps ks
-    → TableMade m v InLineStr us pl kl → (o : Option ℕ) → o ≡ section_named v (name_of Line)
+lines-agree-by : (m : PathMap) (v : View) (us : Fields) (ts : List LineTable) (ps pl : TextTable) (ks kl : Bool → ℕ → Option ℕ) (f : PathsFound m v us ts) → TableMade m v InStr (all_of us) ps ks
+    → TableMade m v InLineStr (all_of us) pl kl → (o : Option ℕ) → o ≡ section_named v (name_of Line)
     → EachOf (λ u. IsSectionNoted m v InStr u ks) (lines_by o (line_source (debug_data v)) ts) → EachOf (λ u. IsSectionNoted m v InLineStr u kl) (lines_by o (line_source (debug_data v)) ts)
     → TablesAgree (line_source (debug_data v)) (text_known (line_source (debug_data v)) ks kl)
     (text_place m (change_of_table m v f.readings InStr) (change_of_table m v f.readings InLineStr) (line_source (debug_data v))) f.readings.lines
@@ -134,38 +98,40 @@ lines-agree-by m v us ts ps pl ks kl f s l None e ns nl =
     (text_place m (change_of_table m v f.readings InStr) (change_of_table m v f.readings InLineStr) (line_source (debug_data v)))) (sym (lines-none v f.readings.lines e f.reads.lines)) tt
 lines-agree-by m v us ts ps pl ks kl f s l (Some i) e ns nl =
     tables-agree (line_source (debug_data v)) m (change_of_table m v f.readings InStr) (change_of_table m v f.readings InLineStr) ks kl 0 (length (line_source (debug_data v)).bytes)
-    f.readings.lines (lines-whole v) (places-stay m (debug_data v) f.readings) f.reads.lines (table-knows m v InStr us ts ps ks f s) (table-knows m v InLineStr us ts pl kl f l)
+    f.readings.lines (lines-whole v) f.reads.lines (table-knows m v InStr us ts ps ks f s) (table-knows m v InLineStr us ts pl kl f l)
     (subst (λ (us_ : List LineTable). EachOf (NotedIn (plan_in m v InStr) (line_texts (line_source (debug_data v)) InStr) ks)
     (table_fields (line_source (debug_data v)).number (line_source (debug_data v)).str.number InStr us_)) f.tables (noted-lines m v InStr i ts ks e ns.0))
     (subst (λ (us_ : List LineTable). EachOf (NotedIn (plan_in m v InLineStr) (line_texts (line_source (debug_data v)) InLineStr) kl)
     (table_fields (line_source (debug_data v)).number (line_source (debug_data v)).str.number InLineStr us_)) f.tables (noted-lines m v InLineStr i ts kl e nl.0))
 
 -- what is noted of all sections
-pub record NotedParts (m : PathMap) (v : View) (table : TextSection) (rs : DataReadings) (ts : List LineTable) (known : ℕ → Option ℕ) : Type 0 where
+pub record NotedParts (m : PathMap) (v : View) (table : TextSection) (rs : DataReadings) (ts : List LineTable) (known : Bool → ℕ → Option ℕ) : Type 0 where
   pub units : EachOf (λ u. IsSectionNoted m v table u known) (paths_of rs.units)
   pub slots : EachOf (λ u. IsSectionNoted m v table u known) (slots_read v rs)
   pub macros : EachOf (λ u. IsSectionNoted m v table u known) (macros_read rs.macros)
   pub lines : EachOf (λ u. IsSectionNoted m v table u known) (lines_of_view v ts)
+  pub names : EachOf (λ u. IsSectionNoted m v table u known) (names_read v rs)
 
-pub noted-parts : (m : PathMap) (v : View) (table : TextSection) (us : List SectionFields) (ts : List LineTable) (pool : TextTable) (known : ℕ → Option ℕ) (f : PathsFound m v us ts)
-    → TableMade m v table us pool known → NotedParts m v table f.readings ts known
+pub noted-parts : (m : PathMap) (v : View) (table : TextSection) (us : Fields) (ts : List LineTable) (pool : TextTable) (known : Bool → ℕ → Option ℕ) (f : PathsFound m v us ts)
+    → TableMade m v table (all_of us) pool known → NotedParts m v table f.readings ts known
 noted-parts m v table us ts pool known f t =
-    let all = each-parts (λ u. IsSectionNoted m v table u known) ((paths_of f.readings.units ++ slots_read v f.readings) ++ macros_read f.readings.macros) (lines_of_view v ts)
-    (subst (EachOf (λ u. IsSectionNoted m v table u known)) f.is (made-noted m v table us pool known t)) in
-    let front = each-parts (λ u. IsSectionNoted m v table u known) (paths_of f.readings.units ++ slots_read v f.readings) (macros_read f.readings.macros) all.0 in
-    let first = each-parts (λ u. IsSectionNoted m v table u known) (paths_of f.readings.units) (slots_read v f.readings) front.0 in
-    record { units = first.0; slots = first.1; macros = front.1; lines = all.1 }
+    let all = each-parts (λ u. IsSectionNoted m v table u known) (paths_of f.readings.units) (slots_read v f.readings ++ (lines_of_view v ts ++ (macros_read f.readings.macros ++ names_read v f.readings)))
+    (subst (λ (x : Fields). EachOf (λ u. IsSectionNoted m v table u known) (all_of x)) f.is (made-noted m v table (all_of us) pool known t)) in
+    let behind = each-parts (λ u. IsSectionNoted m v table u known) (slots_read v f.readings) (lines_of_view v ts ++ (macros_read f.readings.macros ++ names_read v f.readings)) all.1 in
+    let rest = each-parts (λ u. IsSectionNoted m v table u known) (lines_of_view v ts) (macros_read f.readings.macros ++ names_read v f.readings) behind.1 in
+    let last = each-parts (λ u. IsSectionNoted m v table u known) (macros_read f.readings.macros) (names_read v f.readings) rest.1 in
+    record { units = all.0; slots = behind.0; macros = last.0; lines = rest.0; names = last.1 }
 
-pub lines-agree : (m : PathMap) (v : View) (us : List SectionFields) (ts : List LineTable) (ps pl : TextTable) (ks kl : ℕ → Option ℕ) (f : PathsFound m v us ts) → TableMade m v InStr us ps ks
-    → TableMade m v InLineStr us pl kl
+pub lines-agree : (m : PathMap) (v : View) (us : Fields) (ts : List LineTable) (ps pl : TextTable) (ks kl : Bool → ℕ → Option ℕ) (f : PathsFound m v us ts) → TableMade m v InStr (all_of us) ps ks
+    → TableMade m v InLineStr (all_of us) pl kl
     → TablesAgree (line_source (debug_data v)) (text_known (line_source (debug_data v)) ks kl)
     (text_place m (change_of_table m v f.readings InStr) (change_of_table m v f.readings InLineStr) (line_source (debug_data v))) f.readings.lines
 lines-agree m v us ts ps pl ks kl f s l =
     lines-agree-by m v us ts ps pl ks kl f s l (section_named v (name_of Line)) refl (noted-parts m v InStr us ts ps ks f s).lines (noted-parts m v InLineStr us ts pl kl f l).lines
 
 -- so the new line tables are these
-pub known-lines : (m : PathMap) (v : View) (us : List SectionFields) (ts : List LineTable) (ps pl : TextTable) (ks kl : ℕ → Option ℕ) (f : PathsFound m v us ts) → TableMade m v InStr us ps ks
-    → TableMade m v InLineStr us pl kl → lines_known m (line_source (debug_data v)) ks kl ts ≡ new_lines m (around_of (debug_data v) f.readings) f.readings
+pub known-lines : (m : PathMap) (v : View) (us : Fields) (ts : List LineTable) (ps pl : TextTable) (ks kl : Bool → ℕ → Option ℕ) (f : PathsFound m v us ts) → TableMade m v InStr (all_of us) ps ks
+    → TableMade m v InLineStr (all_of us) pl kl → lines_known m (line_source (debug_data v)) ks kl ts ≡ new_lines m (around_of (debug_data v) f.readings) f.readings
 known-lines m v us ts ps pl ks kl f s l =
     ap (lines_known m (line_source (debug_data v)) ks kl) f.tables
     ∙ lines-same (line_source (debug_data v)) m (change_of_table m v f.readings InStr) (change_of_table m v f.readings InLineStr) ks kl f.readings.lines
@@ -178,8 +144,8 @@ each-writable : (m : PathMap) (d : DebugData) (rs : DataReadings) (xs : List Lin
 each-writable m d rs [] can = tt
 each-writable m d rs (x ∷ xs) can = (can.0, each-writable m d rs xs can.1)
 
-pub made-fits : (m : PathMap) (v : View) (us : List SectionFields) (ts : List LineTable) (ps pl : TextTable) (ks kl : ℕ → Option ℕ) (bs ns : List ℕ) (f : PathsFound m v us ts)
-    → TableMade m v InStr us ps ks → TableMade m v InLineStr us pl kl → LinesWritten m (line_source (debug_data v)) ks kl ts bs ns
+pub made-fits : (m : PathMap) (v : View) (us : Fields) (ts : List LineTable) (ps pl : TextTable) (ks kl : Bool → ℕ → Option ℕ) (bs ns : List ℕ) (f : PathsFound m v us ts)
+    → TableMade m v InStr (all_of us) ps ks → TableMade m v InLineStr (all_of us) pl kl → LinesWritten m (line_source (debug_data v)) ks kl ts bs ns
     → AddendsFit (changes_of m (around_of (debug_data v) f.readings) f.readings) (debug_data v) (around_of (debug_data v) f.readings) f.readings
     → DataFits m (debug_data v) f.readings
 made-fits m v us ts ps pl ks kl bs ns f s l w addends = record {
@@ -192,27 +158,27 @@ made-fits m v us ts ps pl ks kl bs ns f s l w addends = record {
 }
 
 -- the starts that are known
-pub known-starts : (m : PathMap) (v : View) (us : List SectionFields) (ts : List LineTable) (ps pl : TextTable) (ks kl : ℕ → Option ℕ) (bs ns : List ℕ) (f : PathsFound m v us ts)
-    → TableMade m v InStr us ps ks → TableMade m v InLineStr us pl kl → LinesWritten m (line_source (debug_data v)) ks kl ts bs ns
+pub known-starts : (m : PathMap) (v : View) (us : Fields) (ts : List LineTable) (ps pl : TextTable) (ks kl : Bool → ℕ → Option ℕ) (bs ns : List ℕ) (f : PathsFound m v us ts)
+    → TableMade m v InStr (all_of us) ps ks → TableMade m v InLineStr (all_of us) pl kl → LinesWritten m (line_source (debug_data v)) ks kl ts bs ns
     → start_known (starts_of ts) ns ≡ starts_after m v f.readings
 known-starts m v us ts ps pl ks kl bs ns f s l w =
     ap (λ (xs : List ℕ). start_known xs ns) (ap starts_of f.tables ∙ read-starts (line_source (debug_data v)) f.readings.lines)
     ∙ ap (start_known (table_starts f.readings.lines)) (w.starts ∙ ap (starts_from 0) (known-lines m v us ts ps pl ks kl f s l))
 
 -- bodies behind the tables of texts, part by part
-parts-are : {slots macros units ms us : List Body} {lines names first ls ns : Body} → slots ≡ first ∷ [] → lines ≡ ls → names ≡ ns → macros ≡ ms → units ≡ us
-    → slots ++ lines ∷ names ∷ (macros ++ units) ≡ first ∷ ls ∷ ns ∷ (ms ++ us)
+parts-are : {slots names macros units ms us : List Body} {lines first ls ns : Body} → slots ≡ first ∷ [] → lines ≡ ls → names ≡ ns ∷ [] → macros ≡ ms → units ≡ us
+    → slots ++ lines ∷ (names ++ (macros ++ units)) ≡ first ∷ ls ∷ ns ∷ (ms ++ us)
 parts-are a b c d e = rw (a, b, c, d, e) refl
 
 -- all new bodies
-pub made-is : (m : PathMap) (v : View) (us : List SectionFields) (ts : List LineTable) (ps pl : TextTable) (ks kl : ℕ → Option ℕ) (bs ns : List ℕ) (f : PathsFound m v us ts)
-    → TableMade m v InStr us ps ks → TableMade m v InLineStr us pl kl → LinesWritten m (line_source (debug_data v)) ks kl ts bs ns
+pub made-is : (m : PathMap) (v : View) (us : Fields) (ts : List LineTable) (ps pl : TextTable) (ks kl : Bool → ℕ → Option ℕ) (bs ns : List ℕ) (f : PathsFound m v us ts)
+    → TableMade m v InStr (all_of us) ps ks → TableMade m v InLineStr (all_of us) pl kl → LinesWritten m (line_source (debug_data v)) ks kl ts bs ns
     → table_body_of v InStr ps ∷ table_body_of v InLineStr pl
-    ∷ pushed_bodies m v ks kl (start_known (starts_of ts) ns) (record { number = ((debug_data v).found Line).number; bytes = bs }) (without_lines v us)
+    ∷ pushed_bodies m v ks kl (start_known (starts_of ts) ns) (record { number = ((debug_data v).found Line).number; bytes = bs }) us
     ≡ new_bodies m (debug_data v) f.readings
 unfolding new_bodies table_change
 made-is m v us ts ps pl ks kl bs ns f s l w =
-    let kt : ℕ → Option ℕ = start_known (starts_of ts) ns in
+    let kt : Bool → ℕ → Option ℕ = start_known (starts_of ts) ns in
     let text_s : List (List ℕ) = (table_change m InStr (around_of (debug_data v) f.readings) f.readings).texts in
     let text_l : List (List ℕ) = (table_change m InLineStr (around_of (debug_data v) f.readings) f.readings).texts in
     let a = noted-parts m v InStr us ts ps ks f s in
@@ -224,70 +190,39 @@ made-is m v us ts ps pl ks kl bs ns f s l w =
     let units : bodies_known m v ks kl (start_known (starts_of ts) ns) (paths_of f.readings.units)
     ≡ unit_bodies (changes_of m (around_of (debug_data v) f.readings) f.readings) (around_of (debug_data v) f.readings) f.readings.units =
     known-parts m v us (paths_of f.readings.units) ts ps pl ks kl (start_known (starts_of ts) ns) f s l a.units b.units
-    ∙ ap (λ (k : ℕ → Option ℕ). bodies_after m v (table_change m InStr (around_of (debug_data v) f.readings) f.readings).texts
+    ∙ ap (λ (k : Bool → ℕ → Option ℕ). bodies_after m v (table_change m InStr (around_of (debug_data v) f.readings) f.readings).texts
     (table_change m InLineStr (around_of (debug_data v) f.readings) f.readings).texts k (paths_of f.readings.units)) starts
     ∙ readings-bodies m v f.readings [] ((debug_data v).found Info) 0 f.readings.units refl f.reads.units f.inline in
     let slots : one_body (bodies_known m v ks kl (start_known (starts_of ts) ns) (slots_read v f.readings))
     ≡ cells_body ((debug_data v).found StrOffsets).number (joined (offsets_after (changes_of m (around_of (debug_data v) f.readings) f.readings) (around_of (debug_data v) f.readings) f.readings)) ∷ [] =
     ap one_body (known-parts m v us (slots_read v f.readings) ts ps pl ks kl (start_known (starts_of ts) ns) f s l a.slots b.slots)
     ∙ slots-body m v f.readings (start_known (starts_of ts) ns) f.reads.offsets in
-    let names = names-body m v f.readings f.reads.names.cells in
+    let names : one_body (bodies_known m v ks kl (start_known (starts_of ts) ns) (names_read v f.readings))
+    ≡ cells_body ((debug_data v).found Names).number (joined (names_after (changes_of m (around_of (debug_data v) f.readings) f.readings) (around_of (debug_data v) f.readings) f.readings)) ∷ [] =
+    ap one_body (known-parts m v us (names_read v f.readings) ts ps pl ks kl (start_known (starts_of ts) ns) f s l a.names b.names)
+    ∙ names-body m v f.readings (start_known (starts_of ts) ns) f.reads.names in
     let macros : bodies_known m v ks kl (start_known (starts_of ts) ns) (macros_read f.readings.macros)
     ≡ macro_bodies (macros_after (changes_of m (around_of (debug_data v) f.readings) f.readings) (around_of (debug_data v) f.readings) f.readings) =
     known-parts m v us (macros_read f.readings.macros) ts ps pl ks kl (start_known (starts_of ts) ns) f s l a.macros b.macros
-    ∙ ap (λ (k : ℕ → Option ℕ). bodies_after m v (table_change m InStr (around_of (debug_data v) f.readings) f.readings).texts
+    ∙ ap (λ (k : Bool → ℕ → Option ℕ). bodies_after m v (table_change m InStr (around_of (debug_data v) f.readings) f.readings).texts
     (table_change m InLineStr (around_of (debug_data v) f.readings) f.readings).texts k (macros_read f.readings.macros)) starts
     ∙ macros-bodies m v f.readings f.reads.macros in
-    let rest : pushed_bodies m v ks kl (start_known (starts_of ts) ns) (record { number = ((debug_data v).found Line).number; bytes = bs }) (without_lines v us)
+    let rest : pushed_bodies m v ks kl (start_known (starts_of ts) ns) (record { number = ((debug_data v).found Line).number; bytes = bs }) us
     ≡ cells_body ((debug_data v).found StrOffsets).number (joined (offsets_after (changes_of m (around_of (debug_data v) f.readings) f.readings) (around_of (debug_data v) f.readings) f.readings))
     ∷ lines_body (changes_of m (around_of (debug_data v) f.readings) f.readings) (debug_data v)
     ∷ cells_body ((debug_data v).found Names).number (joined (names_after (changes_of m (around_of (debug_data v) f.readings) f.readings) (around_of (debug_data v) f.readings) f.readings))
     ∷ (macro_bodies (macros_after (changes_of m (around_of (debug_data v) f.readings) f.readings) (around_of (debug_data v) f.readings) f.readings)
     ++ unit_bodies (changes_of m (around_of (debug_data v) f.readings) f.readings) (around_of (debug_data v) f.readings) f.readings.units) =
-    pushed-is m v ks kl (start_known (starts_of ts) ns) (record { number = ((debug_data v).found Line).number; bytes = bs }) (without_lines v us) (paths_of f.readings.units)
-    (macros_read f.readings.macros) (read_fields (debug_data v) f.readings) (found-without m v us ts f) (macros-many m v us ts f)
+    ap (pushed_bodies m v ks kl (start_known (starts_of ts) ns) (record { number = ((debug_data v).found Line).number; bytes = bs })) f.is
     ∙ parts-are slots line_is names macros units in
-    ap (λ (x : List ℕ). record { number = ((debug_data v).found Str).number; bytes = x } ∷ table_body_of v InLineStr pl ∷ pushed_bodies m v ks kl kt lines (without_lines v us))
+    ap (λ (x : List ℕ). record { number = ((debug_data v).found Str).number; bytes = x } ∷ table_body_of v InLineStr pl ∷ pushed_bodies m v ks kl kt lines us)
     (table-bytes m v InStr us ts ps ks f s)
     ∙ ap (λ (x : List ℕ). record { number = ((debug_data v).found Str).number; bytes = ((debug_data v).found Str).bytes ++ laid_texts text_s }
-    ∷ record { number = ((debug_data v).found LineStr).number; bytes = x } ∷ pushed_bodies m v ks kl kt lines (without_lines v us)) (table-bytes m v InLineStr us ts pl kl f l)
+    ∷ record { number = ((debug_data v).found LineStr).number; bytes = x } ∷ pushed_bodies m v ks kl kt lines us) (table-bytes m v InLineStr us ts pl kl f l)
     ∙ ap (λ (xs : List Body). record { number = ((debug_data v).found Str).number; bytes = ((debug_data v).found Str).bytes ++ laid_texts text_s }
     ∷ record { number = ((debug_data v).found LineStr).number; bytes = ((debug_data v).found LineStr).bytes ++ laid_texts text_l } ∷ xs) rest
 
--- the section of string offsets and those of macro units are among them, and that of line tables
-pub some-among : (m : PathMap) (v : View) (us part : List SectionFields) (ts : List LineTable) → PathsFound m v us ts → part ≡ without_lines v us → some_sections v ≤ length part
-some-among m v us part ts f is =
-    let number : length (slots_read v f.readings) ≡ slots_count v = slots-number (section_named v (name_of StrOffsets)) (read_fields (debug_data v) f.readings) in
-    let many : length (macros_read f.readings.macros) ≡ macros_count v = macros-many m v us ts f in
-    let size : length part ≡ length ((paths_of f.readings.units ++ slots_read v f.readings) ++ macros_read f.readings.macros) =
-    ap (λ (l : List SectionFields). length l) (is ∙ found-without m v us ts f) in
-    let all : slots_count v + macros_count v ≤ length part =
-    omega (
-      arith,
-      number,
-      many,
-      size,
-      length-append (paths_of f.readings.units ++ slots_read v f.readings) (macros_read f.readings.macros),
-      length-append (paths_of f.readings.units) (slots_read v f.readings),
-    ) in
-    all
-
-units-many : (v : View) (zs : List CellSection) (ss : List SectionUnits) → HaveUnits v zs ss → length ss ≡ length zs
-units-many v [] [] have = refl
-units-many v [] (s ∷ ss) have = absurd have
-units-many v (z ∷ zs) [] have = absurd have
-units-many v (z ∷ zs) (s ∷ ss) have = ap suc (units-many v zs ss have.2)
-
-pub macros-among : (v : View) (ss : List SectionUnits) (n : ℕ) → UnitsFoundIn v ss → n ≡ length ss → n ≡ macros_count v
-macros-among v ss n found is = is ∙ units-many v ((debug_data v).found Macro) ss found.units
-
-pub lines-among : (m : PathMap) (v : View) (us : List SectionFields) (ts : List LineTable) → PathsFound m v us ts → lines_count v ≤ length us
-lines-among m v us ts f =
-    let number : length (lines_of_view v ts) ≡ lines_count v = lines-number (section_named v (name_of Line)) (line_source (debug_data v)) ts in
-    let size : length us ≡ length (((paths_of f.readings.units ++ slots_read v f.readings) ++ macros_read f.readings.macros) ++ lines_of_view v ts) = ap (λ (l : List SectionFields). length l) f.is in
-    omega (arith, number, size, length-append ((paths_of f.readings.units ++ slots_read v f.readings) ++ macros_read f.readings.macros) (lines_of_view v ts))
-
-pub all-offsets : (m : PathMap) (v : View) (us : List SectionFields) (ts : List LineTable) → PathsFound m v us ts → AllHaveOffsets v us
+pub all-offsets : (m : PathMap) (v : View) (us : Fields) (ts : List LineTable) → PathsFound m v us ts → AllHaveOffsets v (all_of us)
 all-offsets m v us ts f = f.offsets
 
 -- the new starts fit
@@ -298,11 +233,11 @@ start-within n (suc k) (t ∷ ts) lt =
     let rest = start-within (n + length t) k ts (omega (arith, lt)) in
     omega (arith, rest, length-append t (all_lines ts))
 
-length-known : (m : PathMap) (g : LineSource) (ks kl : ℕ → Option ℕ) (n : ℕ) (ts : List LineTable) → length (starts_from n (lines_known m g ks kl ts)) ≡ length (starts_of ts)
+length-known : (m : PathMap) (g : LineSource) (ks kl : Bool → ℕ → Option ℕ) (n : ℕ) (ts : List LineTable) → length (starts_from n (lines_known m g ks kl ts)) ≡ length (starts_of ts)
 length-known m g ks kl n [] = refl
 length-known m g ks kl n (t ∷ ts) = ap suc (length-known m g ks kl (n + length (table_by_texts g m (text_known g ks kl) t)) ts)
 
-pub starts-fit : (m : PathMap) (v : View) (us : List SectionFields) (ts : List LineTable) (ks kl : ℕ → Option ℕ) (bs ns old : List ℕ) → PathsFound m v us ts
+pub starts-fit : (m : PathMap) (v : View) (us : Fields) (ts : List LineTable) (ks kl : Bool → ℕ → Option ℕ) (bs ns old : List ℕ) → PathsFound m v us ts
     → LinesWritten m (line_source (debug_data v)) ks kl ts bs ns → old ≡ starts_of ts → length bs ≤ output_limit → StartsFit (record { old = old; new = ns })
 starts-fit m v us ts ks kl bs ns old f w is small =
     let first : old ≡ table_starts f.readings.lines = is ∙ ap starts_of f.tables ∙ read-starts (line_source (debug_data v)) f.readings.lines in
@@ -316,7 +251,7 @@ starts-fit m v us ts ks kl bs ns old f w is small =
           subst (λ (x : List ℕ). get_or x i 0 < 2 ^ 32) (sym w.starts) (omega (arith, within, size, small));
     }
 
-pub slices-fit : (m : PathMap) (v : View) (us : List SectionFields) (ts : List LineTable) (ks kl : ℕ → Option ℕ) (bs ns old first second : List ℕ) → PathsFound m v us ts
+pub slices-fit : (m : PathMap) (v : View) (us : Fields) (ts : List LineTable) (ks kl : Bool → ℕ → Option ℕ) (bs ns old first second : List ℕ) → PathsFound m v us ts
     → LinesWritten m (line_source (debug_data v)) ks kl ts bs ns → old ≡ starts_of ts → first ≡ old → second ≡ ns → length bs ≤ output_limit
     → StartsFit (record { old = first; new = second })
 slices-fit m v us ts ks kl bs ns old first second f w is a b small =
@@ -334,16 +269,24 @@ two-pushed none one_ two_ a b x y e f g i j =
     let second : two_ ≡ a ∷ b ∷ [] = g ∙ ap (λ (bs : List Body). bs ++ b ∷ []) first in
     second ∙ ap (λ (z : Body). z ∷ b ∷ []) i ∙ ap (λ (z : Body). x ∷ z ∷ []) j
 
-pub have-places : (m : PathMap) (v : View) (us part : List SectionFields) (ts : List LineTable) → PathsFound m v us ts → part ≡ without_lines v us → AllHavePlaces v part
-have-places m v us part ts f is = subst (AllHavePlaces v) (sym is) f.places
+pub have-places : (m : PathMap) (v : View) (us : Fields) (ts : List LineTable) → PathsFound m v us ts → AllHavePlaces v (standing us)
+have-places m v us ts f = f.places
 
-pub have-offsets : (m : PathMap) (v : View) (us part : List SectionFields) (ts : List LineTable) → PathsFound m v us ts → part ≡ without_lines v us → AllHaveOffsets v part
-have-offsets m v us part ts f is = offsets-front v (length us - lines_count v) us part is f.offsets
+offsets-append : (v : View) (xs ys : List SectionFields) → AllHaveOffsets v xs → AllHaveOffsets v ys → AllHaveOffsets v (xs ++ ys)
+offsets-append v [] ys h k = k
+offsets-append v (x ∷ xs) ys h k = (h.0, offsets-append v xs ys h.1 k)
 
-pub rooms-fit : (m : PathMap) (v : View) (us part : List SectionFields) (ts : List LineTable) → PathsFound m v us ts → part ≡ without_lines v us → AllRoomsFit m v part
-rooms-fit m v us part ts f is = subst (AllRoomsFit m v) (sym is) f.rooms
+pub have-offsets : (m : PathMap) (v : View) (us : Fields) (ts : List LineTable) → PathsFound m v us ts → AllHaveOffsets v (standing us)
+have-offsets m v us ts f =
+    offsets-append v ((us.units ++ us.slots) ++ us.macros) us.names
+    (offsets-append v (us.units ++ us.slots) us.macros
+    (offsets-append v us.units us.slots (of-units v us us.units refl f.offsets) (of-slots v us us.slots refl f.offsets)) (of-macros v us us.macros refl f.offsets))
+    (of-names v us us.names refl f.offsets)
 
-pub found-tables : (m : PathMap) (v : View) (us : List SectionFields) (ts : List LineTable) → PathsFound m v us ts → TablesFound v ts
+pub rooms-fit : (m : PathMap) (v : View) (us : Fields) (ts : List LineTable) → PathsFound m v us ts → AllRoomsFit m v (standing us)
+rooms-fit m v us ts f = f.rooms
+
+pub found-tables : (m : PathMap) (v : View) (us : Fields) (ts : List LineTable) → PathsFound m v us ts → TablesFound v ts
 found-tables m v us ts f = record { readings = f.readings.lines; reads = f.reads.lines; is = f.tables }
 
-pub ruleset body_rules = (all-offsets, some-among, macros-among, lines-among, have-places, have-offsets, rooms-fit, found-tables)
+pub ruleset body_rules = (all-offsets, have-places, have-offsets, rooms-fit, found-tables)

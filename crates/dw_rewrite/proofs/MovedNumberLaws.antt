@@ -1,8 +1,8 @@
--- The sections whose relocations are written anew: units, string offsets, macro units and line tables, each of which is read and has bytes. All
--- others have the contents that they had.
-use Rattle.std.proofs.Common.{Bool, true, false, ◌≡◌, ◌≢◌, ◌⊎◌, inl, inr, ℕ, ◌<◌, ◌==◌, ◌||◌, nat_lt, List, [], ◌∷◌, ◌++◌, Option, Some, None, refl, sym, ap, ◌∙◌, subst, arith}
+-- The sections whose relocations are written anew: units, string offsets, macro units, name tables and line tables, each of which is read and has
+-- bytes. All others have the contents that they had.
+use Rattle.std.proofs.Common.{Bool, true, false, ◌≡◌, ◌≢◌, inl, inr, ℕ, ◌<◌, ◌==◌, ◌||◌, nat_lt, List, [], ◌∷◌, ◌++◌, Option, Some, None, refl, sym, ap, ◌∙◌, subst, arith}
 use Rattle.std.specs.Prelude.{is_some}
-use Rattle.std.proofs.lemmas.Bool.{and_parts, cases_eq, cases_lt, eq-eqb, eqb-true, ltb-true}
+use Rattle.std.proofs.lemmas.Bool.{and_parts, cases_lt, eq-eqb, eqb-true, ltb-true}
 use Rattle.dw_base.specs.Cells.{Cell}
 use Rattle.dw_base.specs.DebugData.{Around, DataReadings}
 use Rattle.dw_base.specs.DebugSections.{debug_section, name_of}
@@ -17,21 +17,22 @@ use Rattle.dw_base.specs.TextChanges.{TableChanges, edited_all}
 use Rattle.dw_base.specs.ViewData.{cells_located, debug_data}
 use Rattle.dw_base.specs.declared.debug_sections.DebugSection.{DebugSection}
 use Rattle.dw_base.specs.declared.debug_sections.DebugSection.TheVariants.{StrOffsets, Line, Names}
-use Rattle.dw_base.specs.declared.texts.TextField.{TextField}
-use Rattle.dw_meaning.specs.DataOutput.{DataReads, table_change}
+use Rattle.dw_base.specs.declared.texts.TextSection.TheVariants.{InStr}
+use Rattle.dw_offsets.specs.declared.fields.OffsetField.{OffsetField}
+use Rattle.dw_meaning.specs.DataOutput.{DataReads}
 use Rattle.dw_meaning.specs.FileMeanings.{file_data}
 use Rattle.dw_meaning.specs.RelocatedBodies.{CellBody, cell_body, cells_of_number, macro_cells, old_contents, unit_cells}
-use Rattle.dw_meaning.proofs.CellBackLaws.{file-owns, new-open, now_in, zero-now, zero-old}
-use Rattle.dw_meaning.proofs.CellKeptLaws.{cells-behind, cells-further, cells-names}
-use Rattle.dw_meaning.proofs.FileKeptLaws.{CanMap, around_file, changes_file, new_names, read-section}
+use Rattle.dw_meaning.proofs.CellBackLaws.{new-open, now_in, zero-now, zero-old}
+use Rattle.dw_meaning.proofs.CellKeptLaws.{cells-behind, cells-further}
+use Rattle.dw_meaning.proofs.FileKeptLaws.{CanMap, around_file, changes_file, read-section}
 use Rattle.dw_find.specs.MacroSections.{macros_read}
+use Rattle.dw_find.specs.NameSections.{names_read, names_texts}
 use Rattle.dw_find.specs.SlotPaths.{read_fields, slots_by, slots_read}
 use Rattle.dw_find.specs.SectionFields.{SectionFields, paths_of}
 use Rattle.dw_rewrite.specs.Bodies.{lines_numbers, moved_numbers, numbers_in}
 use Rattle.dw_rewrite.proofs.BodyLaws.{AllFull, file-macros, file-units, macro_numbers, named-full, unit_numbers}
 use Rattle.dw_rewrite.proofs.FileBodyLaws.{AreMoved}
 use Rattle.dw_rewrite.proofs.HeldBodyLaws.{AllRead, is_among}
-use Rattle.dw_rewrite.proofs.SlotWrittenLaws.{names-kept}
 
 -- A number among two lists.
 or-parts : (x y : Bool) → (x || y) ≡ false → (x ≡ false) × (y ≡ false)
@@ -65,16 +66,18 @@ named-numbers b s (Some i) e = (named-full b s i e, tt)
 
 abbrev pub read_numbers : List ℕ → DataReadings → List ℕ
 read_numbers b r =
-    ((unit_numbers r.units ++ lines_numbers (section_named (view_of b) (name_of StrOffsets))) ++ macro_numbers r.macros)
+    (((unit_numbers r.units ++ lines_numbers (section_named (view_of b) (name_of StrOffsets))) ++ macro_numbers r.macros) ++ lines_numbers (section_named (view_of b) (name_of Names)))
     ++ lines_numbers (section_named (view_of b) (name_of Line))
 
 numbers-full : (b : List ℕ) (r : DataReadings) → DataReads (file_data b) r → AllFull b (read_numbers b r)
 numbers-full b r reads =
-    full-append b ((unit_numbers r.units ++ lines_numbers (section_named (view_of b) (name_of StrOffsets))) ++ macro_numbers r.macros)
+    full-append b (((unit_numbers r.units ++ lines_numbers (section_named (view_of b) (name_of StrOffsets))) ++ macro_numbers r.macros) ++ lines_numbers (section_named (view_of b) (name_of Names)))
     (lines_numbers (section_named (view_of b) (name_of Line)))
+    (full-append b ((unit_numbers r.units ++ lines_numbers (section_named (view_of b) (name_of StrOffsets))) ++ macro_numbers r.macros) (lines_numbers (section_named (view_of b) (name_of Names)))
     (full-append b (unit_numbers r.units ++ lines_numbers (section_named (view_of b) (name_of StrOffsets))) (macro_numbers r.macros)
     (full-append b (unit_numbers r.units) (lines_numbers (section_named (view_of b) (name_of StrOffsets))) (file-units b r reads)
     (named-numbers b StrOffsets (section_named (view_of b) (name_of StrOffsets)) refl)) (file-macros b r reads))
+    (named-numbers b Names (section_named (view_of b) (name_of Names)) refl))
     (named-numbers b Line (section_named (view_of b) (name_of Line)) refl)
 
 all-read : (b ns : List ℕ) → AllFull b ns → AllRead b ns
@@ -107,6 +110,10 @@ lines-other : (b : List ℕ) (t : ℕ) → 0 < t → is_among t (lines_numbers (
 unfolding debug_data
 lines-other b t some none = other-number b Line t some none
 
+names-other : (b : List ℕ) (t : ℕ) → 0 < t → is_among t (lines_numbers (section_named (view_of b) (name_of Names))) ≡ false → t ≢ ((file_data b).found Names).number
+unfolding debug_data
+names-other b t some none = other-number b Names t some none
+
 -- and none of macro units and units
 macros-further : (c : TableChanges) (around : Around) (rs : List MacroReading) (ys : List CellBody) (old : List Cell) (t : ℕ) → is_among t (macro_numbers rs) ≡ false
     → cells_of_number (macro_cells (edited_macros c around rs) ++ ys) old t ≡ cells_of_number ys old t
@@ -123,38 +130,33 @@ units-further c around (r ∷ rs) old t none =
     cells-further (cell_body r.number (joined (edited_all c around r.pieces))) (unit_cells c around rs) old t (among-other t r.number (unit_numbers rs) none)
     ∙ units-further c around rs old t (or-parts (r.number == t) (is_among t (unit_numbers rs)) none).1
 
--- and name tables have their contents
-others-stay : (m : PathMap) (b : List ℕ) (r : DataReadings) (t : ℕ) → CanMap m b r → new_names m b r ≡ joined r.names → t < section_count b → is_among t (read_numbers b r) ≡ false
-    → now_in m b r t ≡ old_contents b t
-others-stay m b r t w kept lt none =
-    let front = among-neither t ((unit_numbers r.units ++ lines_numbers (section_named (view_of b) (name_of StrOffsets))) ++ macro_numbers r.macros)
+-- so it has its contents
+others-stay : (m : PathMap) (b : List ℕ) (r : DataReadings) (t : ℕ) → CanMap m b r → t < section_count b → is_among t (read_numbers b r) ≡ false → now_in m b r t ≡ old_contents b t
+others-stay m b r t w lt none =
+    let front = among-neither t (((unit_numbers r.units ++ lines_numbers (section_named (view_of b) (name_of StrOffsets))) ++ macro_numbers r.macros) ++ lines_numbers (section_named (view_of b) (name_of Names)))
     (lines_numbers (section_named (view_of b) (name_of Line))) none in
-    let more = among-neither t (unit_numbers r.units ++ lines_numbers (section_named (view_of b) (name_of StrOffsets))) (macro_numbers r.macros) front.0 in
+    let named = among-neither t ((unit_numbers r.units ++ lines_numbers (section_named (view_of b) (name_of StrOffsets))) ++ macro_numbers r.macros) (lines_numbers (section_named (view_of b) (name_of Names))) front.0 in
+    let more = among-neither t (unit_numbers r.units ++ lines_numbers (section_named (view_of b) (name_of StrOffsets))) (macro_numbers r.macros) named.0 in
     let first = among-neither t (unit_numbers r.units) (lines_numbers (section_named (view_of b) (name_of StrOffsets))) more.0 in
     elim (cases_lt 0 t) [
-      | inl some ↦ by_names some first.0 more.1 (offsets-other b t some first.1) (lines-other b t some front.1) (cases_eq t ((file_data b).found Names).number)
+      | inl some ↦
+          cells-behind (changes_file m b r) (file_data b) (around_file b r) r (old_contents b t) t (offsets-other b t some first.1) (lines-other b t some front.1)
+          (names-other b t some named.1)
+          ∙ macros-further (changes_file m b r) (around_file b r) r.macros (unit_cells (changes_file m b r) (around_file b r) r.units) (old_contents b t) t more.1
+          ∙ units-further (changes_file m b r) (around_file b r) r.units (old_contents b t) t first.0
       | inr zero ↦
           let same : t ≡ 0 = omega (arith, zero) in
           let there : 0 < section_count b = omega (arith, lt, same) in
           ap (now_in m b r) same ∙ zero-now m b r w there ∙ sym (zero-old m b r w there) ∙ ap (old_contents b) (sym same)
     ]
-  where
-    by_names : 0 < t → is_among t (unit_numbers r.units) ≡ false → is_among t (macro_numbers r.macros) ≡ false → t ≢ ((file_data b).found StrOffsets).number → t ≢ ((file_data b).found Line).number
-        → (t ≡ ((file_data b).found Names).number) ⊎ (t ≡ ((file_data b).found Names).number → ⊥) → now_in m b r t ≡ old_contents b t
-    by_names some units macros offsets lines (inl same) =
-        cells-names (changes_file m b r) (file_data b) (around_file b r) r (old_contents b t) t (sym same) offsets lines ∙ kept ∙ (file-owns m b r t w lt).names (sym same)
-    by_names some units macros offsets lines (inr other) =
-        cells-behind (changes_file m b r) (file_data b) (around_file b r) r (old_contents b t) t offsets lines other
-        ∙ macros-further (changes_file m b r) (around_file b r) r.macros (unit_cells (changes_file m b r) (around_file b r) r.units) (old_contents b t) t macros
-        ∙ units-further (changes_file m b r) (around_file b r) r.units (old_contents b t) t units
 
-read-moved : (m : PathMap) (b : List ℕ) (r : DataReadings) → CanMap m b r → new_names m b r ≡ joined r.names → AreMoved m b r (read_numbers b r)
-read-moved m b r w kept = record {
+read-moved : (m : PathMap) (b : List ℕ) (r : DataReadings) → CanMap m b r → AreMoved m b r (read_numbers b r)
+read-moved m b r w = record {
   read = all-read b (read_numbers b r) (numbers-full b r w.reads.data_reads);
   full = λ t among. among-full b t (read_numbers b r) (numbers-full b r w.reads.data_reads) among;
   others = λ t read none.
       new-open m b r t
-      ∙ others-stay m b r t w kept
+      ∙ others-stay m b r t w
       (ltb-true t (section_count b) (and_parts (nat_lt t (section_count b)) (is_some (debug_section (section_name b t))) read).0) none;
 }
 
@@ -167,7 +169,7 @@ numbers-units : (rs : Readings) → numbers_in (paths_of rs) ≡ unit_numbers rs
 numbers-units [] = refl
 numbers-units (r ∷ rs) = ap (λ (ns : List ℕ). r.number ∷ ns) (numbers-units rs)
 
-numbers-slots : (o : Option ℕ) (fields : List TextField) → numbers_in (slots_by o fields) ≡ lines_numbers o
+numbers-slots : (o : Option ℕ) (fields : List OffsetField) → numbers_in (slots_by o fields) ≡ lines_numbers o
 numbers-slots None fields = refl
 numbers-slots (Some i) fields = refl
 
@@ -175,19 +177,22 @@ numbers-macros : (rs : List MacroReading) → numbers_in (macros_read rs) ≡ ma
 numbers-macros [] = refl
 numbers-macros (r ∷ rs) = ap (λ (ns : List ℕ). r.number ∷ ns) (numbers-macros rs)
 
-numbers-are : (b : List ℕ) (r : DataReadings) → moved_numbers (view_of b) r ≡ read_numbers b r
-numbers-are b r =
-    ap (λ (ns : List ℕ). ns ++ lines_numbers (section_named (view_of b) (name_of Line)))
-    (numbers-append (paths_of r.units ++ slots_read (view_of b) r) (macros_read r.macros)
+front-are : (b : List ℕ) (r : DataReadings) → numbers_in ((paths_of r.units ++ slots_read (view_of b) r) ++ macros_read r.macros) ≡ (unit_numbers r.units ++ lines_numbers (section_named (view_of b) (name_of StrOffsets))) ++ macro_numbers r.macros
+front-are b r =
+    numbers-append (paths_of r.units ++ slots_read (view_of b) r) (macros_read r.macros)
     ∙ ap (λ (ns : List ℕ). ns ++ numbers_in (macros_read r.macros)) (numbers-append (paths_of r.units) (slots_read (view_of b) r))
     ∙ ap (λ (ns : List ℕ). (ns ++ numbers_in (slots_read (view_of b) r)) ++ numbers_in (macros_read r.macros)) (numbers-units r.units)
     ∙ ap (λ (ns : List ℕ). (unit_numbers r.units ++ ns) ++ numbers_in (macros_read r.macros))
     (numbers-slots (section_named (view_of b) (name_of StrOffsets)) (read_fields (debug_data (view_of b)) r))
-    ∙ ap (λ (ns : List ℕ). (unit_numbers r.units ++ lines_numbers (section_named (view_of b) (name_of StrOffsets))) ++ ns) (numbers-macros r.macros))
+    ∙ ap (λ (ns : List ℕ). (unit_numbers r.units ++ lines_numbers (section_named (view_of b) (name_of StrOffsets))) ++ ns) (numbers-macros r.macros)
 
-kept-names : (m : PathMap) (b : List ℕ) (r : DataReadings) → new_names m b r ≡ joined r.names
-unfolding table_change
-kept-names m b r = names-kept (changes_file m b r) (around_file b r) r.names refl
+numbers-are : (b : List ℕ) (r : DataReadings) → moved_numbers (view_of b) r ≡ read_numbers b r
+numbers-are b r =
+    ap (λ (ns : List ℕ). ns ++ lines_numbers (section_named (view_of b) (name_of Line)))
+    (numbers-append ((paths_of r.units ++ slots_read (view_of b) r) ++ macros_read r.macros) (names_read (view_of b) r)
+    ∙ ap (λ (ns : List ℕ). ns ++ numbers_in (names_read (view_of b) r)) (front-are b r)
+    ∙ ap (λ (ns : List ℕ). ((unit_numbers r.units ++ lines_numbers (section_named (view_of b) (name_of StrOffsets))) ++ macro_numbers r.macros) ++ ns)
+    (numbers-slots (section_named (view_of b) (name_of Names)) (names_texts InStr r.names)))
 
 pub are-moved : (m : PathMap) (b : List ℕ) (r : DataReadings) → CanMap m b r → AreMoved m b r (moved_numbers (view_of b) r)
-are-moved m b r w = subst (AreMoved m b r) (sym (numbers-are b r)) (read-moved m b r w (kept-names m b r))
+are-moved m b r w = subst (AreMoved m b r) (sym (numbers-are b r)) (read-moved m b r w)

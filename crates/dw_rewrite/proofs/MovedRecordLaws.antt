@@ -1,5 +1,5 @@
 -- The records of relocations of a section that is edited, as the code makes them, are those of its new contents.
-use Rattle.std.proofs.Common.{◌≡◌, ℕ, suc, ◌<◌, List, [], ◌∷◌, ◌++◌, length, Option, refl, ap, ◌∙◌, arith}
+use Rattle.std.proofs.Common.{Bool, ◌≡◌, ℕ, suc, ◌<◌, List, [], ◌∷◌, ◌++◌, length, Option, refl, ap, ◌∙◌, arith}
 use Rattle.dw_base.specs.Cells.{Cell}
 use Rattle.dw_base.specs.DebugData.{DataReadings, around_of}
 use Rattle.dw_base.specs.FileViews.{View, view_cells}
@@ -9,7 +9,7 @@ use Rattle.dw_base.specs.SectionRelocations.{RelocationSource, cells_from, reloc
 use Rattle.dw_base.specs.StringTables.{Plan, TextTable}
 use Rattle.dw_base.specs.ViewData.{debug_data}
 use Rattle.dw_base.specs.declared.debug_sections.DebugSection.TheVariants.{Str, LineStr, Line}
-use Rattle.dw_base.specs.declared.texts.TextField.{TextField}
+use Rattle.dw_offsets.specs.declared.fields.OffsetField.{OffsetField}
 use Rattle.dw_base.specs.declared.texts.TextSection.{TextSection}
 use Rattle.dw_base.specs.declared.texts.TextSection.TheVariants.{InStr, InLineStr}
 use Rattle.dw_meaning.specs.DataOutput.{changes_of, table_change}
@@ -25,22 +25,22 @@ use Rattle.dw_rewrite.proofs.LineKnownLaws.{known-asked}
 use Rattle.dw_rewrite.proofs.NewBodyLaws.{starts_after}
 use Rattle.dw_rewrite.proofs.RecordSayLaws.{stays-table}
 
--- what is known of new places is what paths ask for
-offsets-asked : (plan : Plan) (m : PathMap) (s : FieldSource) (ts : List (List ℕ)) (fields : List TextField) (known : ℕ → Option ℕ) → Knows plan m s.table.bytes ts known
+-- what is known of new places is what texts ask for
+offsets-asked : (plan : Plan) (m : PathMap) (s : FieldSource) (ts : List (List ℕ)) (fields : List OffsetField) (known : Bool → ℕ → Option ℕ) → Knows plan m s.table.bytes ts known
     → AreNoted plan s fields (length fields) known → offsets_known s known fields ≡ offsets_known s (asked (record { plan = plan; texts = ts }) m s.table.bytes) fields
 offsets-asked plan m s ts [] known knows noted = refl
 offsets-asked plan m s ts (f ∷ fs) known knows noted =
     let rest : AreNoted plan s fs (length fs) known =
-    record { each = λ (k : ℕ) (d : TextField) (lt : k < length fs) (within : k < length fs). noted.each (suc k) d (omega arith) (omega arith) } in
+    record { each = λ (k : ℕ) (d : OffsetField) (lt : k < length fs) (within : k < length fs). noted.each (suc k) d (omega arith) (omega arith) } in
     ap (λ (o : Option ℕ). offset_by f o ++ offsets_known s known fs)
-    (known-asked plan m s.table.bytes ts known (offset_at s f) knows (noted.each 0 f (omega arith) (omega arith)))
-    ∙ ap (λ (ps : List Patch). offset_by f (asked (record { plan = plan; texts = ts }) m s.table.bytes (offset_at s f)) ++ ps) (offsets-asked plan m s ts fs known knows rest)
+    (known-asked plan m s.table.bytes ts known f.path (offset_at s f) knows (noted.each 0 f (omega arith) (omega arith)))
+    ∙ ap (λ (ps : List Patch). offset_by f (asked (record { plan = plan; texts = ts }) m s.table.bytes f.path (offset_at s f)) ++ ps) (offsets-asked plan m s ts fs known knows rest)
 
 -- the offsets of a section's fields
-abbrev pub asked_in : PathMap → View → TextSection → List (List ℕ) → ℕ → Option ℕ
+abbrev pub asked_in : PathMap → View → TextSection → List (List ℕ) → Bool → ℕ → Option ℕ
 asked_in m v table ts = asked (change_in m v table ts) m (texts_of v table).bytes
 
-pub section-asked : (m : PathMap) (v : View) (ps pl : TextTable) (ks kl kt : ℕ → Option ℕ) (u : SectionFields) → Growing m v InStr ps ks → Growing m v InLineStr pl kl
+pub section-asked : (m : PathMap) (v : View) (ps pl : TextTable) (ks kl kt : Bool → ℕ → Option ℕ) (u : SectionFields) → Growing m v InStr ps ks → Growing m v InLineStr pl kl
     → IsSectionNoted m v InStr u ks → IsSectionNoted m v InLineStr u kl
     → offsets_in v ks kl kt u ≡ offsets_in v (asked_in m v InStr ps.texts) (asked_in m v InLineStr pl.texts) kt u
 section-asked m v ps pl ks kl kt u gs gl ns nl =

@@ -1,12 +1,12 @@
 -- The new bodies are those of the readings of debug data.
-use Rattle.std.proofs.Common.{◌≡◌, ℕ, suc, ◌+◌, ◌<◌, List, [], ◌∷◌, ◌++◌, length, get_or, Option, Some, None, refl, sym, ap, ◌∙◌, arith, append_assoc}
+use Rattle.std.proofs.Common.{Bool, ◌≡◌, ℕ, suc, ◌+◌, ◌<◌, List, [], ◌∷◌, ◌++◌, length, get_or, Option, Some, None, refl, sym, ap, ◌∙◌, arith, append_assoc}
 use Rattle.dw_base.specs.Cells.{Cell, bytes_of}
 use Rattle.dw_base.specs.DebugSections.{name_of}
 use Rattle.dw_base.specs.OffsetPieces.{OffsetState, ReadsOffsets}
 use Rattle.dw_base.specs.SectionTexts.{edited_with, mentions_with, slot_role}
-use Rattle.dw_base.specs.declared.debug_sections.DebugSection.TheVariants.{Info, Str, LineStr, StrOffsets, Line, Names}
-use Rattle.dw_base.proofs.ViewCellLaws.{bytes-cells, bytes_of-view_cells}
-use Rattle.dw_meaning.specs.DataOutput.{Body, cells_body, table_change, changes_of, names_after, offsets_after, unit_body, unit_bodies}
+use Rattle.dw_base.specs.declared.debug_sections.DebugSection.TheVariants.{Info, Str, LineStr, StrOffsets, Line}
+use Rattle.dw_base.proofs.ViewCellLaws.{bytes_of-view_cells}
+use Rattle.dw_meaning.specs.DataOutput.{Body, cells_body, table_change, changes_of, offsets_after, unit_body, unit_bodies}
 use Rattle.dw_base.specs.DebugData.{DebugData, DataReadings, Around, around_of, path_slots, table_of, units_in, ReadsAll}
 use Rattle.dw_base.specs.Readings.{Reading, Readings, EachReading}
 use Rattle.dw_base.specs.FileViews.{View, section_bytes, section_named, view_cells}
@@ -17,18 +17,18 @@ use Rattle.dw_base.specs.TextChanges.{mentions_of, all_mentions, edited_all, Inl
 use Rattle.dw_base.specs.UnitHeaders.{UnitSection}
 use Rattle.dw_base.specs.UnitPieces.{ReadsUnits}
 use Rattle.dw_base.specs.UnitStates.{UnitState, before_unit}
-use Rattle.dw_base.specs.ViewData.{cells_located, debug_data, located_at}
-use Rattle.dw_base.specs.declared.texts.TextField.{TextField}
+use Rattle.dw_base.specs.ViewData.{cells_located, debug_data}
+use Rattle.dw_offsets.specs.declared.fields.OffsetField.{OffsetField}
 use Rattle.dw_base.specs.declared.texts.TextSection.{TextSection}
 use Rattle.dw_base.specs.declared.texts.TextSection.TheVariants.{InStr, InLineStr}
-use Rattle.dw_rewrite.specs.PushedBodies.{kept_body, names_body, one_body}
+use Rattle.dw_rewrite.specs.PushedBodies.{one_body}
 use Rattle.dw_find.specs.SlotPaths.{offset_fields, read_fields, slots_by, slots_read, slots_with}
 use Rattle.dw_find.proofs.SlotPlaceLaws.{line-fields}
-use Rattle.dw_rewrite.proofs.SlotWrittenLaws.{names-kept, no-offsets, slots_written, texts_by_slots}
+use Rattle.dw_rewrite.proofs.SlotWrittenLaws.{no-offsets, slots_written, texts_by_slots}
 use Rattle.dw_rewrite.specs.Changes.{FieldSource, patched, texts_at, with_all_known}
 use Rattle.dw_find.specs.ViewFields.{fields_of, info_of}
 use Rattle.dw_rewrite.specs.NewTables.{plan_in, section_texts_at, all_texts_at, IsSectionNoted, Growing, TableMade, change_in, section_after, body_after, bodies_after, section_known, bodies_known, source_in, starts_in}
-use Rattle.dw_find.specs.SectionFields.{SectionFields, path_fields, inline_paths, paths_in, paths_of, start_fields, fields_into}
+use Rattle.dw_find.specs.SectionFields.{SectionFields, piece_fields, inline_paths, paths_in, paths_of, start_fields, fields_into}
 use Rattle.dw_rewrite.specs.UnitsAfter.{inlined, text_source}
 use Rattle.dw_rewrite.proofs.ChangedLaws.{put_is_patched}
 use Rattle.dw_rewrite.proofs.EditedLaws.{texts_by_fields}
@@ -59,7 +59,7 @@ pub same-plan : (m : PathMap) (v : View) (rs : DataReadings) (table : TextSectio
 same-plan m v rs InStr = refl
 same-plan m v rs InLineStr = refl
 
-same-fields : (table : TextSection) (r : Reading) → path_fields table r.pieces ≡ fields_of table (paths_in r)
+same-fields : (table : TextSection) (r : Reading) → piece_fields table r.pieces ≡ fields_of table (paths_in r)
 same-fields InStr r = refl
 same-fields InLineStr r = refl
 
@@ -72,9 +72,9 @@ reading-texts : (m : PathMap) (v : View) (all : DataReadings) (table : TextSecti
     → (debug_data v).found Info ≡ before ++ z ∷ behind → r.number ≡ z.number → ReadsUnits (debug_data v).base z first r.pieces
     → texts_after (plan_in m v table) m ts (mentions_of table (around_of (debug_data v) all) r.pieces) ≡ section_texts_at m v table ts (paths_in r)
 reading-texts m v all table ts before behind z first r split number reads =
-    texts_by_fields table (plan_in m v table) m (around_of (debug_data v) all) (view_cells v r.number) ts 0 r.pieces (same-plan m v all table)
+    texts_by_fields table (plan_in m v table) m (around_of (debug_data v) all) (view_cells v r.number) ts 0 r.pieces
     (reading-placed (debug_data v) z first r.pieces (view_cells v r.number) reads (reading-cells v before behind z r split number))
-    ∙ ap (λ (s : FieldSource). texts_at (plan_in m v table) m s ts (path_fields table r.pieces)) (same-source v all r.number table)
+    ∙ ap (λ (s : FieldSource). texts_at (plan_in m v table) m s ts (piece_fields table r.pieces)) (same-source v all r.number table)
     ∙ ap (texts_at (plan_in m v table) m (source_in v r.number table) ts) (same-fields table r)
 
 pub readings-texts : (m : PathMap) (v : View) (all : DataReadings) (table : TextSection) (ts : List (List ℕ)) (before zs : List UnitSection) (first : ℕ) (rs : Readings)
@@ -102,7 +102,7 @@ slots-texts-by m v rs table ts None r =
     ap (λ (xs : List (Piece OffsetState)). texts_after (plan_in m v table) m ts (mentions_with (slot_role (path_slots (around_of (debug_data v) rs))) table (around_of (debug_data v) rs) xs))
     (no-offsets v.order rs.offsets r)
 slots-texts-by m v rs table ts (Some i) r =
-    texts_by_slots table (plan_in m v table) m (around_of (debug_data v) rs) (view_cells v i) ts 0 (path_slots (around_of (debug_data v) rs)) rs.offsets (same-plan m v rs table)
+    texts_by_slots table (plan_in m v table) m (around_of (debug_data v) rs) (view_cells v i) ts 0 (path_slots (around_of (debug_data v) rs)) rs.offsets
     (offsets-in v (Some i) rs.offsets r)
     ∙ ap (λ (s : FieldSource). texts_at (plan_in m v table) m s ts (offset_fields table (path_slots (around_of (debug_data v) rs)) rs.offsets)) (same-source v rs i table)
     ∙ ap (texts_at (plan_in m v table) m (source_in v i table) ts) (same-slots table i (debug_data v) rs)
@@ -118,7 +118,7 @@ all_texts-append m v table ts [] ws = refl
 all_texts-append m v table ts (u ∷ us) ws = all_texts-append m v table (section_texts_at m v table ts u) us ws
 
 -- where the line table that started at a place starts anew
-abbrev pub starts_after : PathMap → View → DataReadings → ℕ → Option ℕ
+abbrev pub starts_after : PathMap → View → DataReadings → Bool → ℕ → Option ℕ
 starts_after m v all = starts_by (changes_of m (around_of (debug_data v) all) all) (around_of (debug_data v) all)
 
 -- the new bytes of a section are those of its edited pieces
@@ -135,13 +135,13 @@ reading-body m v all before behind z first r split number reads fits =
     let start : bytes_of (joined r.pieces) ≡ section_bytes v r.number = ap bytes_of (reads.cells ∙ same) ∙ own in
     ap (λ (bs : List ℕ). inlined m bs (with_all_known (starts_in v r.number) (starts_after m v all)
     (patched (change_in m v InLineStr (table_change m InLineStr (around_of (debug_data v) all) all).texts) m (source_in v r.number InLineStr)
-    (patched (change_in m v InStr (table_change m InStr (around_of (debug_data v) all) all).texts) m (source_in v r.number InStr) (section_bytes v r.number) (path_fields InStr r.pieces))
-    (path_fields InLineStr r.pieces)) (start_fields r.pieces)) (inline_paths r.pieces)) (sym own)
+    (patched (change_in m v InStr (table_change m InStr (around_of (debug_data v) all) all).texts) m (source_in v r.number InStr) (section_bytes v r.number) (piece_fields InStr r.pieces))
+    (piece_fields InLineStr r.pieces)) (start_fields r.pieces)) (inline_paths r.pieces)) (sym own)
     ∙ ap (λ (out : List ℕ). inlined m (bytes_of (view_cells v r.number)) (with_all_known (starts_in v r.number) (starts_after m v all)
     (patched (change_in m v InLineStr (table_change m InLineStr (around_of (debug_data v) all) all).texts) m (source_in v r.number InLineStr)
-    (patched (change_in m v InStr (table_change m InStr (around_of (debug_data v) all) all).texts) m (source_in v r.number InStr) out (path_fields InStr r.pieces))
-    (path_fields InLineStr r.pieces)) (start_fields r.pieces)) (inline_paths r.pieces)) (sym start)
-    ∙ pieces_written (changes_of m (around_of (debug_data v) all) all) (around_of (debug_data v) all) (view_cells v r.number) [] 0 r.pieces refl refl refl
+    (patched (change_in m v InStr (table_change m InStr (around_of (debug_data v) all) all).texts) m (source_in v r.number InStr) out (piece_fields InStr r.pieces))
+    (piece_fields InLineStr r.pieces)) (start_fields r.pieces)) (inline_paths r.pieces)) (sym start)
+    ∙ pieces_written (changes_of m (around_of (debug_data v) all) all) (around_of (debug_data v) all) (view_cells v r.number) [] 0 r.pieces refl
     (reading-placed (debug_data v) z first r.pieces (view_cells v r.number) reads same) fits
 
 pub readings-bodies : (m : PathMap) (v : View) (all : DataReadings) (before zs : List UnitSection) (first : ℕ) (rs : Readings) → (debug_data v).found Info ≡ before ++ zs
@@ -159,7 +159,7 @@ readings-bodies m v all before (z ∷ zs) first (r ∷ rs) split reads fits =
     (readings-bodies m v all (before ++ z ∷ []) zs (first + units_in r.pieces) rs (split ∙ sym (append_assoc before (z ∷ []) zs)) reads.2 fits.1)
 
 -- the known places make the new bytes of a section
-known-section : (m : PathMap) (v : View) (ps pl : TextTable) (ks kl kt : ℕ → Option ℕ) (u : SectionFields) → Growing m v InStr ps ks → Growing m v InLineStr pl kl
+known-section : (m : PathMap) (v : View) (ps pl : TextTable) (ks kl kt : Bool → ℕ → Option ℕ) (u : SectionFields) → Growing m v InStr ps ks → Growing m v InLineStr pl kl
     → IsSectionNoted m v InStr u ks → IsSectionNoted m v InLineStr u kl → section_known m v ks kl kt u ≡ section_after m v ps.texts pl.texts kt u
 unfolding section_known section_after
 known-section m v ps pl ks kl kt u gs gl ns nl =
@@ -170,7 +170,7 @@ known-section m v ps pl ks kl kt u gs gl ns nl =
     (put_is_patched (plan_in m v InLineStr) m (source_in v u.number InLineStr) pl.texts
     (patched (change_in m v InStr ps.texts) m (source_in v u.number InStr) (info_of v u) (fields_into u Str)) (fields_into u LineStr) kl gl.knows nl)
 
-pub known-bodies : (m : PathMap) (v : View) (ps pl : TextTable) (ks kl kt : ℕ → Option ℕ) (us : List SectionFields) → Growing m v InStr ps ks → Growing m v InLineStr pl kl
+pub known-bodies : (m : PathMap) (v : View) (ps pl : TextTable) (ks kl kt : Bool → ℕ → Option ℕ) (us : List SectionFields) → Growing m v InStr ps ks → Growing m v InLineStr pl kl
     → EachOf (λ u. IsSectionNoted m v InStr u ks) us → EachOf (λ u. IsSectionNoted m v InLineStr u kl) us
     → bodies_known m v ks kl kt us ≡ bodies_after m v ps.texts pl.texts kt us
 known-bodies m v ps pl ks kl kt [] gs gl ns nl = refl
@@ -178,18 +178,18 @@ known-bodies m v ps pl ks kl kt (u ∷ us) gs gl ns nl =
     ap (λ (bs : List ℕ). record { number = u.number; bytes = bs } ∷ bodies_known m v ks kl kt us) (known-section m v ps pl ks kl kt u gs gl ns.0 nl.0)
     ∙ ap (λ (bodies : List Body). body_after m v ps.texts pl.texts kt u ∷ bodies) (known-bodies m v ps pl ks kl kt us gs gl ns.1 nl.1)
 
-noted-each : (m : PathMap) (v : View) (table : TextSection) (known : ℕ → Option ℕ) (us : List SectionFields)
+pub noted-each : (m : PathMap) (v : View) (table : TextSection) (known : Bool → ℕ → Option ℕ) (us : List SectionFields)
     → ((k : ℕ) (d : SectionFields) → k < length us → IsSectionNoted m v table (get_or us k d) known) → EachOf (λ u. IsSectionNoted m v table u known) us
 noted-each m v table known [] each = tt
 noted-each m v table known (u ∷ us) each =
     (each 0 u (omega arith), noted-each m v table known us (λ (k : ℕ) (d : SectionFields) (lt : k < length us). each (suc k) d (omega arith)))
 
-pub made-noted : (m : PathMap) (v : View) (table : TextSection) (us : List SectionFields) (pool : TextTable) (known : ℕ → Option ℕ) → TableMade m v table us pool known
+pub made-noted : (m : PathMap) (v : View) (table : TextSection) (us : List SectionFields) (pool : TextTable) (known : Bool → ℕ → Option ℕ) → TableMade m v table us pool known
     → EachOf (λ u. IsSectionNoted m v table u known) us
 made-noted m v table us pool known t = noted-each m v table known us (λ (k : ℕ) (d : SectionFields) (lt : k < length us). t.noted.each k d lt lt)
 
 -- the new bytes of string offsets are those of their edited pieces
-slots-body-by : (m : PathMap) (v : View) (rs : DataReadings) (kt : ℕ → Option ℕ) (o : Option ℕ) → ReadsOffsets v.order (cells_located v o).contents rs.offsets
+slots-body-by : (m : PathMap) (v : View) (rs : DataReadings) (kt : Bool → ℕ → Option ℕ) (o : Option ℕ) → ReadsOffsets v.order (cells_located v o).contents rs.offsets
     → one_body (bodies_after m v (table_change m InStr (around_of (debug_data v) rs) rs).texts (table_change m InLineStr (around_of (debug_data v) rs) rs).texts kt (slots_by o (read_fields (debug_data v) rs)))
     ≡ cells_body (cells_located v o).number (joined (offsets_after (changes_of m (around_of (debug_data v) rs) rs) (around_of (debug_data v) rs) rs)) ∷ []
 unfolding section_after table_change debug_data
@@ -204,35 +204,17 @@ slots-body-by m v rs kt (Some i) r =
     let own : bytes_of (view_cells v i) ≡ section_bytes v i = bytes_of-view_cells v i in
     let start : bytes_of (joined rs.offsets) ≡ section_bytes v i = ap bytes_of r.cells ∙ own in
     ap (λ (bs : List ℕ). record { number = i; bytes = bs } ∷ [])
-    (ap (λ (gs : List TextField). patched (change_in m v InLineStr (table_change m InLineStr (around_of (debug_data v) rs) rs).texts) m (source_in v i InLineStr)
+    (ap (λ (gs : List OffsetField). patched (change_in m v InLineStr (table_change m InLineStr (around_of (debug_data v) rs) rs).texts) m (source_in v i InLineStr)
     (patched (change_in m v InStr (table_change m InStr (around_of (debug_data v) rs) rs).texts) m (source_in v i InStr) (section_bytes v i)
     (offset_fields InStr (path_slots (around_of (debug_data v) rs)) rs.offsets)) gs) (sym (line-fields paths rs.offsets))
     ∙ ap (λ (out : List ℕ). patched (change_in m v InLineStr (table_change m InLineStr (around_of (debug_data v) rs) rs).texts) m (source_in v i InLineStr)
     (patched (change_in m v InStr (table_change m InStr (around_of (debug_data v) rs) rs).texts) m (source_in v i InStr) out
     (offset_fields InStr (path_slots (around_of (debug_data v) rs)) rs.offsets)) (offset_fields InLineStr (path_slots (around_of (debug_data v) rs)) rs.offsets)) (sym start)
-    ∙ slots_written (changes_of m (around_of (debug_data v) rs) rs) (around_of (debug_data v) rs) (view_cells v i) [] 0 (path_slots (around_of (debug_data v) rs)) rs.offsets refl refl refl
+    ∙ slots_written (changes_of m (around_of (debug_data v) rs) rs) (around_of (debug_data v) rs) (view_cells v i) [] 0 (path_slots (around_of (debug_data v) rs)) rs.offsets refl
     (offsets-in v (Some i) rs.offsets r))
 
-pub slots-body : (m : PathMap) (v : View) (rs : DataReadings) (kt : ℕ → Option ℕ) → ReadsOffsets (debug_data v).base.order ((debug_data v).found StrOffsets).contents rs.offsets
+pub slots-body : (m : PathMap) (v : View) (rs : DataReadings) (kt : Bool → ℕ → Option ℕ) → ReadsOffsets (debug_data v).base.order ((debug_data v).found StrOffsets).contents rs.offsets
     → one_body (bodies_after m v (table_change m InStr (around_of (debug_data v) rs) rs).texts (table_change m InLineStr (around_of (debug_data v) rs) rs).texts kt (slots_read v rs))
     ≡ cells_body ((debug_data v).found StrOffsets).number (joined (offsets_after (changes_of m (around_of (debug_data v) rs) rs) (around_of (debug_data v) rs) rs)) ∷ []
 unfolding debug_data
 slots-body m v rs kt r = slots-body-by m v rs kt (section_named v (name_of StrOffsets)) (offsets-of v rs.offsets r)
-
--- name tables keep their bytes
-names-body-by : (m : PathMap) (v : View) (rs : DataReadings) (o : Option ℕ) → joined rs.names ≡ (cells_located v o).contents
-    → kept_body v o ≡ cells_body (cells_located v o).number (joined (names_after (changes_of m (around_of (debug_data v) rs) rs) (around_of (debug_data v) rs) rs))
-unfolding table_change
-names-body-by m v rs o cells =
-    let kept : joined (names_after (changes_of m (around_of (debug_data v) rs) rs) (around_of (debug_data v) rs) rs) ≡ (cells_located v o).contents =
-    names-kept (changes_of m (around_of (debug_data v) rs) rs) (around_of (debug_data v) rs) rs.names refl ∙ cells in
-    by_option o ∙ ap (λ (bs : List ℕ). record { number = (cells_located v o).number; bytes = bs }) (sym (ap bytes_of kept ∙ bytes-cells v o))
-  where
-    by_option : (p : Option ℕ) → kept_body v p ≡ record { number = (cells_located v p).number; bytes = (located_at v p).bytes }
-    by_option None = refl
-    by_option (Some i) = refl
-
-pub names-body : (m : PathMap) (v : View) (rs : DataReadings) → joined rs.names ≡ ((debug_data v).found Names).contents
-    → names_body v ≡ cells_body ((debug_data v).found Names).number (joined (names_after (changes_of m (around_of (debug_data v) rs) rs) (around_of (debug_data v) rs) rs))
-unfolding debug_data
-names-body m v rs cells = names-body-by m v rs (section_named v (name_of Names)) cells

@@ -31,10 +31,10 @@ among-inside s start k o f is e =
     let both = number-inside 0 s.old start k (sym is ∙ e) in
     omega (arith, both.1, f.same)
 
-pub among-some : (s : StartChange) (start k : ℕ) (o : Option ℕ) → o ≡ start_number 0 s.old start → o ≡ Some k → Some (get_or s.new k 0) ≡ known_starts s start
+pub among-some : (s : StartChange) (start k : ℕ) (o : Option ℕ) → o ≡ start_number 0 s.old start → o ≡ Some k → Some (get_or s.new k 0) ≡ known_starts s false start
 among-some s start k o is e = sym (ap (new_start s.new) (sym is ∙ e))
 
-pub among-none : (s : StartChange) (start : ℕ) (o : Option ℕ) → o ≡ start_number 0 s.old start → o ≡ None → None ≡ known_starts s start
+pub among-none : (s : StartChange) (start : ℕ) (o : Option ℕ) → o ≡ start_number 0 s.old start → o ≡ None → None ≡ known_starts s false start
 among-none s start o is e = sym (ap (new_start s.new) (sym is ∙ e))
 
 pub ruleset among_rules = (fit-rises, among-inside, among-some, among-none)

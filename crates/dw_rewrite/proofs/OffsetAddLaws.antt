@@ -10,7 +10,7 @@ use Rattle.dw_base.specs.declared.debug_sections.DebugSection.TheVariants.{Str, 
 use Rattle.dw_base.specs.declared.fault.Fault.{Fault}
 use Rattle.dw_base.specs.declared.fault.Fault.TheVariants.{NoMemory, Refused}
 use Rattle.dw_base.specs.declared.fault.Kind.TheVariants.{TooWide}
-use Rattle.dw_base.specs.declared.texts.TextField.{TextField}
+use Rattle.dw_offsets.specs.declared.fields.OffsetField.{OffsetField}
 use Rattle.dw_base.specs.declared.texts.TextSection.TheVariants.{InStr, InLineStr}
 use Rattle.dw_meaning.specs.NewAddends.{Makes, Misses}
 use Rattle.dw_patch.specs.RecordMoves.{patch_for}
@@ -30,30 +30,30 @@ use Rattle.dw_rewrite.proofs.SectionBytesLaws.{line_str-fields, places-there, st
 use Rattle.dw_rewrite.proofs.SaidLaws.{Sized, patch-further, patch-skip}
 
 -- nothing is added, or one field is
-pub none-added : (f : TextField) (old : List Patch) → old ≡ old ++ offset_by f None
+pub none-added : (f : OffsetField) (old : List Patch) → old ≡ old ++ offset_by f None
 none-added f old = sym (append-nil old)
 
-pub one-added : (f : TextField) (old new : List Patch) (place : ℕ) → new ≡ old ++ record { at = f.at; size = f.size; value = place } ∷ [] → new ≡ old ++ offset_by f (Some place)
+pub one-added : (f : OffsetField) (old new : List Patch) (place : ℕ) → new ≡ old ++ record { at = f.at; size = f.size; value = place } ∷ [] → new ≡ old ++ offset_by f (Some place)
 one-added f old new place is = is
 
 -- it is a field of the section, whose addend makes the offset or not
-pub field-sized : (s : FieldSource) (f : TextField) → IsFieldOf s f → (f.size ≡ 4) ⊎ (f.size ≡ 8)
+pub field-sized : (s : FieldSource) (f : OffsetField) → IsFieldOf s f → (f.size ≡ 4) ⊎ (f.size ≡ 8)
 field-sized s f h = h.sized
 
-pub field-inside : (s : FieldSource) (f : TextField) → IsFieldOf s f → f.at + f.size ≤ length s.cells
+pub field-inside : (s : FieldSource) (f : OffsetField) → IsFieldOf s f → f.at + f.size ≤ length s.cells
 field-inside s f h = h.inside
 
-pub one-makes : (s : FieldSource) (f : TextField) (new : ℕ) (t : Bool) → OnTrue t (Makes (relocation_at s.cells f.at) f.size new) → t ≡ true → FieldMakes s f (Some new)
+pub one-makes : (s : FieldSource) (f : OffsetField) (new : ℕ) (t : Bool) → OnTrue t (Makes (relocation_at s.cells f.at) f.size new) → t ≡ true → FieldMakes s f (Some new)
 one-makes s f new t h is = OnTrue_at is h
 
-pub one-misses : (s : FieldSource) (section : ℕ) (f : TextField) (new : ℕ) (t : Bool) → OnFalse t (Misses (relocation_at s.cells f.at) f.size new) → t ≡ false
+pub one-misses : (s : FieldSource) (section : ℕ) (f : OffsetField) (new : ℕ) (t : Bool) → OnFalse t (Misses (relocation_at s.cells f.at) f.size new) → t ≡ false
     → FieldMisses s section f (Some new) (at TooWide section f.at)
 one-misses s section f new t h is = misses_new new refl (OnFalse_at is h)
 
 pub ruleset known_rules = (none-added, one-added, field-sized, field-inside, one-makes, one-misses)
 
 -- the other fields stay absent
-absent-one : (list : List Patch) (f : TextField) (known : Option ℕ) (fs : List TextField) → AreAbsent list fs → BeginsAlone f fs → AreAbsent (list ++ offset_by f known) fs
+absent-one : (list : List Patch) (f : OffsetField) (known : Option ℕ) (fs : List OffsetField) → AreAbsent list fs → BeginsAlone f fs → AreAbsent (list ++ offset_by f known) fs
 absent-one list f known [] h alone = tt
 absent-one list f known (g ∷ gs) h alone = (
   patch-skip list (offset_by f known) g.at h.0 ∙ by known,
@@ -65,24 +65,24 @@ absent-one list f known (g ∷ gs) h alone = (
     by (Some n) = patch-further (record { at = f.at; size = f.size; value = n }) [] g.at (λ e. alone.0 (sym e))
 
 -- and when all of others are added
-alone-rest : (f : TextField) (fs gs : List TextField) → BeginsAlone f (fs ++ gs) → BeginsAlone f gs
+alone-rest : (f : OffsetField) (fs gs : List OffsetField) → BeginsAlone f (fs ++ gs) → BeginsAlone f gs
 alone-rest f [] gs h = h
 alone-rest f (x ∷ xs) gs h = alone-rest f xs gs h.1
 
-pub absent-behind : (s : FieldSource) (known : ℕ → Option ℕ) (list : List Patch) (fs gs : List TextField) → NoneTogether (fs ++ gs) → AreAbsent list gs
+pub absent-behind : (s : FieldSource) (known : Bool → ℕ → Option ℕ) (list : List Patch) (fs gs : List OffsetField) → NoneTogether (fs ++ gs) → AreAbsent list gs
     → AreAbsent (list ++ offsets_known s known fs) gs
 absent-behind s known list [] gs together h = subst (λ (l : List Patch). AreAbsent l gs) (sym (append-nil list)) h
 absent-behind s known list (f ∷ fs) gs together h =
-    subst (λ (l : List Patch). AreAbsent l gs) (append_assoc list (offset_by f (known (offset_at s f))) (offsets_known s known fs))
-    (absent-behind s known (list ++ offset_by f (known (offset_at s f))) fs gs together.1
-    (absent-one list f (known (offset_at s f)) gs h (alone-rest f fs gs together.0)))
+    subst (λ (l : List Patch). AreAbsent l gs) (append_assoc list (offset_by f (known f.path (offset_at s f))) (offsets_known s known fs))
+    (absent-behind s known (list ++ offset_by f (known f.path (offset_at s f))) fs gs together.1
+    (absent-one list f (known f.path (offset_at s f)) gs h (alone-rest f fs gs together.0)))
 
-pub absent-first : (fs : List TextField) → AreAbsent [] fs
+pub absent-first : (fs : List OffsetField) → AreAbsent [] fs
 absent-first [] = tt
 absent-first (f ∷ fs) = (refl, absent-first fs)
 
 -- fields of which no two have a byte in common don't begin together
-alone-apart : (f : TextField) (fs : List TextField) → 0 < f.size → Sized fs → IsApartFrom f fs → BeginsAlone f fs
+alone-apart : (f : OffsetField) (fs : List OffsetField) → 0 < f.size → Sized fs → IsApartFrom f fs → BeginsAlone f fs
 alone-apart f [] some sized h = tt
 alone-apart f (g ∷ gs) some sized h = (by h.0, alone-apart f gs some sized.1 h.1)
   where
@@ -93,28 +93,28 @@ alone-apart f (g ∷ gs) some sized h = (by h.0, alone-apart f gs some sized.1 h
     by (inl before) e = omega (arith, before, e, more)
     by (inr behind) e = omega (arith, behind, e, some)
 
-pub together-apart : (fs : List TextField) → Sized fs → AllApart fs → NoneTogether fs
+pub together-apart : (fs : List OffsetField) → Sized fs → AllApart fs → NoneTogether fs
 together-apart [] sized h = tt
 together-apart (f ∷ fs) sized h = (alone-apart f fs sized.0 sized.1 h.0, together-apart fs sized.1 h.1)
 
 -- parts of them
-alone-first : (f : TextField) (fs gs : List TextField) → BeginsAlone f (fs ++ gs) → BeginsAlone f fs
+alone-first : (f : OffsetField) (fs gs : List OffsetField) → BeginsAlone f (fs ++ gs) → BeginsAlone f fs
 alone-first f [] gs h = tt
 alone-first f (x ∷ xs) gs h = (h.0, alone-first f xs gs h.1)
 
-pub together-front : (fs gs : List TextField) → NoneTogether (fs ++ gs) → NoneTogether fs
+pub together-front : (fs gs : List OffsetField) → NoneTogether (fs ++ gs) → NoneTogether fs
 together-front [] gs h = tt
 together-front (f ∷ fs) gs h = (alone-first f fs gs h.0, together-front fs gs h.1)
 
-pub together-behind : (fs gs : List TextField) → NoneTogether (fs ++ gs) → NoneTogether gs
+pub together-behind : (fs gs : List OffsetField) → NoneTogether (fs ++ gs) → NoneTogether gs
 together-behind [] gs h = h
 together-behind (f ∷ fs) gs h = together-behind fs gs h.1
 
-alone-without : (f : TextField) (fs gs hs : List TextField) → BeginsAlone f (fs ++ (gs ++ hs)) → BeginsAlone f (fs ++ hs)
+alone-without : (f : OffsetField) (fs gs hs : List OffsetField) → BeginsAlone f (fs ++ (gs ++ hs)) → BeginsAlone f (fs ++ hs)
 alone-without f [] gs hs h = alone-rest f gs hs h
 alone-without f (x ∷ xs) gs hs h = (h.0, alone-without f xs gs hs h.1)
 
-together-skip : (fs gs hs : List TextField) → NoneTogether (fs ++ (gs ++ hs)) → NoneTogether (fs ++ hs)
+together-skip : (fs gs hs : List OffsetField) → NoneTogether (fs ++ (gs ++ hs)) → NoneTogether (fs ++ hs)
 together-skip [] gs hs h = together-behind gs hs h
 together-skip (f ∷ fs) gs hs h = (alone-without f fs gs hs h.0, together-skip fs gs hs h.1)
 
@@ -123,11 +123,11 @@ sized-some : (n : ℕ) → (n ≡ 4) ⊎ (n ≡ 8) → 0 < n
 sized-some n (inl four) = omega (arith, four)
 sized-some n (inr eight) = omega (arith, eight)
 
-sized-each : (fs : List TextField) → ((k : ℕ) (d : TextField) → k < length fs → ((get_or fs k d).size ≡ 4) ⊎ ((get_or fs k d).size ≡ 8)) → Sized fs
+sized-each : (fs : List OffsetField) → ((k : ℕ) (d : OffsetField) → k < length fs → ((get_or fs k d).size ≡ 4) ⊎ ((get_or fs k d).size ≡ 8)) → Sized fs
 sized-each [] each = tt
 sized-each (f ∷ fs) each = (sized-some f.size (each 0 f (omega arith)), sized-each fs (λ k d lt. each (suc k) d (omega (arith, lt))))
 
-sized-append : (fs gs : List TextField) → Sized fs → Sized gs → Sized (fs ++ gs)
+sized-append : (fs gs : List OffsetField) → Sized fs → Sized gs → Sized (fs ++ gs)
 sized-append [] gs h k = k
 sized-append (f ∷ fs) gs h k = (h.0, sized-append fs gs h.1 k)
 
@@ -158,14 +158,14 @@ third-together v u h p = together-behind (fields_into u LineStr) (fields_into u 
 pub first-absent : (u : SectionFields) (none : List Patch) → none ≡ [] → AreAbsent none (fields_into u Str)
 first-absent u none is = subst (λ (l : List Patch). AreAbsent l (fields_into u Str)) (sym is) (absent-first (fields_into u Str))
 
-pub second-absent : (v : View) (u : SectionFields) (ks : ℕ → Option ℕ) (none one : List Patch) → HasOffsets v u → HasPlaces v u → none ≡ []
+pub second-absent : (v : View) (u : SectionFields) (ks : Bool → ℕ → Option ℕ) (none one : List Patch) → HasOffsets v u → HasPlaces v u → none ≡ []
     → one ≡ none ++ offsets_known (source_in v u.number InStr) ks (fields_into u Str) → AreAbsent one (fields_into u LineStr)
 second-absent v u ks none one h p is e =
     subst (λ (l : List Patch). AreAbsent l (fields_into u LineStr)) (sym (e ∙ ap (λ (l : List Patch). l ++ offsets_known (source_in v u.number InStr) ks (fields_into u Str)) is))
     (absent-behind (source_in v u.number InStr) ks [] (fields_into u Str) (fields_into u LineStr)
     (together-front (fields_into u Str ++ fields_into u LineStr) (fields_into u Line) (subst NoneTogether (sym (append_assoc (fields_into u Str) (fields_into u LineStr) (fields_into u Line))) (section-together v u h p))) (absent-first (fields_into u LineStr)))
 
-pub third-absent : (v : View) (u : SectionFields) (ks kl : ℕ → Option ℕ) (none one two : List Patch) → HasOffsets v u → HasPlaces v u → none ≡ []
+pub third-absent : (v : View) (u : SectionFields) (ks kl : Bool → ℕ → Option ℕ) (none one two : List Patch) → HasOffsets v u → HasPlaces v u → none ≡ []
     → one ≡ none ++ offsets_known (source_in v u.number InStr) ks (fields_into u Str) → two ≡ one ++ offsets_known (source_in v u.number InLineStr) kl (fields_into u LineStr) → AreAbsent two (fields_into u Line)
 third-absent v u ks kl none one two h p is e f =
     let all = section-together v u h p in
@@ -176,7 +176,7 @@ third-absent v u ks kl none one two h p is e f =
     (together-behind (fields_into u Str) (fields_into u LineStr ++ fields_into u Line) all)
     (absent-behind (source_in v u.number InStr) ks [] (fields_into u Str) (fields_into u Line) (together-skip (fields_into u Str) (fields_into u LineStr) (fields_into u Line) all) (absent-first (fields_into u Line))))
 
-pub all-added : (v : View) (u : SectionFields) (ks kl kt : ℕ → Option ℕ) (none one two all : List Patch) → none ≡ [] → one ≡ none ++ offsets_known (source_in v u.number InStr) ks (fields_into u Str)
+pub all-added : (v : View) (u : SectionFields) (ks kl kt : Bool → ℕ → Option ℕ) (none one two all : List Patch) → none ≡ [] → one ≡ none ++ offsets_known (source_in v u.number InStr) ks (fields_into u Str)
     → two ≡ one ++ offsets_known (source_in v u.number InLineStr) kl (fields_into u LineStr) → all ≡ two ++ offsets_known (starts_in v u.number) kt (fields_into u Line) → all ≡ offsets_in v ks kl kt u
 all-added v u ks kl kt none one two all is e f g =
     g ∙ ap (λ (l : List Patch). l ++ offsets_known (starts_in v u.number) kt (fields_into u Line))
@@ -186,31 +186,31 @@ all-added v u ks kl kt none one two all is e f g =
     (offsets_known (starts_in v u.number) kt (fields_into u Line))
 
 -- whether their addends make them: where the code names source and fields as it has them,
-pub fields-own : (s t : FieldSource) (known : ℕ → Option ℕ) (fs gs : List TextField) → s ≡ t → fs ≡ gs → FieldsMake s known fs → FieldsMake t known gs
+pub fields-own : (s t : FieldSource) (known : Bool → ℕ → Option ℕ) (fs gs : List OffsetField) → s ≡ t → fs ≡ gs → FieldsMake s known fs → FieldsMake t known gs
 fields-own s t known fs gs source fields h = subst (FieldsMake t known) fields (subst (λ (x : FieldSource). FieldsMake x known fs) source h)
 
-pub fault-own : (s t : FieldSource) (known : ℕ → Option ℕ) (n k : ℕ) (fs gs : List TextField) (f : Fault) → s ≡ t → n ≡ k → fs ≡ gs → Blames (FieldsMiss s known n fs) f
+pub fault-own : (s t : FieldSource) (known : Bool → ℕ → Option ℕ) (n k : ℕ) (fs gs : List OffsetField) (f : Fault) → s ≡ t → n ≡ k → fs ≡ gs → Blames (FieldsMiss s known n fs) f
     → Blames (FieldsMiss t known k gs) f
 fault-own s t known n k fs gs f source number fields b =
-    subst (λ (xs : List TextField). Blames (FieldsMiss t known k xs) f) fields
+    subst (λ (xs : List OffsetField). Blames (FieldsMiss t known k xs) f) fields
     (subst (λ (i : ℕ). Blames (FieldsMiss t known i fs) f) number (subst (λ (x : FieldSource). Blames (FieldsMiss x known n fs) f) source b))
 
 -- and of the section
-pub section-makes : (v : View) (u : SectionFields) (ks kl kt : ℕ → Option ℕ) → FieldsMake (source_in v u.number InStr) ks (fields_into u Str) → FieldsMake (source_in v u.number InLineStr) kl (fields_into u LineStr)
+pub section-makes : (v : View) (u : SectionFields) (ks kl kt : Bool → ℕ → Option ℕ) → FieldsMake (source_in v u.number InStr) ks (fields_into u Str) → FieldsMake (source_in v u.number InLineStr) kl (fields_into u LineStr)
     → FieldsMake (starts_in v u.number) kt (fields_into u Line) → SectionMakes v ks kl kt u
 section-makes v u ks kl kt s l t = record { str = s; line_str = l; starts = t }
 
-pub str-fault : (v : View) (u : SectionFields) (ks kl kt : ℕ → Option ℕ) (f : Fault) → Blames (FieldsMiss (source_in v u.number InStr) ks u.number (fields_into u Str)) f
+pub str-fault : (v : View) (u : SectionFields) (ks kl kt : Bool → ℕ → Option ℕ) (f : Fault) → Blames (FieldsMiss (source_in v u.number InStr) ks u.number (fields_into u Str)) f
     → Blames (SectionMisses v ks kl kt u) f
 str-fault v u ks kl kt NoMemory b = tt
 str-fault v u ks kl kt (Refused r) b = in_str_field b
 
-pub line_str-fault : (v : View) (u : SectionFields) (ks kl kt : ℕ → Option ℕ) (f : Fault) → Blames (FieldsMiss (source_in v u.number InLineStr) kl u.number (fields_into u LineStr)) f
+pub line_str-fault : (v : View) (u : SectionFields) (ks kl kt : Bool → ℕ → Option ℕ) (f : Fault) → Blames (FieldsMiss (source_in v u.number InLineStr) kl u.number (fields_into u LineStr)) f
     → Blames (SectionMisses v ks kl kt u) f
 line_str-fault v u ks kl kt NoMemory b = tt
 line_str-fault v u ks kl kt (Refused r) b = in_line_str_field b
 
-pub starts-fault : (v : View) (u : SectionFields) (ks kl kt : ℕ → Option ℕ) (f : Fault) → Blames (FieldsMiss (starts_in v u.number) kt u.number (fields_into u Line)) f
+pub starts-fault : (v : View) (u : SectionFields) (ks kl kt : Bool → ℕ → Option ℕ) (f : Fault) → Blames (FieldsMiss (starts_in v u.number) kt u.number (fields_into u Line)) f
     → Blames (SectionMisses v ks kl kt u) f
 starts-fault v u ks kl kt NoMemory b = tt
 starts-fault v u ks kl kt (Refused r) b = in_start_field b
@@ -218,55 +218,55 @@ starts-fault v u ks kl kt (Refused r) b = in_start_field b
 pub ruleset section_rules = (places-there, str-fields, line_str-fields, start-fields, first-together, second-together, third-together, first-absent, second-absent, third-absent, all-added, section-makes)
 
 -- the fields up to one are added, and their addends make the offsets
-pub record AddPass (s : FieldSource) (known : ℕ → Option ℕ) (fields : List TextField) (old now : List Patch) (i : ℕ) : Type 0 where
+pub record AddPass (s : FieldSource) (known : Bool → ℕ → Option ℕ) (fields : List OffsetField) (old now : List Patch) (i : ℕ) : Type 0 where
   pub list : now ++ offsets_known s known (drop i fields) ≡ old ++ offsets_known s known fields
   pub absent : AreAbsent now (drop i fields)
   pub together : NoneTogether (drop i fields)
   pub made : FieldsMake s known (drop i fields) → FieldsMake s known fields
 
-pub pass-start : (s : FieldSource) (known : ℕ → Option ℕ) (fields : List TextField) (old : List Patch) → NoneTogether fields → AreAbsent old fields → AddPass s known fields old old 0
+pub pass-start : (s : FieldSource) (known : Bool → ℕ → Option ℕ) (fields : List OffsetField) (old : List Patch) → NoneTogether fields → AreAbsent old fields → AddPass s known fields old old 0
 pass-start s known fields old together absent = record { list = refl; absent = absent; together = together; made = λ h. h }
 
-left : (fields : List TextField) (i : ℕ) (f : TextField) → i < length fields → f ≡ get_or fields i f → drop i fields ≡ f ∷ drop (i + 1) fields
-left fields i f lt is = field_front fields f i lt ∙ ap (λ (g : TextField). g ∷ drop (i + 1) fields) (sym is)
+left : (fields : List OffsetField) (i : ℕ) (f : OffsetField) → i < length fields → f ≡ get_or fields i f → drop i fields ≡ f ∷ drop (i + 1) fields
+left fields i f lt is = field_front fields f i lt ∙ ap (λ (g : OffsetField). g ∷ drop (i + 1) fields) (sym is)
 
-pub pass-absent : (s : FieldSource) (known : ℕ → Option ℕ) (fields : List TextField) (old now : List Patch) (i : ℕ) (f : TextField) → AddPass s known fields old now i
+pub pass-absent : (s : FieldSource) (known : Bool → ℕ → Option ℕ) (fields : List OffsetField) (old now : List Patch) (i : ℕ) (f : OffsetField) → AddPass s known fields old now i
     → i < length fields → f ≡ get_or fields i f → patch_for now f.at ≡ None
 pass-absent s known fields old now i f p lt is =
     let absent : AreAbsent now (f ∷ drop (i + 1) fields) = subst (AreAbsent now) (left fields i f lt is) p.absent in
     absent.0
 
-pub pass-more : (s : FieldSource) (known : ℕ → Option ℕ) (fields : List TextField) (old now new : List Patch) (i : ℕ) (f : TextField) (k : Option ℕ)
-    → AddPass s known fields old now i → i < length fields → f ≡ get_or fields i f → k ≡ known (offset_at s f) → new ≡ now ++ offset_by f k → FieldMakes s f k
+pub pass-more : (s : FieldSource) (known : Bool → ℕ → Option ℕ) (fields : List OffsetField) (old now new : List Patch) (i : ℕ) (f : OffsetField) (k : Option ℕ)
+    → AddPass s known fields old now i → i < length fields → f ≡ get_or fields i f → k ≡ known f.path (offset_at s f) → new ≡ now ++ offset_by f k → FieldMakes s f k
     → AddPass s known fields old new (i + 1)
 pass-more s known fields old now new i f k p lt is known_is e makes =
     let cut : drop i fields ≡ f ∷ drop (i + 1) fields = left fields i f lt is in
     let absent : AreAbsent now (f ∷ drop (i + 1) fields) = subst (AreAbsent now) cut p.absent in
     let together : NoneTogether (f ∷ drop (i + 1) fields) = subst NoneTogether cut p.together in
-    let added : new ≡ now ++ offset_by f (known (offset_at s f)) = e ∙ ap (λ (x : Option ℕ). now ++ offset_by f x) known_is in
-    let own : FieldMakes s f (known (offset_at s f)) = subst (FieldMakes s f) known_is makes in
+    let added : new ≡ now ++ offset_by f (known f.path (offset_at s f)) = e ∙ ap (λ (x : Option ℕ). now ++ offset_by f x) known_is in
+    let own : FieldMakes s f (known f.path (offset_at s f)) = subst (FieldMakes s f) known_is makes in
     record {
       list = ap (λ (l : List Patch). l ++ offsets_known s known (drop (i + 1) fields)) added
-          ∙ append_assoc now (offset_by f (known (offset_at s f))) (offsets_known s known (drop (i + 1) fields))
-          ∙ sym (ap (λ (fs : List TextField). now ++ offsets_known s known fs) cut) ∙ p.list;
+          ∙ append_assoc now (offset_by f (known f.path (offset_at s f))) (offsets_known s known (drop (i + 1) fields))
+          ∙ sym (ap (λ (fs : List OffsetField). now ++ offsets_known s known fs) cut) ∙ p.list;
       absent = subst (λ (l : List Patch). AreAbsent l (drop (i + 1) fields)) (sym added)
-          (absent-one now f (known (offset_at s f)) (drop (i + 1) fields) absent.1 together.0);
+          (absent-one now f (known f.path (offset_at s f)) (drop (i + 1) fields) absent.1 together.0);
       together = together.1;
       made = λ h. p.made (subst (FieldsMake s known) (sym cut) (own, h));
     }
 
-pub pass-end : (s : FieldSource) (known : ℕ → Option ℕ) (fields : List TextField) (old now : List Patch) (i : ℕ) → AddPass s known fields old now i → length fields ≤ i
+pub pass-end : (s : FieldSource) (known : Bool → ℕ → Option ℕ) (fields : List OffsetField) (old now : List Patch) (i : ℕ) → AddPass s known fields old now i → length fields ≤ i
     → now ≡ old ++ offsets_known s known fields
 pass-end s known fields old now i p end =
-    sym (append-nil now) ∙ sym (ap (λ (fs : List TextField). now ++ offsets_known s known fs) (drop_all i fields end)) ∙ p.list
+    sym (append-nil now) ∙ sym (ap (λ (fs : List OffsetField). now ++ offsets_known s known fs) (drop_all i fields end)) ∙ p.list
 
-pub pass-made : (s : FieldSource) (known : ℕ → Option ℕ) (fields : List TextField) (old now : List Patch) (i : ℕ) → AddPass s known fields old now i → length fields ≤ i
+pub pass-made : (s : FieldSource) (known : Bool → ℕ → Option ℕ) (fields : List OffsetField) (old now : List Patch) (i : ℕ) → AddPass s known fields old now i → length fields ≤ i
     → FieldsMake s known fields
 pass-made s known fields old now i p end = p.made (subst (FieldsMake s known) (sym (drop_all i fields end)) tt)
 
 -- the fault of one of them
-pub pass-fault : (s : FieldSource) (known : ℕ → Option ℕ) (section : ℕ) (fields : List TextField) (i : ℕ) (f : TextField) (k : Option ℕ) (fault : Fault) → i < length fields
-    → f ≡ get_or fields i f → k ≡ known (offset_at s f) → Blames (FieldMisses s section f k) fault → Blames (FieldsMiss s known section fields) fault
+pub pass-fault : (s : FieldSource) (known : Bool → ℕ → Option ℕ) (section : ℕ) (fields : List OffsetField) (i : ℕ) (f : OffsetField) (k : Option ℕ) (fault : Fault) → i < length fields
+    → f ≡ get_or fields i f → k ≡ known f.path (offset_at s f) → Blames (FieldMisses s section f k) fault → Blames (FieldsMiss s known section fields) fault
 pass-fault s known section fields i f k NoMemory lt is known_is b = tt
 pass-fault s known section fields i f k (Refused r) lt is known_is b =
     one_field i f lt is (subst (λ (x : Option ℕ). FieldMisses s section f x r) known_is b)

@@ -1,6 +1,6 @@
--- The addends at the pieces of a section of units, of string offsets and of macro units make their new offsets where those at the section's fields
+-- The addends at the pieces of a section of units, of string offsets, of macro units and of name tables make their new offsets where those at the section's fields
 -- do; and a field whose addend doesn't is a piece whose doesn't.
-use Rattle.std.proofs.Common.{true, false, ◌≡◌, ◌⊎◌, inl, inr, ℕ, zero, suc, ◌+◌, ◌<◌, List, [], ◌∷◌, ◌++◌, length, get_or, drop, Option, Some, None, refl, sym, ap, ◌∙◌, subst, arith}
+use Rattle.std.proofs.Common.{Bool, false, ◌≡◌, ◌⊎◌, inl, inr, ℕ, zero, suc, ◌+◌, ◌<◌, List, [], ◌∷◌, ◌++◌, length, get_or, drop, Option, Some, None, refl, sym, ap, ◌∙◌, subst, arith}
 use Rattle.std.specs.Bool.{⊤}
 use Rattle.std.proofs.Math.Seq.{drop-append_seam}
 use Rattle.std.proofs.lemmas.List.{drop-drop}
@@ -8,27 +8,28 @@ use Rattle.dw_base.specs.Cells.{Cell, Relocation, first_relocation, offset_of}
 use Rattle.dw_base.specs.DebugData.{Around, start_number, table_of}
 use Rattle.dw_base.specs.LineReadings.{starts_from}
 use Rattle.dw_base.specs.MacroPieces.{MacroState, macro_grammar}
-use Rattle.dw_base.specs.NamePieces.{NameMode, NameState, at_string, at_table, at_rest, no_names}
+use Rattle.dw_base.specs.NamePieces.{NameState}
 use Rattle.dw_base.specs.OffsetPieces.{OffsetState}
 use Rattle.dw_base.specs.Pieces.{Chain, EachPiece, Piece, joined}
 use Rattle.dw_base.specs.Refusals.{at}
 use Rattle.dw_base.specs.RelocationFields.{relocation_at}
 use Rattle.dw_base.specs.Roles.{Role, fixed, offset, inline_path, line_start, role_of}
-use Rattle.dw_base.specs.SectionTexts.{macro_role, name_role, name_role_by, slot_role}
-use Rattle.dw_base.specs.StringTables.{appending}
-use Rattle.dw_base.specs.TextChanges.{TableChanges, change_of, mention_at}
+use Rattle.dw_base.specs.SectionTexts.{macro_role, name_role, slot_role}
+use Rattle.dw_base.specs.TextChanges.{TableChanges, change_of}
 use Rattle.dw_base.specs.UnitStates.{UnitState}
 use Rattle.dw_base.specs.declared.debug_sections.DebugSection.TheVariants.{Str, LineStr, Line}
 use Rattle.dw_base.specs.declared.fault.Kind.TheVariants.{TooWide}
 use Rattle.dw_base.specs.declared.fault.Refusal.{Refusal}
 use Rattle.dw_base.specs.declared.shared.Order.{Order}
-use Rattle.dw_base.specs.declared.texts.TextField.{TextField}
+use Rattle.dw_offsets.specs.declared.fields.OffsetField.{OffsetField}
 use Rattle.dw_base.specs.declared.texts.TextSection.{TextSection}
 use Rattle.dw_base.specs.declared.texts.TextSection.TheVariants.{InStr, InLineStr}
 use Rattle.dw_meaning.specs.NewAddends.{Makes, MakesNew, MakesRole, Misses, PieceMisses, new_offset, start_place}
-use Rattle.dw_find.specs.MacroSections.{macro_starts}
+use Rattle.dw_find.specs.MacroSections.{macro_starts, macro_texts}
+use Rattle.dw_find.specs.NameSections.{names_texts}
 use Rattle.dw_find.specs.SlotPaths.{offset_fields}
-use Rattle.dw_find.specs.SectionFields.{field_by, path_fields, start_by, start_fields}
+use Rattle.dw_find.specs.SectionFields.{field_by, piece_fields, start_by, start_fields}
+use Rattle.dw_find.proofs.NameHaveLaws.{NamesPlaced, no-start as no-name-start}
 use Rattle.dw_find.proofs.PlacedLaws.{PlacedCells}
 use Rattle.dw_find.proofs.SlotPlaceLaws.{SlotsIn, no-start}
 use Rattle.dw_rewrite.specs.Changes.{FieldSource, new_start, offset_at, start_known}
@@ -38,30 +39,28 @@ use Rattle.dw_rewrite.specs.OffsetAddends.FieldMisses.{misses_new}
 use Rattle.dw_rewrite.specs.OffsetAddends.FieldsMiss.{one_field}
 use Rattle.dw_rewrite.specs.UnitsAfter.{start_source, text_source}
 use Rattle.dw_rewrite.proofs.EditedLaws.{piece-there}
-use Rattle.dw_rewrite.proofs.MacroWrittenLaws.{no-path}
 use Rattle.dw_rewrite.proofs.SaidLaws.{Sized}
-use Rattle.dw_rewrite.proofs.UnitWrittenLaws.{no_path-asks}
 
 -- the row of one of some fields, by the list
-abbrev pub AnyMisses : FieldSource → (ℕ → Option ℕ) → ℕ → List TextField → Refusal → Type 0
+abbrev pub AnyMisses : FieldSource → (Bool → ℕ → Option ℕ) → ℕ → List OffsetField → Refusal → Type 0
 AnyMisses s known number [] r = ⊥
-AnyMisses s known number (f ∷ fs) r = FieldMisses s number f (known (offset_at s f)) r ⊎ AnyMisses s known number fs r
+AnyMisses s known number (f ∷ fs) r = FieldMisses s number f (known f.path (offset_at s f)) r ⊎ AnyMisses s known number fs r
 
-any-at : (s : FieldSource) (known : ℕ → Option ℕ) (number : ℕ) (fs : List TextField) (i : ℕ) (f : TextField) (r : Refusal) → i < length fs → f ≡ get_or fs i f
-    → FieldMisses s number f (known (offset_at s f)) r → AnyMisses s known number fs r
+any-at : (s : FieldSource) (known : Bool → ℕ → Option ℕ) (number : ℕ) (fs : List OffsetField) (i : ℕ) (f : OffsetField) (r : Refusal) → i < length fs → f ≡ get_or fs i f
+    → FieldMisses s number f (known f.path (offset_at s f)) r → AnyMisses s known number fs r
 any-at s known number [] i f r lt is h = absurd (omega (arith, lt))
-any-at s known number (g ∷ gs) zero f r lt is h = inl (subst (λ (x : TextField). FieldMisses s number x (known (offset_at s x)) r) is h)
+any-at s known number (g ∷ gs) zero f r lt is h = inl (subst (λ (x : OffsetField). FieldMisses s number x (known x.path (offset_at s x)) r) is h)
 any-at s known number (g ∷ gs) (suc i) f r lt is h = inr (any-at s known number gs i f r (omega (arith, lt)) is h)
 
-pub any-of : (s : FieldSource) (known : ℕ → Option ℕ) (number : ℕ) (fs : List TextField) (r : Refusal) → FieldsMiss s known number fs r → AnyMisses s known number fs r
+pub any-of : (s : FieldSource) (known : Bool → ℕ → Option ℕ) (number : ℕ) (fs : List OffsetField) (r : Refusal) → FieldsMiss s known number fs r → AnyMisses s known number fs r
 any-of s known number fs r (one_field i f lt is h) = any-at s known number fs i f _ lt is h
 
 -- parts of fields
-makes-parts : (s : FieldSource) (known : ℕ → Option ℕ) (fs gs : List TextField) → FieldsMake s known (fs ++ gs) → FieldsMake s known fs × FieldsMake s known gs
+makes-parts : (s : FieldSource) (known : Bool → ℕ → Option ℕ) (fs gs : List OffsetField) → FieldsMake s known (fs ++ gs) → FieldsMake s known fs × FieldsMake s known gs
 makes-parts s known [] gs h = (tt, h)
 makes-parts s known (f ∷ fs) gs h = let rest = makes-parts s known fs gs h.1 in ((h.0, rest.0), rest.1)
 
-any-parts : (s : FieldSource) (known : ℕ → Option ℕ) (number : ℕ) (fs gs : List TextField) (r : Refusal) → AnyMisses s known number (fs ++ gs) r
+any-parts : (s : FieldSource) (known : Bool → ℕ → Option ℕ) (number : ℕ) (fs gs : List OffsetField) (r : Refusal) → AnyMisses s known number (fs ++ gs) r
     → AnyMisses s known number fs r ⊎ AnyMisses s known number gs r
 any-parts s known number [] gs r h = inr h
 any-parts s known number (f ∷ fs) gs r (inl h) = inl (inl h)
@@ -71,7 +70,7 @@ any-parts s known number (f ∷ fs) gs r (inr h) = by (any-parts s known number 
     by (inl x) = inl (inr x)
     by (inr x) = inr x
 
-sized-parts : (fs gs : List TextField) → Sized (fs ++ gs) → Sized fs × Sized gs
+sized-parts : (fs gs : List OffsetField) → Sized (fs ++ gs) → Sized fs × Sized gs
 sized-parts [] gs h = (tt, h)
 sized-parts (f ∷ fs) gs h = let rest = sized-parts fs gs h.1 in ((h.0, rest.0), rest.1)
 
@@ -81,11 +80,11 @@ first-here [] behind cells place e some = absurd (omega (arith, some))
 first-here (x ∷ xs) behind cells place e some = ap first_relocation (sym e)
 
 -- a piece and the field that it is
-one-makes : (s : FieldSource) (p behind : List Cell) (place : ℕ) (new : Option ℕ) → p ++ behind ≡ drop place s.cells
-    → FieldMakes s (record { at = place; size = length p }) new → MakesNew new p
-one-makes s p behind place None e h = tt
-one-makes s [] behind place (Some n) e h = tt
-one-makes s (x ∷ xs) behind place (Some n) e h =
+one-makes : (s : FieldSource) (p behind : List Cell) (place : ℕ) (path : Bool) (new : Option ℕ) → p ++ behind ≡ drop place s.cells
+    → FieldMakes s (record { at = place; size = length p; path = path }) new → MakesNew new p
+one-makes s p behind place path None e h = tt
+one-makes s [] behind place path (Some n) e h = tt
+one-makes s (x ∷ xs) behind place path (Some n) e h =
     subst (λ (r : Option Relocation). Makes r (suc (length xs)) n) (first-here (x ∷ xs) behind s.cells place e (omega arith)) h
 
 -- its addend doesn't make the offset that the edit puts there
@@ -95,23 +94,24 @@ pub record RoleMisses (r : Role) (c : TableChanges) (a : Around) (p : List Cell)
   pub misses : Misses (first_relocation p) (length p) new
   pub is : x ≡ at TooWide number place
 
-one-misses : (r : Role) (c : TableChanges) (a : Around) (s : FieldSource) (p behind : List Cell) (number place : ℕ) (new : Option ℕ) (x : Refusal) → p ++ behind ≡ drop place s.cells
-    → 0 < length p → new ≡ new_offset r c a p → FieldMisses s number (record { at = place; size = length p }) new x → RoleMisses r c a p number place x
-one-misses r c a s p behind number place new x e some same (misses_new n known m) = record {
+one-misses : (r : Role) (c : TableChanges) (a : Around) (s : FieldSource) (p behind : List Cell) (number place : ℕ) (path : Bool) (new : Option ℕ) (x : Refusal) → p ++ behind ≡ drop place s.cells
+    → 0 < length p → new ≡ new_offset r c a p → FieldMisses s number (record { at = place; size = length p; path = path }) new x → RoleMisses r c a p number place x
+one-misses r c a s p behind number place path new x e some same (misses_new n known m) = record {
   new = n;
   put = sym same ∙ known;
   misses = subst (λ (o : Option Relocation). Misses o (length p) n) (first-here p behind s.cells place e some) m;
   is = refl;
 }
 
--- the new offset of the field of a path, and of one that says where a line table starts
-path-new : (table : TextSection) (c : TableChanges) (a : Around) (cells p behind : List Cell) (place : ℕ) → p ++ behind ≡ drop place cells
-    → asked (change_of c table) c.map (table_of a table).bytes (offset_at (text_source a cells table) (record { at = place; size = length p })) ≡ new_offset (offset table true) c a p
-path-new table c a cells p behind place e =
-    ap (λ (q : List Cell). asked (change_of c table) c.map (table_of a table).bytes (offset_of a.lasting.base.order (table_of a table) q)) (piece-there p behind cells place e)
+-- the new offset of the field of a text, and of one that says where a line table starts
+text-new : (table : TextSection) (path : Bool) (c : TableChanges) (a : Around) (cells p behind : List Cell) (place : ℕ) → p ++ behind ≡ drop place cells
+    → asked (change_of c table) c.map (table_of a table).bytes path (offset_at (text_source a cells table) (record { at = place; size = length p; path = path }))
+    ≡ new_offset (offset table path) c a p
+text-new table path c a cells p behind place e =
+    ap (λ (q : List Cell). asked (change_of c table) c.map (table_of a table).bytes path (offset_of a.lasting.base.order (table_of a table) q)) (piece-there p behind cells place e)
 
 start-new : (c : TableChanges) (a : Around) (cells p behind : List Cell) (place : ℕ) → p ++ behind ≡ drop place cells
-    → start_known (a.stands Line).starts (starts_from 0 (c.new Line)) (offset_at (start_source a cells) (record { at = place; size = length p })) ≡ new_offset line_start c a p
+    → start_known (a.stands Line).starts (starts_from 0 (c.new Line)) false (offset_at (start_source a cells) (record { at = place; size = length p; path = false })) ≡ new_offset line_start c a p
 start-new c a cells p behind place e =
     ap (λ (q : List Cell). new_start (starts_from 0 (c.new Line)) (start_number 0 (a.stands Line).starts (offset_of a.lasting.base.order (a.stands Line).located q))) (piece-there p behind cells place e)
     ∙ by (start_number 0 (a.stands Line).starts (offset_of a.lasting.base.order (a.stands Line).located p))
@@ -121,41 +121,34 @@ start-new c a cells p behind place e =
     by (Some k) = refl
 
 -- what is known of the new offsets of a section's fields
-abbrev pub str_asked : TableChanges → Around → ℕ → Option ℕ
+abbrev pub str_asked : TableChanges → Around → Bool → ℕ → Option ℕ
 str_asked c a = asked (c.new Str) c.map (a.stands Str).bytes
 
-abbrev pub line_str_asked : TableChanges → Around → ℕ → Option ℕ
+abbrev pub line_str_asked : TableChanges → Around → Bool → ℕ → Option ℕ
 line_str_asked c a = asked (c.new LineStr) c.map (a.stands LineStr).bytes
 
-abbrev pub starts_asked : TableChanges → Around → ℕ → Option ℕ
+abbrev pub starts_asked : TableChanges → Around → Bool → ℕ → Option ℕ
 starts_asked c a = start_known (a.stands Line).starts (starts_from 0 (c.new Line))
 
 -- a piece by its role
-role-makes : (r : Role) (c : TableChanges) (a : Around) (cells p behind : List Cell) (place : ℕ) → (c.new Str).plan ≡ appending c.map (a.stands Str).bytes
-    → (c.new LineStr).plan ≡ appending c.map (a.stands LineStr).bytes → p ++ behind ≡ drop place cells
+role-makes : (r : Role) (c : TableChanges) (a : Around) (cells p behind : List Cell) (place : ℕ) → p ++ behind ≡ drop place cells
     → FieldsMake (text_source a cells InStr) (str_asked c a) (field_by InStr r place (length p))
     → FieldsMake (text_source a cells InLineStr) (line_str_asked c a) (field_by InLineStr r place (length p))
     → FieldsMake (start_source a cells) (starts_asked c a) (start_by r place (length p)) → MakesRole r c a p
-role-makes fixed c a cells p behind place str line e hs hl ht = tt
-role-makes inline_path c a cells p behind place str line e hs hl ht = tt
-role-makes (offset InStr false) c a cells p behind place str line e hs hl ht =
-    let none = no_path-asks c.map (a.stands Str).bytes (c.new Str).plan (mention_at a InStr false p).text str in
-    rw none tt
-role-makes (offset InLineStr false) c a cells p behind place str line e hs hl ht =
-    let none = no_path-asks c.map (a.stands LineStr).bytes (c.new LineStr).plan (mention_at a InLineStr false p).text line in
-    rw none tt
-role-makes (offset InStr true) c a cells p behind place str line e hs hl ht =
-    subst (λ (o : Option ℕ). MakesNew o p) (path-new InStr c a cells p behind place e)
-    (one-makes (text_source a cells InStr) p behind place (str_asked c a (offset_at (text_source a cells InStr) (record { at = place; size = length p }))) e hs.0)
-role-makes (offset InLineStr true) c a cells p behind place str line e hs hl ht =
-    subst (λ (o : Option ℕ). MakesNew o p) (path-new InLineStr c a cells p behind place e)
-    (one-makes (text_source a cells InLineStr) p behind place (line_str_asked c a (offset_at (text_source a cells InLineStr) (record { at = place; size = length p }))) e hl.0)
-role-makes line_start c a cells p behind place str line e hs hl ht =
+role-makes fixed c a cells p behind place e hs hl ht = tt
+role-makes inline_path c a cells p behind place e hs hl ht = tt
+role-makes (offset InStr path) c a cells p behind place e hs hl ht =
+    subst (λ (o : Option ℕ). MakesNew o p) (text-new InStr path c a cells p behind place e)
+    (one-makes (text_source a cells InStr) p behind place path (str_asked c a path (offset_at (text_source a cells InStr) (record { at = place; size = length p; path = path }))) e hs.0)
+role-makes (offset InLineStr path) c a cells p behind place e hs hl ht =
+    subst (λ (o : Option ℕ). MakesNew o p) (text-new InLineStr path c a cells p behind place e)
+    (one-makes (text_source a cells InLineStr) p behind place path (line_str_asked c a path (offset_at (text_source a cells InLineStr) (record { at = place; size = length p; path = path }))) e hl.0)
+role-makes line_start c a cells p behind place e hs hl ht =
     subst (λ (o : Option ℕ). MakesNew o p) (start-new c a cells p behind place e)
-    (one-makes (start_source a cells) p behind place (starts_asked c a (offset_at (start_source a cells) (record { at = place; size = length p }))) e ht.0)
+    (one-makes (start_source a cells) p behind place false (starts_asked c a false (offset_at (start_source a cells) (record { at = place; size = length p; path = false }))) e ht.0)
 
 -- the same of one that misses, from what a piece of each role is in a list of fields
-abbrev pub MissesBy : (Role → ℕ → ℕ → List TextField) → TableChanges → Around → FieldSource → (ℕ → Option ℕ) → Type 0
+abbrev pub MissesBy : (Role → ℕ → ℕ → List OffsetField) → TableChanges → Around → FieldSource → (Bool → ℕ → Option ℕ) → Type 0
 MissesBy by c a s known =
     (r : Role) (p behind : List Cell) (number place : ℕ) (x : Refusal) → p ++ behind ≡ drop place s.cells → Sized (by r place (length p))
     → AnyMisses s known number (by r place (length p)) x → RoleMisses r c a p number place x
@@ -164,23 +157,21 @@ str-misses : (c : TableChanges) (a : Around) (cells : List Cell) → MissesBy (f
 str-misses c a cells fixed p behind number place x e sized h = absurd h
 str-misses c a cells inline_path p behind number place x e sized h = absurd h
 str-misses c a cells line_start p behind number place x e sized h = absurd h
-str-misses c a cells (offset InStr false) p behind number place x e sized h = absurd h
 str-misses c a cells (offset InLineStr path) p behind number place x e sized h = absurd h
-str-misses c a cells (offset InStr true) p behind number place x e sized (inr h) = absurd h
-str-misses c a cells (offset InStr true) p behind number place x e sized (inl h) =
-    one-misses (offset InStr true) c a (text_source a cells InStr) p behind number place
-    (str_asked c a (offset_at (text_source a cells InStr) (record { at = place; size = length p }))) x e sized.0 (path-new InStr c a cells p behind place e) h
+str-misses c a cells (offset InStr path) p behind number place x e sized (inr h) = absurd h
+str-misses c a cells (offset InStr path) p behind number place x e sized (inl h) =
+    one-misses (offset InStr path) c a (text_source a cells InStr) p behind number place path
+    (str_asked c a path (offset_at (text_source a cells InStr) (record { at = place; size = length p; path = path }))) x e sized.0 (text-new InStr path c a cells p behind place e) h
 
 line_str-misses : (c : TableChanges) (a : Around) (cells : List Cell) → MissesBy (field_by InLineStr) c a (text_source a cells InLineStr) (line_str_asked c a)
 line_str-misses c a cells fixed p behind number place x e sized h = absurd h
 line_str-misses c a cells inline_path p behind number place x e sized h = absurd h
 line_str-misses c a cells line_start p behind number place x e sized h = absurd h
 line_str-misses c a cells (offset InStr path) p behind number place x e sized h = absurd h
-line_str-misses c a cells (offset InLineStr false) p behind number place x e sized h = absurd h
-line_str-misses c a cells (offset InLineStr true) p behind number place x e sized (inr h) = absurd h
-line_str-misses c a cells (offset InLineStr true) p behind number place x e sized (inl h) =
-    one-misses (offset InLineStr true) c a (text_source a cells InLineStr) p behind number place
-    (line_str_asked c a (offset_at (text_source a cells InLineStr) (record { at = place; size = length p }))) x e sized.0 (path-new InLineStr c a cells p behind place e) h
+line_str-misses c a cells (offset InLineStr path) p behind number place x e sized (inr h) = absurd h
+line_str-misses c a cells (offset InLineStr path) p behind number place x e sized (inl h) =
+    one-misses (offset InLineStr path) c a (text_source a cells InLineStr) p behind number place path
+    (line_str_asked c a path (offset_at (text_source a cells InLineStr) (record { at = place; size = length p; path = path }))) x e sized.0 (text-new InLineStr path c a cells p behind place e) h
 
 start-misses : (c : TableChanges) (a : Around) (cells : List Cell) → MissesBy start_by c a (start_source a cells) (starts_asked c a)
 start-misses c a cells fixed p behind number place x e sized h = absurd h
@@ -188,8 +179,8 @@ start-misses c a cells inline_path p behind number place x e sized h = absurd h
 start-misses c a cells (offset table path) p behind number place x e sized h = absurd h
 start-misses c a cells line_start p behind number place x e sized (inr h) = absurd h
 start-misses c a cells line_start p behind number place x e sized (inl h) =
-    one-misses line_start c a (start_source a cells) p behind number place (starts_asked c a (offset_at (start_source a cells) (record { at = place; size = length p }))) x e sized.0
-    (start-new c a cells p behind place e) h
+    one-misses line_start c a (start_source a cells) p behind number place false
+    (starts_asked c a false (offset_at (start_source a cells) (record { at = place; size = length p; path = false }))) x e sized.0 (start-new c a cells p behind place e) h
 
 -- pieces stand one behind another, each where its state says
 abbrev pub StandFrom : {S : Type 0} → (S → ℕ) → List Cell → ℕ → List (Piece S) → Type 0
@@ -197,24 +188,24 @@ StandFrom placed cells place [] = ⊤
 StandFrom placed cells place (x ∷ xs) = (placed x.state ≡ place) × (x.cells ++ joined xs ≡ drop place cells) × StandFrom placed cells (place + length x.cells) xs
 
 -- the fields that pieces are
-abbrev pub fields_in : {S : Type 0} → (Role → ℕ → ℕ → List TextField) → (Piece S → Role) → (S → ℕ) → List (Piece S) → List TextField
+abbrev pub fields_in : {S : Type 0} → (Role → ℕ → ℕ → List OffsetField) → (Piece S → Role) → (S → ℕ) → List (Piece S) → List OffsetField
 fields_in by role placed [] = []
 fields_in by role placed (x ∷ xs) = by (role x) (placed x.state) (length x.cells) ++ fields_in by role placed xs
 
 pieces-make : {S : Type 0} (role : Piece S → Role) (placed : S → ℕ) (c : TableChanges) (a : Around) (cells : List Cell) (place : ℕ) (xs : List (Piece S))
-    → (c.new Str).plan ≡ appending c.map (a.stands Str).bytes → (c.new LineStr).plan ≡ appending c.map (a.stands LineStr).bytes → StandFrom placed cells place xs
+    → StandFrom placed cells place xs
     → FieldsMake (text_source a cells InStr) (str_asked c a) (fields_in (field_by InStr) role placed xs)
     → FieldsMake (text_source a cells InLineStr) (line_str_asked c a) (fields_in (field_by InLineStr) role placed xs)
     → FieldsMake (start_source a cells) (starts_asked c a) (fields_in start_by role placed xs) → EachPiece (λ x. MakesRole (role x) c a x.cells) xs
-pieces-make role placed c a cells place [] str line stand hs hl ht = tt
-pieces-make role placed c a cells place (x ∷ xs) str line stand hs hl ht =
+pieces-make role placed c a cells place [] stand hs hl ht = tt
+pieces-make role placed c a cells place (x ∷ xs) stand hs hl ht =
     let s = makes-parts (text_source a cells InStr) (str_asked c a) (field_by InStr (role x) (placed x.state) (length x.cells)) (fields_in (field_by InStr) role placed xs) hs in
     let l = makes-parts (text_source a cells InLineStr) (line_str_asked c a) (field_by InLineStr (role x) (placed x.state) (length x.cells))
     (fields_in (field_by InLineStr) role placed xs) hl in
     let t = makes-parts (start_source a cells) (starts_asked c a) (start_by (role x) (placed x.state) (length x.cells)) (fields_in start_by role placed xs) ht in
     let e : x.cells ++ joined xs ≡ drop (placed x.state) cells = stand.1 ∙ ap (λ (n : ℕ). drop n cells) (sym stand.0) in (
-      role-makes (role x) c a cells x.cells (joined xs) (placed x.state) str line e s.0 l.0 t.0,
-      pieces-make role placed c a cells (place + length x.cells) xs str line stand.2 s.1 l.1 t.1,
+      role-makes (role x) c a cells x.cells (joined xs) (placed x.state) e s.0 l.0 t.0,
+      pieces-make role placed c a cells (place + length x.cells) xs stand.2 s.1 l.1 t.1,
     )
 
 -- a piece among others
@@ -246,7 +237,7 @@ fails-later {S} role placed c a number x xs r h = record {
   is = h.is;
 }
 
-pieces-miss : {S : Type 0} (by : Role → ℕ → ℕ → List TextField) (role : Piece S → Role) (placed : S → ℕ) (c : TableChanges) (a : Around) (s : FieldSource) (known : ℕ → Option ℕ)
+pieces-miss : {S : Type 0} (by : Role → ℕ → ℕ → List OffsetField) (role : Piece S → Role) (placed : S → ℕ) (c : TableChanges) (a : Around) (s : FieldSource) (known : Bool → ℕ → Option ℕ)
     (number place : ℕ) (xs : List (Piece S)) (r : Refusal) → MissesBy by c a s known → StandFrom placed s.cells place xs → Sized (fields_in by role placed xs)
     → AnyMisses s known number (fields_in by role placed xs) r → PieceFails role placed c a number xs r
 pieces-miss by role placed c a s known number place [] r one stand sized h = absurd h
@@ -270,45 +261,44 @@ units-stand : (cells : List Cell) (place : ℕ) (xs : List (Piece UnitState)) �
 units-stand cells place [] l = tt
 units-stand cells place (x ∷ xs) l = (l.0, l.1, units-stand cells (place + length x.cells) xs l.2)
 
-units-text : (table : TextSection) (xs : List (Piece UnitState)) → path_fields table xs ≡ fields_in (field_by table) role_of unit_place xs
+units-text : (table : TextSection) (xs : List (Piece UnitState)) → piece_fields table xs ≡ fields_in (field_by table) role_of unit_place xs
 units-text table [] = refl
-units-text table (x ∷ xs) = ap (λ (fs : List TextField). field_by table (role_of x) x.state.place (length x.cells) ++ fs) (units-text table xs)
+units-text table (x ∷ xs) = ap (λ (fs : List OffsetField). field_by table (role_of x) x.state.place (length x.cells) ++ fs) (units-text table xs)
 
 units-start : (xs : List (Piece UnitState)) → start_fields xs ≡ fields_in start_by role_of unit_place xs
 units-start [] = refl
-units-start (x ∷ xs) = ap (λ (fs : List TextField). start_by (role_of x) x.state.place (length x.cells) ++ fs) (units-start xs)
+units-start (x ∷ xs) = ap (λ (fs : List OffsetField). start_by (role_of x) x.state.place (length x.cells) ++ fs) (units-start xs)
 
-pub make-units : (c : TableChanges) (a : Around) (cells : List Cell) (xs : List (Piece UnitState)) → (c.new Str).plan ≡ appending c.map (a.stands Str).bytes
-    → (c.new LineStr).plan ≡ appending c.map (a.stands LineStr).bytes → PlacedCells cells 0 xs → FieldsMake (text_source a cells InStr) (str_asked c a) (path_fields InStr xs)
-    → FieldsMake (text_source a cells InLineStr) (line_str_asked c a) (path_fields InLineStr xs) → FieldsMake (start_source a cells) (starts_asked c a) (start_fields xs)
+pub make-units : (c : TableChanges) (a : Around) (cells : List Cell) (xs : List (Piece UnitState)) → PlacedCells cells 0 xs → FieldsMake (text_source a cells InStr) (str_asked c a) (piece_fields InStr xs)
+    → FieldsMake (text_source a cells InLineStr) (line_str_asked c a) (piece_fields InLineStr xs) → FieldsMake (start_source a cells) (starts_asked c a) (start_fields xs)
     → EachPiece (λ x. MakesRole (role_of x) c a x.cells) xs
-make-units c a cells xs str line l hs hl ht =
-    pieces-make role_of unit_place c a cells 0 xs str line (units-stand cells 0 xs l)
+make-units c a cells xs l hs hl ht =
+    pieces-make role_of unit_place c a cells 0 xs (units-stand cells 0 xs l)
     (subst (FieldsMake (text_source a cells InStr) (str_asked c a)) (units-text InStr xs) hs)
     (subst (FieldsMake (text_source a cells InLineStr) (line_str_asked c a)) (units-text InLineStr xs) hl)
     (subst (FieldsMake (start_source a cells) (starts_asked c a)) (units-start xs) ht)
 
 pub miss-units-str : (c : TableChanges) (a : Around) (cells : List Cell) (number : ℕ) (xs : List (Piece UnitState)) (r : Refusal) → PlacedCells cells 0 xs
-    → Sized (path_fields InStr xs) → AnyMisses (text_source a cells InStr) (str_asked c a) number (path_fields InStr xs) r → PieceFails role_of unit_place c a number xs r
+    → Sized (piece_fields InStr xs) → AnyMisses (text_source a cells InStr) (str_asked c a) number (piece_fields InStr xs) r → PieceFails role_of unit_place c a number xs r
 miss-units-str c a cells number xs r l sized h =
     pieces-miss (field_by InStr) role_of unit_place c a (text_source a cells InStr) (str_asked c a) number 0 xs r (str-misses c a cells) (units-stand cells 0 xs l)
     (subst Sized (units-text InStr xs) sized)
-    (subst (λ (fs : List TextField). AnyMisses (text_source a cells InStr) (str_asked c a) number fs r) (units-text InStr xs) h)
+    (subst (λ (fs : List OffsetField). AnyMisses (text_source a cells InStr) (str_asked c a) number fs r) (units-text InStr xs) h)
 
 pub miss-units-line_str : (c : TableChanges) (a : Around) (cells : List Cell) (number : ℕ) (xs : List (Piece UnitState)) (r : Refusal) → PlacedCells cells 0 xs
-    → Sized (path_fields InLineStr xs) → AnyMisses (text_source a cells InLineStr) (line_str_asked c a) number (path_fields InLineStr xs) r
+    → Sized (piece_fields InLineStr xs) → AnyMisses (text_source a cells InLineStr) (line_str_asked c a) number (piece_fields InLineStr xs) r
     → PieceFails role_of unit_place c a number xs r
 miss-units-line_str c a cells number xs r l sized h =
     pieces-miss (field_by InLineStr) role_of unit_place c a (text_source a cells InLineStr) (line_str_asked c a) number 0 xs r (line_str-misses c a cells) (units-stand cells 0 xs l)
     (subst Sized (units-text InLineStr xs) sized)
-    (subst (λ (fs : List TextField). AnyMisses (text_source a cells InLineStr) (line_str_asked c a) number fs r) (units-text InLineStr xs) h)
+    (subst (λ (fs : List OffsetField). AnyMisses (text_source a cells InLineStr) (line_str_asked c a) number fs r) (units-text InLineStr xs) h)
 
 pub miss-units-start : (c : TableChanges) (a : Around) (cells : List Cell) (number : ℕ) (xs : List (Piece UnitState)) (r : Refusal) → PlacedCells cells 0 xs
     → Sized (start_fields xs) → AnyMisses (start_source a cells) (starts_asked c a) number (start_fields xs) r → PieceFails role_of unit_place c a number xs r
 miss-units-start c a cells number xs r l sized h =
     pieces-miss start_by role_of unit_place c a (start_source a cells) (starts_asked c a) number 0 xs r (start-misses c a cells) (units-stand cells 0 xs l)
     (subst Sized (units-start xs) sized)
-    (subst (λ (fs : List TextField). AnyMisses (start_source a cells) (starts_asked c a) number fs r) (units-start xs) h)
+    (subst (λ (fs : List OffsetField). AnyMisses (start_source a cells) (starts_asked c a) number fs r) (units-start xs) h)
 
 -- string offsets
 abbrev pub slot_place : OffsetState → ℕ
@@ -323,20 +313,19 @@ slots-stand cells place (x ∷ xs) l = (l.0, l.1, slots-stand cells (place + len
 
 slots-text : (table : TextSection) (paths : List ℕ) (xs : List (Piece OffsetState)) → offset_fields table paths xs ≡ fields_in (field_by table) (slot_piece_role paths) slot_place xs
 slots-text table paths [] = refl
-slots-text table paths (x ∷ xs) = ap (λ (fs : List TextField). field_by table (slot_role paths x.state) x.state.place (length x.cells) ++ fs) (slots-text table paths xs)
+slots-text table paths (x ∷ xs) = ap (λ (fs : List OffsetField). field_by table (slot_role paths x.state) x.state.place (length x.cells) ++ fs) (slots-text table paths xs)
 
 slots-start : (paths : List ℕ) (xs : List (Piece OffsetState)) → fields_in start_by (slot_piece_role paths) slot_place xs ≡ []
 slots-start paths [] = refl
 slots-start paths (x ∷ xs) =
-    ap (λ (fs : List TextField). fs ++ fields_in start_by (slot_piece_role paths) slot_place xs) (no-start paths x.state.mode x.state.slot x.state.place (length x.cells))
+    ap (λ (fs : List OffsetField). fs ++ fields_in start_by (slot_piece_role paths) slot_place xs) (no-start paths x.state.mode x.state.slot x.state.place (length x.cells))
     ∙ slots-start paths xs
 
-pub make-slots : (c : TableChanges) (a : Around) (cells : List Cell) (paths : List ℕ) (xs : List (Piece OffsetState)) → (c.new Str).plan ≡ appending c.map (a.stands Str).bytes
-    → (c.new LineStr).plan ≡ appending c.map (a.stands LineStr).bytes → SlotsIn cells 0 xs → FieldsMake (text_source a cells InStr) (str_asked c a) (offset_fields InStr paths xs)
+pub make-slots : (c : TableChanges) (a : Around) (cells : List Cell) (paths : List ℕ) (xs : List (Piece OffsetState)) → SlotsIn cells 0 xs → FieldsMake (text_source a cells InStr) (str_asked c a) (offset_fields InStr paths xs)
     → FieldsMake (text_source a cells InLineStr) (line_str_asked c a) (offset_fields InLineStr paths xs)
     → EachPiece (λ x. MakesRole (slot_role paths x.state) c a x.cells) xs
-make-slots c a cells paths xs str line l hs hl =
-    pieces-make (slot_piece_role paths) slot_place c a cells 0 xs str line (slots-stand cells 0 xs l)
+make-slots c a cells paths xs l hs hl =
+    pieces-make (slot_piece_role paths) slot_place c a cells 0 xs (slots-stand cells 0 xs l)
     (subst (FieldsMake (text_source a cells InStr) (str_asked c a)) (slots-text InStr paths xs) hs)
     (subst (FieldsMake (text_source a cells InLineStr) (line_str_asked c a)) (slots-text InLineStr paths xs) hl)
     (subst (FieldsMake (start_source a cells) (starts_asked c a)) (sym (slots-start paths xs)) tt)
@@ -347,7 +336,7 @@ pub miss-slots : (c : TableChanges) (a : Around) (cells : List Cell) (paths : Li
 miss-slots c a cells paths number xs r l sized h =
     pieces-miss (field_by InStr) (slot_piece_role paths) slot_place c a (text_source a cells InStr) (str_asked c a) number 0 xs r (str-misses c a cells) (slots-stand cells 0 xs l)
     (subst Sized (slots-text InStr paths xs) sized)
-    (subst (λ (fs : List TextField). AnyMisses (text_source a cells InStr) (str_asked c a) number fs r) (slots-text InStr paths xs) h)
+    (subst (λ (fs : List OffsetField). AnyMisses (text_source a cells InStr) (str_asked c a) number fs r) (slots-text InStr paths xs) h)
 
 -- macro units
 abbrev pub macro_place : MacroState → ℕ
@@ -368,39 +357,68 @@ macros-stand order cells s place (x ∷ xs) stands chain e =
 
 macros-start : (xs : List (Piece MacroState)) → macro_starts xs ≡ fields_in start_by macro_piece_role macro_place xs
 macros-start [] = refl
-macros-start (x ∷ xs) = ap (λ (fs : List TextField). start_by (macro_role x.state) x.state.place (length x.cells) ++ fs) (macros-start xs)
+macros-start (x ∷ xs) = ap (λ (fs : List OffsetField). start_by (macro_role x.state) x.state.place (length x.cells) ++ fs) (macros-start xs)
 
-macros-text : (table : TextSection) (xs : List (Piece MacroState)) → fields_in (field_by table) macro_piece_role macro_place xs ≡ []
+macros-text : (table : TextSection) (xs : List (Piece MacroState)) → macro_texts table xs ≡ fields_in (field_by table) macro_piece_role macro_place xs
 macros-text table [] = refl
-macros-text table (x ∷ xs) =
-    ap (λ (fs : List TextField). fs ++ fields_in (field_by table) macro_piece_role macro_place xs) (no-path table x.state.mode x.state.place (length x.cells)) ∙ macros-text table xs
+macros-text table (x ∷ xs) = ap (λ (fs : List OffsetField). field_by table (macro_role x.state) x.state.place (length x.cells) ++ fs) (macros-text table xs)
 
-pub make-macros : (c : TableChanges) (a : Around) (order : Order) (cells : List Cell) (s : MacroState) (xs : List (Piece MacroState)) → (c.new Str).plan ≡ appending c.map (a.stands Str).bytes
-    → (c.new LineStr).plan ≡ appending c.map (a.stands LineStr).bytes → s.place ≡ 0 → Chain (macro_grammar order) s xs → joined xs ≡ cells
+pub make-macros : (c : TableChanges) (a : Around) (order : Order) (cells : List Cell) (s : MacroState) (xs : List (Piece MacroState)) → s.place ≡ 0 → Chain (macro_grammar order) s xs → joined xs ≡ cells
+    → FieldsMake (text_source a cells InStr) (str_asked c a) (macro_texts InStr xs) → FieldsMake (text_source a cells InLineStr) (line_str_asked c a) (macro_texts InLineStr xs)
     → FieldsMake (start_source a cells) (starts_asked c a) (macro_starts xs) → EachPiece (λ x. MakesRole (macro_role x.state) c a x.cells) xs
-make-macros c a order cells s xs str line stands chain e ht =
-    pieces-make macro_piece_role macro_place c a cells 0 xs str line (macros-stand order cells s 0 xs stands chain e)
-    (subst (FieldsMake (text_source a cells InStr) (str_asked c a)) (sym (macros-text InStr xs)) tt)
-    (subst (FieldsMake (text_source a cells InLineStr) (line_str_asked c a)) (sym (macros-text InLineStr xs)) tt)
+make-macros c a order cells s xs stands chain e hs hl ht =
+    pieces-make macro_piece_role macro_place c a cells 0 xs (macros-stand order cells s 0 xs stands chain e)
+    (subst (FieldsMake (text_source a cells InStr) (str_asked c a)) (macros-text InStr xs) hs)
+    (subst (FieldsMake (text_source a cells InLineStr) (line_str_asked c a)) (macros-text InLineStr xs) hl)
     (subst (FieldsMake (start_source a cells) (starts_asked c a)) (macros-start xs) ht)
 
-pub miss-macros : (c : TableChanges) (a : Around) (order : Order) (cells : List Cell) (s : MacroState) (number : ℕ) (xs : List (Piece MacroState)) (r : Refusal) → s.place ≡ 0
+pub miss-macros-str : (c : TableChanges) (a : Around) (order : Order) (cells : List Cell) (s : MacroState) (number : ℕ) (xs : List (Piece MacroState)) (r : Refusal) → s.place ≡ 0
+    → Chain (macro_grammar order) s xs → joined xs ≡ cells → Sized (macro_texts InStr xs) → AnyMisses (text_source a cells InStr) (str_asked c a) number (macro_texts InStr xs) r
+    → PieceFails macro_piece_role macro_place c a number xs r
+miss-macros-str c a order cells s number xs r stands chain e sized h =
+    pieces-miss (field_by InStr) macro_piece_role macro_place c a (text_source a cells InStr) (str_asked c a) number 0 xs r (str-misses c a cells)
+    (macros-stand order cells s 0 xs stands chain e) (subst Sized (macros-text InStr xs) sized)
+    (subst (λ (fs : List OffsetField). AnyMisses (text_source a cells InStr) (str_asked c a) number fs r) (macros-text InStr xs) h)
+
+pub miss-macros-start : (c : TableChanges) (a : Around) (order : Order) (cells : List Cell) (s : MacroState) (number : ℕ) (xs : List (Piece MacroState)) (r : Refusal) → s.place ≡ 0
     → Chain (macro_grammar order) s xs → joined xs ≡ cells → Sized (macro_starts xs) → AnyMisses (start_source a cells) (starts_asked c a) number (macro_starts xs) r
     → PieceFails macro_piece_role macro_place c a number xs r
-miss-macros c a order cells s number xs r stands chain e sized h =
+miss-macros-start c a order cells s number xs r stands chain e sized h =
     pieces-miss start_by macro_piece_role macro_place c a (start_source a cells) (starts_asked c a) number 0 xs r (start-misses c a cells)
     (macros-stand order cells s 0 xs stands chain e) (subst Sized (macros-start xs) sized)
-    (subst (λ (fs : List TextField). AnyMisses (start_source a cells) (starts_asked c a) number fs r) (macros-start xs) h)
+    (subst (λ (fs : List OffsetField). AnyMisses (start_source a cells) (starts_asked c a) number fs r) (macros-start xs) h)
 
--- the string offsets of name tables aren't those of paths
-name-makes : (mode : NameMode) (c : TableChanges) (a : Around) (p : List Cell) → (c.new Str).plan ≡ appending c.map (a.stands Str).bytes → MakesRole (name_role_by mode) c a p
-name-makes at_table c a p str = tt
-name-makes (at_rest end) c a p str = tt
-name-makes no_names c a p str = tt
-name-makes (at_string width left end) c a p str =
-    let none = no_path-asks c.map (a.stands Str).bytes (c.new Str).plan (mention_at a InStr false p).text str in
-    rw none tt
+-- name tables
+abbrev pub name_place : NameState → ℕ
+name_place s = s.place
 
-pub make-names : (c : TableChanges) (a : Around) (xs : List (Piece NameState)) → (c.new Str).plan ≡ appending c.map (a.stands Str).bytes → EachPiece (λ x. MakesRole (name_role x.state) c a x.cells) xs
-make-names c a [] str = tt
-make-names c a (x ∷ xs) str = (name-makes x.state.mode c a x.cells str, make-names c a xs str)
+abbrev pub name_piece_role : Piece NameState → Role
+name_piece_role x = name_role x.state
+
+names-stand : (cells : List Cell) (place : ℕ) (xs : List (Piece NameState)) → NamesPlaced cells place xs → StandFrom name_place cells place xs
+names-stand cells place [] l = tt
+names-stand cells place (x ∷ xs) l = (l.0, l.1, names-stand cells (place + length x.cells) xs l.2)
+
+names-text : (table : TextSection) (xs : List (Piece NameState)) → names_texts table xs ≡ fields_in (field_by table) name_piece_role name_place xs
+names-text table [] = refl
+names-text table (x ∷ xs) = ap (λ (fs : List OffsetField). field_by table (name_role x.state) x.state.place (length x.cells) ++ fs) (names-text table xs)
+
+names-start : (xs : List (Piece NameState)) → fields_in start_by name_piece_role name_place xs ≡ []
+names-start [] = refl
+names-start (x ∷ xs) =
+    ap (λ (fs : List OffsetField). fs ++ fields_in start_by name_piece_role name_place xs) (no-name-start x.state.mode x.state.place (length x.cells)) ∙ names-start xs
+
+pub make-names : (c : TableChanges) (a : Around) (cells : List Cell) (xs : List (Piece NameState)) → NamesPlaced cells 0 xs → FieldsMake (text_source a cells InStr) (str_asked c a) (names_texts InStr xs)
+    → FieldsMake (text_source a cells InLineStr) (line_str_asked c a) (names_texts InLineStr xs) → EachPiece (λ x. MakesRole (name_role x.state) c a x.cells) xs
+make-names c a cells xs l hs hl =
+    pieces-make name_piece_role name_place c a cells 0 xs (names-stand cells 0 xs l)
+    (subst (FieldsMake (text_source a cells InStr) (str_asked c a)) (names-text InStr xs) hs)
+    (subst (FieldsMake (text_source a cells InLineStr) (line_str_asked c a)) (names-text InLineStr xs) hl)
+    (subst (FieldsMake (start_source a cells) (starts_asked c a)) (sym (names-start xs)) tt)
+
+pub miss-names : (c : TableChanges) (a : Around) (cells : List Cell) (number : ℕ) (xs : List (Piece NameState)) (r : Refusal) → NamesPlaced cells 0 xs
+    → Sized (names_texts InStr xs) → AnyMisses (text_source a cells InStr) (str_asked c a) number (names_texts InStr xs) r → PieceFails name_piece_role name_place c a number xs r
+miss-names c a cells number xs r l sized h =
+    pieces-miss (field_by InStr) name_piece_role name_place c a (text_source a cells InStr) (str_asked c a) number 0 xs r (str-misses c a cells) (names-stand cells 0 xs l)
+    (subst Sized (names-text InStr xs) sized)
+    (subst (λ (fs : List OffsetField). AnyMisses (text_source a cells InStr) (str_asked c a) number fs r) (names-text InStr xs) h)

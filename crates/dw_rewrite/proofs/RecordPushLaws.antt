@@ -1,5 +1,5 @@
 -- Sections of relocations that are appended, one by one.
-use Rattle.std.proofs.Common.{◌≡◌, ℕ, suc, ◌+◌, ◌<◌, ◌≤◌, List, [], ◌∷◌, ◌++◌, length, get_or, drop, Option, Some, None, refl, sym, ap, ◌∙◌, subst, arith, append_assoc, append-nil}
+use Rattle.std.proofs.Common.{Bool, ◌≡◌, ℕ, suc, ◌+◌, ◌<◌, ◌≤◌, List, [], ◌∷◌, ◌++◌, length, get_or, drop, Option, Some, None, refl, sym, ap, ◌∙◌, subst, arith, append_assoc, append-nil}
 use Rattle.std.specs.Prelude.{option_map}
 use Rattle.std.proofs.Math.Seq.{drop-cons}
 use Rattle.std.proofs.lemmas.List.{drop_all}
@@ -16,7 +16,7 @@ use Rattle.dw_base.proofs.RelocationFieldLaws.{relocation_at-plain}
 use Rattle.dw_base.proofs.SectionRelocationLaws.{cells_from-none}
 use Rattle.dw_base.proofs.ViewCellLaws.{view_cells-view_of}
 use Rattle.dw_base.specs.declared.debug_sections.DebugSection.TheVariants.{Str, LineStr, Line}
-use Rattle.dw_base.specs.declared.texts.TextField.{TextField}
+use Rattle.dw_offsets.specs.declared.fields.OffsetField.{OffsetField}
 use Rattle.dw_base.specs.declared.texts.TextSection.TheVariants.{InStr, InLineStr}
 use Rattle.dw_find.specs.SectionFields.{SectionFields, fields_into}
 use Rattle.dw_find.specs.ViewFields.{HasPlaces}
@@ -81,9 +81,9 @@ none-pushed b told n i o old is held none =
     sym (append-nil old) ∙ ap (λ (x : Option ℕ). old ++ record_body b told x) (sym (none-by b (relocation_section b n) (sym none ∙ held)) ∙ ap (relocation_section b) is)
 
 -- where none holds its relocations no addend is asked
-fields-plain : (s : FieldSource) (known : ℕ → Option ℕ) (fs : List TextField) → IsPlain s.cells → FieldsMake s known fs
+fields-plain : (s : FieldSource) (known : Bool → ℕ → Option ℕ) (fs : List OffsetField) → IsPlain s.cells → FieldsMake s known fs
 fields-plain s known [] plain = tt
-fields-plain s known (f ∷ fs) plain = (by (known (offset_at s f)), fields-plain s known fs plain)
+fields-plain s known (f ∷ fs) plain = (by (known f.path (offset_at s f)), fields-plain s known fs plain)
   where
     by : (o : Option ℕ) → FieldMakes s f o
     by None = tt
@@ -96,7 +96,7 @@ cells-plain b i lt none =
     view_cells-view_of b i lt ∙ ap (λ (o : Option ℕ). cells_from (relocations_by (contents_of b) b o) 0 (contents_of b i)) none ∙ cells_from-none 0 (contents_of b i) in
     subst IsPlain (sym cells) (plain_cells-plain (contents_of b i))
 
-pub none-makes : (b : List ℕ) (v : View) (ks kl kt : ℕ → Option ℕ) (u : SectionFields) (n : ℕ) (o : Option (ℕ × RelocationSource)) → n ≡ u.number → HasPlaces v u → v ≡ view_of b
+pub none-makes : (b : List ℕ) (v : View) (ks kl kt : Bool → ℕ → Option ℕ) (u : SectionFields) (n : ℕ) (o : Option (ℕ × RelocationSource)) → n ≡ u.number → HasPlaces v u → v ≡ view_of b
     → o ≡ option_map (held_source b) (relocation_section b n) → o ≡ None → SectionMakes v ks kl kt u
 none-makes b v ks kl kt u n o is h v_is held none =
     let own : relocation_section b u.number ≡ None = ap (relocation_section b) (sym is) ∙ none-by b (relocation_section b n) (sym none ∙ held) in
@@ -111,15 +111,15 @@ none-makes b v ks kl kt u n o is h v_is held none =
 pub ruleset one_rules = (section-there, places-fit, one-pushed, none-pushed, none-makes)
 
 -- the sections up to one are appended, and their addends make the offsets
-pub record RecordPass (b : List ℕ) (v : View) (ks kl kt : ℕ → Option ℕ) (us : List SectionFields) (front bodies : List Body) (i : ℕ) : Type 0 where
+pub record RecordPass (b : List ℕ) (v : View) (ks kl kt : Bool → ℕ → Option ℕ) (us : List SectionFields) (front bodies : List Body) (i : ℕ) : Type 0 where
   pub list : bodies ++ records_known b v ks kl kt (drop i us) ≡ front ++ records_known b v ks kl kt us
   pub made : AllMake v ks kl kt (drop i us) → AllMake v ks kl kt us
 
-pub records-start : (b : List ℕ) (v : View) (ks kl kt : ℕ → Option ℕ) (us : List SectionFields) (front : List Body) → RecordPass b v ks kl kt us front front 0
+pub records-start : (b : List ℕ) (v : View) (ks kl kt : Bool → ℕ → Option ℕ) (us : List SectionFields) (front : List Body) → RecordPass b v ks kl kt us front front 0
 records-start b v ks kl kt us front = record { list = refl; made = λ h. h }
 
 -- one more
-pub records-step : (b : List ℕ) (v : View) (ks kl kt : ℕ → Option ℕ) (us : List SectionFields) (i : ℕ) (u : SectionFields) (bodies new front : List Body) → i < length us → u ≡ get_or us i u
+pub records-step : (b : List ℕ) (v : View) (ks kl kt : Bool → ℕ → Option ℕ) (us : List SectionFields) (i : ℕ) (u : SectionFields) (bodies new front : List Body) → i < length us → u ≡ get_or us i u
     → RecordPass b v ks kl kt us front bodies i → new ≡ bodies ++ record_body b (offsets_in v ks kl kt u) (relocation_section b u.number) → SectionMakes v ks kl kt u
     → RecordPass b v ks kl kt us front new (i + 1)
 records-step b v ks kl kt us i u bodies new front lt is before same makes =
@@ -133,17 +133,17 @@ records-step b v ks kl kt us i u bodies new front lt is before same makes =
       made = λ h. before.made (subst (AllMake v ks kl kt) (sym cut) (makes, h));
     }
 
-pub records-end : (b : List ℕ) (v : View) (ks kl kt : ℕ → Option ℕ) (us : List SectionFields) (i : ℕ) (bodies front : List Body) → RecordPass b v ks kl kt us front bodies i → length us ≤ i
+pub records-end : (b : List ℕ) (v : View) (ks kl kt : Bool → ℕ → Option ℕ) (us : List SectionFields) (i : ℕ) (bodies front : List Body) → RecordPass b v ks kl kt us front bodies i → length us ≤ i
     → bodies ≡ front ++ records_known b v ks kl kt us
 records-end b v ks kl kt us i bodies front p end =
     sym (append-nil bodies) ∙ sym (ap (λ (xs : List SectionFields). bodies ++ records_known b v ks kl kt xs) (drop_all i us end)) ∙ p.list
 
-pub records-made : (b : List ℕ) (v : View) (ks kl kt : ℕ → Option ℕ) (us : List SectionFields) (i : ℕ) (bodies front : List Body) → RecordPass b v ks kl kt us front bodies i → length us ≤ i
+pub records-made : (b : List ℕ) (v : View) (ks kl kt : Bool → ℕ → Option ℕ) (us : List SectionFields) (i : ℕ) (bodies front : List Body) → RecordPass b v ks kl kt us front bodies i → length us ≤ i
     → AllMake v ks kl kt us
 records-made b v ks kl kt us i bodies front p end = p.made (subst (AllMake v ks kl kt) (sym (drop_all i us end)) tt)
 
 -- the fault of one of them
-pub records-fault : (v : View) (ks kl kt : ℕ → Option ℕ) (us : List SectionFields) (i : ℕ) (u : SectionFields) (f : Fault) → i < length us → u ≡ get_or us i u
+pub records-fault : (v : View) (ks kl kt : Bool → ℕ → Option ℕ) (us : List SectionFields) (i : ℕ) (u : SectionFields) (f : Fault) → i < length us → u ≡ get_or us i u
     → Blames (SectionMisses v ks kl kt u) f → Blames (AllMiss v ks kl kt us) f
 records-fault v ks kl kt us i u NoMemory lt is b = tt
 records-fault v ks kl kt us i u (Refused r) lt is b = one_section i u lt is b

@@ -28,7 +28,7 @@ use Rattle.dw_base.proofs.FileViewLaws.{length-view_of, section_bytes-view_of}
 use Rattle.dw_base.proofs.ViewCellLaws.{length-view_cells}
 use Rattle.dw_base.specs.declared.debug_sections.DebugSection.{DebugSection}
 use Rattle.dw_base.specs.declared.debug_sections.DebugSection.TheVariants.{Str, LineStr, Line}
-use Rattle.dw_base.specs.declared.texts.TextField.{TextField}
+use Rattle.dw_offsets.specs.declared.fields.OffsetField.{OffsetField}
 use Rattle.dw_base.specs.declared.texts.TextSection.TheVariants.{InStr, InLineStr}
 use Rattle.dw_rewrite.proofs.FieldSetLaws.{all-put, apart-behind, apart-front, apart-skip, free-behind, free-first}
 use Rattle.dw_find.proofs.PlaceValueLaws.{EachOf, each-get}
@@ -37,7 +37,7 @@ use Rattle.dw_find.proofs.SectionFactLaws.{FitsIn}
 -- fields of line tables are fields of the cells
 pub start-fields : (v : View) (u : SectionFields) → HasPlaces v u → AreFieldsOf (starts_in v u.number) (fields_into u Line)
 start-fields v u h = record {
-  each = λ (k : ℕ) (d : TextField) (lt : k < length (fields_into u Line)).
+  each = λ (k : ℕ) (d : OffsetField) (lt : k < length (fields_into u Line)).
       let one : IsStartField (info_of v u) (get_or (fields_into u Line) k d) = h.starts.each k d lt in
       let inside : (get_or (fields_into u Line) k d).at + (get_or (fields_into u Line) k d).size ≤ length (info_of v u) = one.inside in
       let size : length (view_cells v u.number) ≡ length (info_of v u) = length-view_cells v u.number in
@@ -45,7 +45,7 @@ start-fields v u h = record {
 }
 
 -- and so are those of the tables of texts
-offsets-fields : (s : FieldSource) (fields : List TextField) → AreOffsetFields s.order s.table s.cells fields → AreFieldsOf s fields
+offsets-fields : (s : FieldSource) (fields : List OffsetField) → AreOffsetFields s.order s.table s.cells fields → AreFieldsOf s fields
 offsets-fields s fields h = record { each = λ k d lt. record { sized = (h.each k d lt).sized; inside = (h.each k d lt).inside } }
 
 pub str-fields : (v : View) (u : SectionFields) → HasOffsets v u → AreFieldsOf (source_in v u.number InStr) (fields_into u Str)
@@ -75,14 +75,14 @@ apart-both u h = subst AllApart (sym (append_assoc (fields_into u Str) (fields_i
 pub none-free : (v : View) (u : SectionFields) (p : PatchList) (n size : ℕ) → p ≡ no_patches v.order n size → AreFree p.list (fields_into u Str)
 none-free v u p n size is = rw is (free-first (fields_into u Str))
 
-pub line-free : (v : View) (u : SectionFields) (p q : PatchList) (known : ℕ → Option ℕ) (n size : ℕ) → HasPlaces v u → p ≡ no_patches v.order n size
+pub line-free : (v : View) (u : SectionFields) (p q : PatchList) (known : Bool → ℕ → Option ℕ) (n size : ℕ) → HasPlaces v u → p ≡ no_patches v.order n size
     → AreSet (source_in v u.number InStr) known (fields_into u Str) p q → AreFree q.list (fields_into u LineStr)
 line-free v u p q known n size h is s =
     let list : q.list ≡ s.more = s.list ∙ ap (λ (x : PatchList). x.list ++ s.more) is in
     subst (λ (ps : List Patch). AreFree ps (fields_into u LineStr)) (sym list)
     (free-behind (source_in v u.number InStr) known [] s.more (fields_into u Str) (fields_into u LineStr) s.said (apart-front (fields_into u Str ++ fields_into u LineStr) (fields_into u Line) (apart-both u h.apart)) (free-first (fields_into u LineStr)))
 
-pub start-free : (v : View) (u : SectionFields) (p q r : PatchList) (ks kl : ℕ → Option ℕ) (n size : ℕ) → HasPlaces v u → p ≡ no_patches v.order n size
+pub start-free : (v : View) (u : SectionFields) (p q r : PatchList) (ks kl : Bool → ℕ → Option ℕ) (n size : ℕ) → HasPlaces v u → p ≡ no_patches v.order n size
     → AreSet (source_in v u.number InStr) ks (fields_into u Str) p q → AreSet (source_in v u.number InLineStr) kl (fields_into u LineStr) q r → AreFree r.list (fields_into u Line)
 start-free v u p q r ks kl n size h is s l =
     let list : r.list ≡ s.more ++ l.more =
@@ -93,7 +93,7 @@ start-free v u p q r ks kl n size h is s l =
     subst (λ (ps : List Patch). AreFree ps (fields_into u Line)) (sym list)
     (free-behind (source_in v u.number InLineStr) kl s.more l.more (fields_into u LineStr) (fields_into u Line) l.said behind first)
 
-pub fields-put : (v : View) (u : SectionFields) (ks kl kt : ℕ → Option ℕ) (out new : List ℕ) (p q r w : PatchList) (n size : ℕ) → p ≡ no_patches v.order n size
+pub fields-put : (v : View) (u : SectionFields) (ks kl kt : Bool → ℕ → Option ℕ) (out new : List ℕ) (p q r w : PatchList) (n size : ℕ) → p ≡ no_patches v.order n size
     → AreSet (source_in v u.number InStr) ks (fields_into u Str) p q → AreSet (source_in v u.number InLineStr) kl (fields_into u LineStr) q r
     → AreSet (starts_in v u.number) kt (fields_into u Line) r w → new ≡ with_patches w.order out w.list → new ≡ fields_known v ks kl kt u out
 fields-put v u ks kl kt out new p q r w n size is first second third put =
@@ -130,14 +130,14 @@ room-written m info here out second third ps qs o list here_is out_is put is sam
     ∙ ap (inlined m info (with_patches o info list)) same
 
 -- are its new bytes
-pub section-written : (m : PathMap) (v : View) (ks kl kt : ℕ → Option ℕ) (u : SectionFields) (o : Order) (list : List Patch) (new : List ℕ)
+pub section-written : (m : PathMap) (v : View) (ks kl kt : Bool → ℕ → Option ℕ) (u : SectionFields) (o : Order) (list : List Patch) (new : List ℕ)
     → with_patches o (info_of v u) list ≡ fields_known v ks kl kt u (info_of v u) → new ≡ inlined m (info_of v u) (with_patches o (info_of v u) list) u.inline
     → new ≡ section_known m v ks kl kt u
 unfolding section_known
 section-written m v ks kl kt u o list new put is = is ∙ ap (λ (bs : List ℕ). inlined m (info_of v u) bs u.inline) put
 
 -- where no path stands in its value, the numbers of the fields are all that is new
-pub body-patched : (m : PathMap) (v : View) (ks kl kt : ℕ → Option ℕ) (u : SectionFields) (n : ℕ) (o : Order) (list : List Patch) (old : List ℕ) (b : Body)
+pub body-patched : (m : PathMap) (v : View) (ks kl kt : Bool → ℕ → Option ℕ) (u : SectionFields) (n : ℕ) (o : Order) (list : List Patch) (old : List ℕ) (b : Body)
     → b ≡ record { number = n; bytes = with_patches o old list } → n ≡ u.number → old ≡ info_of v u
     → with_patches o (info_of v u) list ≡ fields_known v ks kl kt u (info_of v u) → u.inline ≡ [] → b ≡ body_known m v ks kl kt u
 unfolding section_known
@@ -157,7 +157,7 @@ no-rooms u ps t is same holds = sym same ∙ none-long ps (sym is ∙ holds)
 pub ruleset room_rules = (no-rooms)
 
 -- the section with those bytes
-pub body-is : (m : PathMap) (v : View) (ks kl kt : ℕ → Option ℕ) (u : SectionFields) (n : ℕ) (bytes new : List ℕ) → n ≡ u.number → bytes ≡ new → new ≡ section_known m v ks kl kt u
+pub body-is : (m : PathMap) (v : View) (ks kl kt : Bool → ℕ → Option ℕ) (u : SectionFields) (n : ℕ) (bytes new : List ℕ) → n ≡ u.number → bytes ≡ new → new ≡ section_known m v ks kl kt u
     → record { number = n; bytes = bytes } ≡ body_known m v ks kl kt u
 body-is m v ks kl kt u n bytes new number same is =
     ap (λ (k : ℕ). record { number = k; bytes = bytes }) number ∙ ap (λ (bs : List ℕ). record { number = u.number; bytes = bs }) (same ∙ is)
@@ -179,7 +179,7 @@ lent-bytes b bytes i lt is = is ∙ sym (section_bytes-view_of b i (lent-there b
 
 pub ruleset lent_rules = (lent-there, lent-bytes)
 
-pub bodies-end : (m : PathMap) (v : View) (ks kl kt : ℕ → Option ℕ) (us : List SectionFields) (i : ℕ) (bodies front : List Body) → length us ≤ i
+pub bodies-end : (m : PathMap) (v : View) (ks kl kt : Bool → ℕ → Option ℕ) (us : List SectionFields) (i : ℕ) (bodies front : List Body) → length us ≤ i
     → bodies ++ bodies_known m v ks kl kt (drop i us) ≡ front ++ bodies_known m v ks kl kt us → bodies ≡ front ++ bodies_known m v ks kl kt us
 bodies-end m v ks kl kt us i bodies front end e =
     sym (append-nil bodies) ∙ sym (ap (λ (xs : List SectionFields). bodies ++ bodies_known m v ks kl kt xs) (drop_all i us end)) ∙ e

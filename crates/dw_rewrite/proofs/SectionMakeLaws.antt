@@ -1,6 +1,6 @@
--- The addends of the sections of units, of string offsets and of macro units make all new offsets where the code found that they do; and the row of a
--- field whose addend doesn't is a row of the edit.
-use Rattle.std.proofs.Common.{◌≡◌, ◌⊎◌, inl, inr, ℕ, zero, suc, ◌+◌, ◌<◌, List, [], ◌∷◌, ◌++◌, length, get_or, Option, Some, None, refl, sym, ap, ◌∙◌, subst, arith, append_assoc}
+-- The addends of the sections of units, of string offsets, of macro units and of name tables make all new offsets where the code found that they do;
+-- and the row of a field whose addend doesn't is a row of the edit.
+use Rattle.std.proofs.Common.{Bool, ◌≡◌, ◌⊎◌, inl, inr, ℕ, zero, suc, ◌+◌, ◌<◌, List, [], ◌∷◌, ◌++◌, length, get_or, Option, Some, None, refl, sym, ap, ◌∙◌, subst, arith, append_assoc}
 use Rattle.std.specs.Bool.{⊤}
 use Rattle.dw_base.specs.Cells.{CellSection}
 use Rattle.dw_base.specs.DebugData.{DataReadings, ReadsAll, around_of, path_slots, units_in}
@@ -8,33 +8,36 @@ use Rattle.dw_base.specs.DebugSections.{name_of}
 use Rattle.dw_base.specs.FileViews.{View, section_named, view_cells}
 use Rattle.dw_base.specs.MacroPieces.{ReadsMacros, at_unit, macros_at}
 use Rattle.dw_base.specs.MacroReadings.{EachMacro, MacroReading, ReadsAllMacros}
+use Rattle.dw_base.specs.NamePieces.{ReadsNames}
 use Rattle.dw_base.specs.OffsetPieces.{ReadsOffsets}
 use Rattle.dw_base.specs.Paths.{PathMap}
 use Rattle.dw_base.specs.Pieces.{EachPiece, joined}
 use Rattle.dw_base.specs.Readings.{EachReading, Reading, Readings}
 use Rattle.dw_base.specs.Refusals.{at}
 use Rattle.dw_base.specs.Roles.{role_of}
-use Rattle.dw_base.specs.SectionTexts.{macro_role, slot_role}
+use Rattle.dw_base.specs.SectionTexts.{macro_role, name_role, slot_role}
 use Rattle.dw_base.specs.StringTables.{Plan, TextTable}
 use Rattle.dw_base.specs.TextChanges.{TableChanges}
 use Rattle.dw_base.specs.UnitHeaders.{UnitSection}
 use Rattle.dw_base.specs.UnitPieces.{ReadsUnits}
 use Rattle.dw_base.specs.UnitStates.{before_unit}
 use Rattle.dw_base.specs.ViewData.{cells_located, debug_data}
-use Rattle.dw_base.specs.declared.debug_sections.DebugSection.TheVariants.{Info, Str, LineStr, StrOffsets, Line, Macro}
+use Rattle.dw_base.specs.declared.debug_sections.DebugSection.TheVariants.{Info, Str, LineStr, StrOffsets, Line, Macro, Names}
 use Rattle.dw_base.specs.declared.fault.Kind.TheVariants.{TooWide}
 use Rattle.dw_base.specs.declared.fault.Refusal.{Refusal}
-use Rattle.dw_base.specs.declared.texts.TextField.{TextField}
+use Rattle.dw_offsets.specs.declared.fields.OffsetField.{OffsetField}
 use Rattle.dw_base.specs.declared.texts.TextSection.TheVariants.{InStr, InLineStr}
 use Rattle.dw_meaning.specs.DataOutput.{changes_of, table_change}
 use Rattle.dw_meaning.specs.NewAddends.{AddendsFail, MakesRole}
-use Rattle.dw_meaning.specs.NewAddends.AddendsFail.{in_unit, in_slots, in_macros}
+use Rattle.dw_meaning.specs.NewAddends.AddendsFail.{in_unit, in_slots, in_macros, in_names}
 use Rattle.dw_meaning.proofs.MacroPieceLaws.{CellsOf}
-use Rattle.dw_find.specs.MacroSections.{macro_starts, macros_read, macros_with}
+use Rattle.dw_find.specs.MacroSections.{macro_starts, macro_texts, macros_read, macros_with}
 use Rattle.dw_find.specs.SlotPaths.{offset_fields, read_fields, slots_by, slots_read, slots_with}
 use Rattle.dw_find.specs.SectionFields.{SectionFields, paths_in, paths_of, fields_into}
 use Rattle.dw_find.specs.ViewFields.{AllHaveOffsets, AllHavePlaces, HasOffsets, HasPlaces}
-use Rattle.dw_find.proofs.MacroHaveLaws.{AllCells}
+use Rattle.dw_find.specs.NameSections.{names_read, names_texts}
+use Rattle.dw_find.proofs.MacroHaveLaws.{AllCells, line-texts}
+use Rattle.dw_find.proofs.NameHaveLaws.{line-names, names-in, names-of}
 use Rattle.dw_find.proofs.MacroStartLaws.{all-cells}
 use Rattle.dw_find.proofs.OffsetPlaceLaws.{offsets-in, offsets-of}
 use Rattle.dw_find.proofs.PlaceValueLaws.{EachOf}
@@ -52,61 +55,62 @@ use Rattle.dw_rewrite.proofs.LineKnownLaws.{known-asked}
 use Rattle.dw_rewrite.proofs.MovedRecordLaws.{asked_in}
 use Rattle.dw_rewrite.proofs.NewBodyLaws.{starts_after}
 use Rattle.dw_rewrite.proofs.OffsetAddLaws.{section-sized}
-use Rattle.dw_rewrite.proofs.PieceMakeLaws.{AnyMisses, PieceFails, any-of, line_str_asked, macro_piece_role, macro_place, make-macros, make-slots, make-units, miss-macros, miss-slots, miss-units-line_str, miss-units-start, miss-units-str, slot_piece_role, slot_place, unit_place}
+use Rattle.dw_rewrite.proofs.PieceMakeLaws.{AnyMisses, PieceFails, any-of, line_str_asked, macro_piece_role, macro_place, make-macros, make-names, make-slots, make-units, miss-macros-start, miss-macros-str, miss-names, miss-slots, miss-units-line_str, miss-units-start, miss-units-str, name_piece_role, name_place, slot_piece_role, slot_place, unit_place}
+use Rattle.dw_rewrite.proofs.NameWrittenLaws.{no-names}
 use Rattle.dw_rewrite.proofs.SlotWrittenLaws.{no-offsets}
 
 -- what is known is the same at each of these fields
-abbrev pub SameKnown : FieldSource → (ℕ → Option ℕ) → (ℕ → Option ℕ) → List TextField → Type 0
+abbrev pub SameKnown : FieldSource → (Bool → ℕ → Option ℕ) → (Bool → ℕ → Option ℕ) → List OffsetField → Type 0
 SameKnown s k j [] = ⊤
-SameKnown s k j (f ∷ fs) = (k (offset_at s f) ≡ j (offset_at s f)) × SameKnown s k j fs
+SameKnown s k j (f ∷ fs) = (k f.path (offset_at s f) ≡ j f.path (offset_at s f)) × SameKnown s k j fs
 
-same-asked : (plan : Plan) (m : PathMap) (s : FieldSource) (ts : List (List ℕ)) (fields : List TextField) (known : ℕ → Option ℕ) → Knows plan m s.table.bytes ts known
+same-asked : (plan : Plan) (m : PathMap) (s : FieldSource) (ts : List (List ℕ)) (fields : List OffsetField) (known : Bool → ℕ → Option ℕ) → Knows plan m s.table.bytes ts known
     → AreNoted plan s fields (length fields) known → SameKnown s known (asked (record { plan = plan; texts = ts }) m s.table.bytes) fields
 same-asked plan m s ts [] known knows noted = tt
 same-asked plan m s ts (f ∷ fs) known knows noted =
     let rest : AreNoted plan s fs (length fs) known =
-    record { each = λ (k : ℕ) (d : TextField) (lt : k < length fs) (within : k < length fs). noted.each (suc k) d (omega arith) (omega arith) } in
-    (known-asked plan m s.table.bytes ts known (offset_at s f) knows (noted.each 0 f (omega arith) (omega arith)), same-asked plan m s ts fs known knows rest)
+    record { each = λ (k : ℕ) (d : OffsetField) (lt : k < length fs) (within : k < length fs). noted.each (suc k) d (omega arith) (omega arith) } in
+    (known-asked plan m s.table.bytes ts known f.path (offset_at s f) knows (noted.each 0 f (omega arith) (omega arith)), same-asked plan m s ts fs known knows rest)
 
-makes-same : (s : FieldSource) (k j : ℕ → Option ℕ) (fs : List TextField) → SameKnown s k j fs → FieldsMake s k fs → FieldsMake s j fs
+makes-same : (s : FieldSource) (k j : Bool → ℕ → Option ℕ) (fs : List OffsetField) → SameKnown s k j fs → FieldsMake s k fs → FieldsMake s j fs
 makes-same s k j [] same h = tt
 makes-same s k j (f ∷ fs) same h = (subst (FieldMakes s f) same.0 h.0, makes-same s k j fs same.1 h.1)
 
-any-same : (s : FieldSource) (k j : ℕ → Option ℕ) (number : ℕ) (fs : List TextField) (r : Refusal) → SameKnown s k j fs → AnyMisses s k number fs r → AnyMisses s j number fs r
+any-same : (s : FieldSource) (k j : Bool → ℕ → Option ℕ) (number : ℕ) (fs : List OffsetField) (r : Refusal) → SameKnown s k j fs → AnyMisses s k number fs r → AnyMisses s j number fs r
 any-same s k j number [] r same h = absurd h
 any-same s k j number (f ∷ fs) r same (inl h) = inl (subst (λ (o : Option ℕ). FieldMisses s number f o r) same.0 h)
 any-same s k j number (f ∷ fs) r same (inr h) = inr (any-same s k j number fs r same.1 h)
 
 -- the row of a section, by its lists of fields
-abbrev pub AnyField : View → (ℕ → Option ℕ) → (ℕ → Option ℕ) → (ℕ → Option ℕ) → SectionFields → Refusal → Type 0
+abbrev pub AnyField : View → (Bool → ℕ → Option ℕ) → (Bool → ℕ → Option ℕ) → (Bool → ℕ → Option ℕ) → SectionFields → Refusal → Type 0
 AnyField v ks kl kt u r =
     AnyMisses (source_in v u.number InStr) ks u.number (fields_into u Str) r ⊎ (AnyMisses (source_in v u.number InLineStr) kl u.number (fields_into u LineStr) r ⊎ AnyMisses (starts_in v u.number) kt u.number (fields_into u Line) r)
 
-field-of : (v : View) (ks kl kt : ℕ → Option ℕ) (u : SectionFields) (r : Refusal) → SectionMisses v ks kl kt u r → AnyField v ks kl kt u r
+field-of : (v : View) (ks kl kt : Bool → ℕ → Option ℕ) (u : SectionFields) (r : Refusal) → SectionMisses v ks kl kt u r → AnyField v ks kl kt u r
 field-of v ks kl kt u r (in_str_field h) = inl (any-of (source_in v u.number InStr) ks u.number (fields_into u Str) r h)
 field-of v ks kl kt u r (in_line_str_field h) = inr (inl (any-of (source_in v u.number InLineStr) kl u.number (fields_into u LineStr) r h))
 field-of v ks kl kt u r (in_start_field h) = inr (inr (any-of (starts_in v u.number) kt u.number (fields_into u Line) r h))
 
 -- and of sections, by the list
-abbrev pub AnySection : View → (ℕ → Option ℕ) → (ℕ → Option ℕ) → (ℕ → Option ℕ) → List SectionFields → Refusal → Type 0
+abbrev pub AnySection : View → (Bool → ℕ → Option ℕ) → (Bool → ℕ → Option ℕ) → (Bool → ℕ → Option ℕ) → List SectionFields → Refusal → Type 0
 AnySection v ks kl kt [] r = ⊥
 AnySection v ks kl kt (u ∷ us) r = AnyField v ks kl kt u r ⊎ AnySection v ks kl kt us r
 
-section-at : (v : View) (ks kl kt : ℕ → Option ℕ) (us : List SectionFields) (i : ℕ) (u : SectionFields) (r : Refusal) → i < length us → u ≡ get_or us i u → AnyField v ks kl kt u r
+section-at : (v : View) (ks kl kt : Bool → ℕ → Option ℕ) (us : List SectionFields) (i : ℕ) (u : SectionFields) (r : Refusal) → i < length us → u ≡ get_or us i u → AnyField v ks kl kt u r
     → AnySection v ks kl kt us r
 section-at v ks kl kt [] i u r lt is h = absurd (omega (arith, lt))
 section-at v ks kl kt (w ∷ ws) zero u r lt is h = inl (subst (λ (x : SectionFields). AnyField v ks kl kt x r) is h)
 section-at v ks kl kt (w ∷ ws) (suc i) u r lt is h = inr (section-at v ks kl kt ws i u r (omega (arith, lt)) is h)
 
-pub section-of : (v : View) (ks kl kt : ℕ → Option ℕ) (us : List SectionFields) (r : Refusal) → AllMiss v ks kl kt us r → AnySection v ks kl kt us r
+pub section-of : (v : View) (ks kl kt : Bool → ℕ → Option ℕ) (us : List SectionFields) (r : Refusal) → AllMiss v ks kl kt us r → AnySection v ks kl kt us r
 section-of v ks kl kt us r (one_section i u lt is h) = section-at v ks kl kt us i u _ lt is (field-of v ks kl kt u _ h)
 
 -- parts of sections
-pub all-parts : (v : View) (ks kl kt : ℕ → Option ℕ) (us ws : List SectionFields) → AllMake v ks kl kt (us ++ ws) → AllMake v ks kl kt us × AllMake v ks kl kt ws
+pub all-parts : (v : View) (ks kl kt : Bool → ℕ → Option ℕ) (us ws : List SectionFields) → AllMake v ks kl kt (us ++ ws) → AllMake v ks kl kt us × AllMake v ks kl kt ws
 all-parts v ks kl kt [] ws h = (tt, h)
 all-parts v ks kl kt (u ∷ us) ws h = let rest = all-parts v ks kl kt us ws h.1 in ((h.0, rest.0), rest.1)
 
-pub any-sections : (v : View) (ks kl kt : ℕ → Option ℕ) (us ws : List SectionFields) (r : Refusal) → AnySection v ks kl kt (us ++ ws) r
+pub any-sections : (v : View) (ks kl kt : Bool → ℕ → Option ℕ) (us ws : List SectionFields) (r : Refusal) → AnySection v ks kl kt (us ++ ws) r
     → AnySection v ks kl kt us r ⊎ AnySection v ks kl kt ws r
 any-sections v ks kl kt [] ws r h = inr h
 any-sections v ks kl kt (u ∷ us) ws r (inl h) = inl (inl h)
@@ -125,7 +129,7 @@ places-parts v [] ws h = (tt, h)
 places-parts v (u ∷ us) ws h = let rest = places-parts v us ws h.1 in ((h.0, rest.0), rest.1)
 
 -- what is known of new places is what paths ask for
-section-known : (m : PathMap) (v : View) (ps pl : TextTable) (ks kl kt : ℕ → Option ℕ) (u : SectionFields) → Growing m v InStr ps ks → Growing m v InLineStr pl kl
+section-known : (m : PathMap) (v : View) (ps pl : TextTable) (ks kl kt : Bool → ℕ → Option ℕ) (u : SectionFields) → Growing m v InStr ps ks → Growing m v InLineStr pl kl
     → IsSectionNoted m v InStr u ks → IsSectionNoted m v InLineStr u kl → SectionMakes v ks kl kt u
     → SectionMakes v (asked_in m v InStr ps.texts) (asked_in m v InLineStr pl.texts) kt u
 section-known m v ps pl ks kl kt u gs gl ns nl h = record {
@@ -136,7 +140,7 @@ section-known m v ps pl ks kl kt u gs gl ns nl h = record {
   starts = h.starts;
 }
 
-field-known : (m : PathMap) (v : View) (ps pl : TextTable) (ks kl kt : ℕ → Option ℕ) (u : SectionFields) (r : Refusal) → Growing m v InStr ps ks → Growing m v InLineStr pl kl
+field-known : (m : PathMap) (v : View) (ps pl : TextTable) (ks kl kt : Bool → ℕ → Option ℕ) (u : SectionFields) (r : Refusal) → Growing m v InStr ps ks → Growing m v InLineStr pl kl
     → IsSectionNoted m v InStr u ks → IsSectionNoted m v InLineStr u kl → AnyField v ks kl kt u r
     → AnyField v (asked_in m v InStr ps.texts) (asked_in m v InLineStr pl.texts) kt u r
 field-known m v ps pl ks kl kt u r gs gl ns nl (inl h) =
@@ -147,14 +151,14 @@ field-known m v ps pl ks kl kt u r gs gl ns nl (inr (inl h)) =
     (same-asked (plan_in m v InLineStr) m (source_in v u.number InLineStr) pl.texts (fields_into u LineStr) kl gl.knows nl) h))
 field-known m v ps pl ks kl kt u r gs gl ns nl (inr (inr h)) = inr (inr h)
 
-pub all-known : (m : PathMap) (v : View) (ps pl : TextTable) (ks kl kt : ℕ → Option ℕ) (us : List SectionFields) → Growing m v InStr ps ks → Growing m v InLineStr pl kl
+pub all-known : (m : PathMap) (v : View) (ps pl : TextTable) (ks kl kt : Bool → ℕ → Option ℕ) (us : List SectionFields) → Growing m v InStr ps ks → Growing m v InLineStr pl kl
     → EachOf (λ u. IsSectionNoted m v InStr u ks) us → EachOf (λ u. IsSectionNoted m v InLineStr u kl) us → AllMake v ks kl kt us
     → AllMake v (asked_in m v InStr ps.texts) (asked_in m v InLineStr pl.texts) kt us
 all-known m v ps pl ks kl kt [] gs gl ns nl h = tt
 all-known m v ps pl ks kl kt (u ∷ us) gs gl ns nl h =
     (section-known m v ps pl ks kl kt u gs gl ns.0 nl.0 h.0, all-known m v ps pl ks kl kt us gs gl ns.1 nl.1 h.1)
 
-pub any-known : (m : PathMap) (v : View) (ps pl : TextTable) (ks kl kt : ℕ → Option ℕ) (us : List SectionFields) (r : Refusal) → Growing m v InStr ps ks → Growing m v InLineStr pl kl
+pub any-known : (m : PathMap) (v : View) (ps pl : TextTable) (ks kl kt : Bool → ℕ → Option ℕ) (us : List SectionFields) (r : Refusal) → Growing m v InStr ps ks → Growing m v InLineStr pl kl
     → EachOf (λ u. IsSectionNoted m v InStr u ks) us → EachOf (λ u. IsSectionNoted m v InLineStr u kl) us → AnySection v ks kl kt us r
     → AnySection v (asked_in m v InStr ps.texts) (asked_in m v InLineStr pl.texts) kt us r
 any-known m v ps pl ks kl kt [] r gs gl ns nl h = absurd h
@@ -162,10 +166,10 @@ any-known m v ps pl ks kl kt (u ∷ us) r gs gl ns nl (inl h) = inl (field-known
 any-known m v ps pl ks kl kt (u ∷ us) r gs gl ns nl (inr h) = inr (any-known m v ps pl ks kl kt us r gs gl ns.1 nl.1 h)
 
 -- what paths ask for in an edit
-abbrev pub str_after : PathMap → View → DataReadings → ℕ → Option ℕ
+abbrev pub str_after : PathMap → View → DataReadings → Bool → ℕ → Option ℕ
 str_after m v all = asked_in m v InStr (table_change m InStr (around_of (debug_data v) all) all).texts
 
-abbrev pub line_str_after : PathMap → View → DataReadings → ℕ → Option ℕ
+abbrev pub line_str_after : PathMap → View → DataReadings → Bool → ℕ → Option ℕ
 line_str_after m v all = asked_in m v InLineStr (table_change m InLineStr (around_of (debug_data v) all) all).texts
 
 abbrev pub edit_of : PathMap → View → DataReadings → TableChanges
@@ -184,7 +188,7 @@ reading-makes : (m : PathMap) (v : View) (all : DataReadings) (r : Reading) → 
     → EachPiece (λ x. MakesRole (role_of x) (edit_of m v all) (around_of (debug_data v) all) x.cells) r.pieces
 unfolding table_change debug_data
 reading-makes m v all r placed h =
-    make-units (edit_of m v all) (around_of (debug_data v) all) (view_cells v r.number) r.pieces refl refl placed h.str h.line_str h.starts
+    make-units (edit_of m v all) (around_of (debug_data v) all) (view_cells v r.number) r.pieces placed h.str h.line_str h.starts
 
 pub readings-make : (m : PathMap) (v : View) (all : DataReadings) (before zs : List UnitSection) (first : ℕ) (rs : Readings) → (debug_data v).found Info ≡ before ++ zs
     → ReadsAll (debug_data v).base first zs rs → AllMake v (str_after m v all) (line_str_after m v all) (starts_after m v all) (paths_of rs)
@@ -236,7 +240,7 @@ slots-make-by m v all None reads h =
     (sym (no-offsets v.order all.offsets reads)) tt
 slots-make-by m v all (Some i) reads h =
     let none : offset_fields InLineStr (path_slots (around_of (debug_data v) all)) all.offsets ≡ [] = line-fields (path_slots (around_of (debug_data v) all)) all.offsets in
-    make-slots (edit_of m v all) (around_of (debug_data v) all) (view_cells v i) (path_slots (around_of (debug_data v) all)) all.offsets refl refl (offsets-in v (Some i) all.offsets reads)
+    make-slots (edit_of m v all) (around_of (debug_data v) all) (view_cells v i) (path_slots (around_of (debug_data v) all)) all.offsets (offsets-in v (Some i) all.offsets reads)
     h.0.str (subst (FieldsMake (text_source (around_of (debug_data v) all) (view_cells v i) InLineStr) (line_str_asked (edit_of m v all) (around_of (debug_data v) all))) (sym none) tt)
 
 pub slots-make : (m : PathMap) (v : View) (all : DataReadings) → ReadsOffsets (debug_data v).base.order ((debug_data v).found StrOffsets).contents all.offsets
@@ -271,12 +275,14 @@ slots-miss m v all x reads offsets places h =
 -- macro units
 macro-makes : (m : PathMap) (v : View) (all : DataReadings) (z : CellSection) (r : MacroReading) → CellsOf v z.number z.contents → r.number ≡ z.number
     → ReadsMacros (debug_data v).base.order z.contents r.pieces
-    → SectionMakes v (str_after m v all) (line_str_after m v all) (starts_after m v all) (macros_with r.number (macro_starts r.pieces))
+    → SectionMakes v (str_after m v all) (line_str_after m v all) (starts_after m v all) (macros_with r.number (macro_starts r.pieces) (macro_texts InStr r.pieces))
     → EachPiece (λ x. MakesRole (macro_role x.state) (edit_of m v all) (around_of (debug_data v) all) x.cells) r.pieces
 unfolding table_change debug_data
 macro-makes m v all z r of number reads h =
     let cells : joined r.pieces ≡ view_cells v r.number = reads.cells ∙ of.same ∙ ap (view_cells v) (sym number) in
-    make-macros (edit_of m v all) (around_of (debug_data v) all) (debug_data v).base.order (view_cells v r.number) (macros_at 0 at_unit) r.pieces refl refl refl reads.chain cells h.starts
+    make-macros (edit_of m v all) (around_of (debug_data v) all) (debug_data v).base.order (view_cells v r.number) (macros_at 0 at_unit) r.pieces refl reads.chain cells h.str
+    (subst (FieldsMake (text_source (around_of (debug_data v) all) (view_cells v r.number) InLineStr) (line_str_asked (edit_of m v all) (around_of (debug_data v) all)))
+    (sym (line-texts r.pieces)) tt) h.starts
 
 macros-make-by : (m : PathMap) (v : View) (all : DataReadings) (zs : List CellSection) (rs : List MacroReading) → AllCells v zs → ReadsAllMacros (debug_data v).base.order zs rs
     → AllMake v (str_after m v all) (line_str_after m v all) (starts_after m v all) (macros_read rs)
@@ -293,17 +299,20 @@ pub macros-make : (m : PathMap) (v : View) (all : DataReadings) → ReadsAllMacr
 macros-make m v all reads h = macros-make-by m v all ((debug_data v).found Macro) all.macros (all-cells v) reads h
 
 macro-misses : (m : PathMap) (v : View) (all : DataReadings) (z : CellSection) (r : MacroReading) (x : Refusal) → CellsOf v z.number z.contents → r.number ≡ z.number
-    → ReadsMacros (debug_data v).base.order z.contents r.pieces → HasOffsets v (macros_with r.number (macro_starts r.pieces))
-    → HasPlaces v (macros_with r.number (macro_starts r.pieces))
-    → AnyField v (str_after m v all) (line_str_after m v all) (starts_after m v all) (macros_with r.number (macro_starts r.pieces)) x
+    → ReadsMacros (debug_data v).base.order z.contents r.pieces → HasOffsets v (macros_with r.number (macro_starts r.pieces) (macro_texts InStr r.pieces))
+    → HasPlaces v (macros_with r.number (macro_starts r.pieces) (macro_texts InStr r.pieces))
+    → AnyField v (str_after m v all) (line_str_after m v all) (starts_after m v all) (macros_with r.number (macro_starts r.pieces) (macro_texts InStr r.pieces)) x
     → PieceFails macro_piece_role macro_place (edit_of m v all) (around_of (debug_data v) all) r.number r.pieces x
 unfolding table_change debug_data
-macro-misses m v all z r x of number reads offsets places (inl h) = absurd h
+macro-misses m v all z r x of number reads offsets places (inl h) =
+    let cells : joined r.pieces ≡ view_cells v r.number = reads.cells ∙ of.same ∙ ap (view_cells v) (sym number) in
+    miss-macros-str (edit_of m v all) (around_of (debug_data v) all) (debug_data v).base.order (view_cells v r.number) (macros_at 0 at_unit) r.number r.pieces x refl reads.chain cells
+    (section-sized v (macros_with r.number (macro_starts r.pieces) (macro_texts InStr r.pieces)) offsets places).0 h
 macro-misses m v all z r x of number reads offsets places (inr (inl h)) = absurd h
 macro-misses m v all z r x of number reads offsets places (inr (inr h)) =
     let cells : joined r.pieces ≡ view_cells v r.number = reads.cells ∙ of.same ∙ ap (view_cells v) (sym number) in
-    miss-macros (edit_of m v all) (around_of (debug_data v) all) (debug_data v).base.order (view_cells v r.number) (macros_at 0 at_unit) r.number r.pieces x refl reads.chain cells
-    (section-sized v (macros_with r.number (macro_starts r.pieces)) offsets places).2 h
+    miss-macros-start (edit_of m v all) (around_of (debug_data v) all) (debug_data v).base.order (view_cells v r.number) (macros_at 0 at_unit) r.number r.pieces x refl reads.chain cells
+    (section-sized v (macros_with r.number (macro_starts r.pieces) (macro_texts InStr r.pieces)) offsets places).2 h
 
 macro-row : (m : PathMap) (v : View) (all : DataReadings) (front behind : List MacroReading) (r : MacroReading) (x : Refusal) → all.macros ≡ front ++ r ∷ behind
     → PieceFails macro_piece_role macro_place (edit_of m v all) (around_of (debug_data v) all) r.number r.pieces x
@@ -327,3 +336,42 @@ pub macros-miss : (m : PathMap) (v : View) (all : DataReadings) (x : Refusal) �
     → AnySection v (str_after m v all) (line_str_after m v all) (starts_after m v all) (macros_read all.macros) x
     → AddendsFail (edit_of m v all) (debug_data v) (around_of (debug_data v) all) all x
 macros-miss m v all x reads offsets places h = macros-miss-by m v all ((debug_data v).found Macro) [] all.macros x (all-cells v) reads refl offsets places h
+
+-- name tables
+names-make-by : (m : PathMap) (v : View) (all : DataReadings) (o : Option ℕ) → ReadsNames v.order (cells_located v o).contents all.names
+    → AllMake v (str_after m v all) (line_str_after m v all) (starts_after m v all) (slots_by o (names_texts InStr all.names))
+    → EachPiece (λ x. MakesRole (name_role x.state) (edit_of m v all) (around_of (debug_data v) all) x.cells) all.names
+unfolding table_change debug_data
+names-make-by m v all None reads h =
+    subst (EachPiece (λ x. MakesRole (name_role x.state) (edit_of m v all) (around_of (debug_data v) all) x.cells)) (sym (no-names v.order all.names reads)) tt
+names-make-by m v all (Some i) reads h =
+    make-names (edit_of m v all) (around_of (debug_data v) all) (view_cells v i) all.names (names-in v (Some i) all.names reads) h.0.str
+    (subst (FieldsMake (text_source (around_of (debug_data v) all) (view_cells v i) InLineStr) (line_str_asked (edit_of m v all) (around_of (debug_data v) all))) (sym (line-names all.names)) tt)
+
+pub names-make : (m : PathMap) (v : View) (all : DataReadings) → ReadsNames (debug_data v).base.order ((debug_data v).found Names).contents all.names
+    → AllMake v (str_after m v all) (line_str_after m v all) (starts_after m v all) (names_read v all)
+    → EachPiece (λ x. MakesRole (name_role x.state) (edit_of m v all) (around_of (debug_data v) all) x.cells) all.names
+names-make m v all reads h = names-make-by m v all (section_named v (name_of Names)) (names-of v all.names reads) h
+
+names-miss-by : (m : PathMap) (v : View) (all : DataReadings) (o : Option ℕ) (x : Refusal) → ((debug_data v).found Names).number ≡ (cells_located v o).number
+    → ReadsNames v.order (cells_located v o).contents all.names → AllHaveOffsets v (slots_by o (names_texts InStr all.names)) → AllHavePlaces v (slots_by o (names_texts InStr all.names))
+    → AnySection v (str_after m v all) (line_str_after m v all) (starts_after m v all) (slots_by o (names_texts InStr all.names)) x
+    → AddendsFail (edit_of m v all) (debug_data v) (around_of (debug_data v) all) all x
+unfolding table_change debug_data
+names-miss-by m v all None x number reads offsets places h = absurd h
+names-miss-by m v all (Some i) x number reads offsets places (inr h) = absurd h
+names-miss-by m v all (Some i) x number reads offsets places (inl (inr (inl h))) = absurd h
+names-miss-by m v all (Some i) x number reads offsets places (inl (inr (inr h))) = absurd h
+names-miss-by m v all (Some i) x number reads offsets places (inl (inl h)) =
+    let fails : PieceFails name_piece_role name_place (edit_of m v all) (around_of (debug_data v) all) i all.names x =
+    miss-names (edit_of m v all) (around_of (debug_data v) all) (view_cells v i) i all.names x (names-in v (Some i) all.names reads)
+    (section-sized v (slots_with i (names_texts InStr all.names)) offsets.0 places.0).0 h in
+    subst (AddendsFail (edit_of m v all) (debug_data v) (around_of (debug_data v) all) all)
+    (sym (fails.is ∙ ap (λ (n : ℕ). at TooWide n fails.piece.state.place) (sym number))) (in_names fails.piece fails.misses)
+
+pub names-miss : (m : PathMap) (v : View) (all : DataReadings) (x : Refusal) → ReadsNames (debug_data v).base.order ((debug_data v).found Names).contents all.names
+    → AllHaveOffsets v (names_read v all) → AllHavePlaces v (names_read v all) → AnySection v (str_after m v all) (line_str_after m v all) (starts_after m v all) (names_read v all) x
+    → AddendsFail (edit_of m v all) (debug_data v) (around_of (debug_data v) all) all x
+unfolding debug_data
+names-miss m v all x reads offsets places h =
+    names-miss-by m v all (section_named v (name_of Names)) x refl (names-of v all.names reads) offsets places h

@@ -1,22 +1,19 @@
--- String offsets and name tables under a change of the tables of texts: the new texts and the new bytes are those that the fields of
--- paths say, and name tables keep their bytes.
-use Rattle.std.proofs.Common.{false, ◌≡◌, ℕ, ◌+◌, List, [], ◌∷◌, ◌++◌, length, sym, ap, ◌∙◌, refl, subst, arith, append_assoc}
+-- String offsets under a change of the tables of texts: the new texts and the new bytes are those that their fields say.
+use Rattle.std.proofs.Common.{◌≡◌, ℕ, ◌+◌, List, [], ◌∷◌, ◌++◌, length, sym, ap, ◌∙◌, refl, subst, arith, append_assoc}
 use Rattle.std.proofs.lemmas.List.{length-append}
 use Rattle.dw_base.specs.Cells.{Cell, bytes_of}
-use Rattle.dw_base.specs.DebugData.{Around, table_of}
-use Rattle.dw_base.specs.NamePieces.{NameMode, at_table, at_string, at_rest, no_names, NameState}
+use Rattle.dw_base.specs.DebugData.{Around}
 use Rattle.dw_base.specs.OffsetPieces.{OffsetMode, at_contribution, at_slot, no_offsets, OffsetState, IsOffsetsHeader, FitsOffsets, ReadsOffsets}
 use Rattle.dw_base.specs.Paths.{PathMap}
 use Rattle.dw_base.specs.Pieces.{Piece, joined}
 use Rattle.dw_base.specs.Roles.{Role}
-use Rattle.dw_base.specs.SectionTexts.{edited_with, mentions_with, name_role, name_role_by, offset_role, slot_role}
-use Rattle.dw_base.specs.StringTables.{Mention, Plan, appending, texts_after, with_mention}
-use Rattle.dw_base.specs.TextChanges.{TableChanges, edited_by, mention_at, mentions_by, InlineFitsBy}
+use Rattle.dw_base.specs.SectionTexts.{edited_with, mentions_with, offset_role, slot_role}
+use Rattle.dw_base.specs.StringTables.{Plan, texts_after}
+use Rattle.dw_base.specs.TextChanges.{TableChanges, edited_by, InlineFitsBy}
 use Rattle.dw_base.specs.declared.shared.Order.{Order}
 use Rattle.dw_base.proofs.UnitEditLaws.{length-bytes_of}
 use Rattle.dw_base.proofs.UnitHeaderLaws.{bytes_of-append}
-use Rattle.dw_base.specs.declared.debug_sections.DebugSection.TheVariants.{Str, LineStr}
-use Rattle.dw_base.specs.declared.texts.TextField.{TextField}
+use Rattle.dw_offsets.specs.declared.fields.OffsetField.{OffsetField}
 use Rattle.dw_base.specs.declared.texts.TextSection.{TextSection}
 use Rattle.dw_base.specs.declared.texts.TextSection.TheVariants.{InStr, InLineStr}
 use Rattle.dw_rewrite.specs.Changes.{texts_at}
@@ -25,7 +22,7 @@ use Rattle.dw_find.specs.SectionFields.{field_by, inline_by}
 use Rattle.dw_rewrite.specs.UnitsAfter.{text_source}
 use Rattle.dw_find.specs.declared.fields.InlinePath.{InlinePath}
 use Rattle.dw_rewrite.proofs.EditedLaws.{bytes-there, piece_texts}
-use Rattle.dw_rewrite.proofs.UnitWrittenLaws.{length-edited, no_path-asks, piece_written, unit_by}
+use Rattle.dw_rewrite.proofs.UnitWrittenLaws.{length-edited, piece_written, unit_by}
 use Rattle.dw_find.proofs.SlotPlaceLaws.{SlotsIn, SlotsPlaced, from-place, no-start}
 
 -- a section of no cells has no pieces
@@ -40,12 +37,11 @@ no-offsets order (x ∷ xs) r =
 
 -- the texts of pieces are those of their fields
 pub texts_by_slots : (table : TextSection) (plan : Plan) (m : PathMap) (around : Around) (cells : List Cell) (ts : List (List ℕ)) (place : ℕ) (paths : List ℕ) (xs : List (Piece OffsetState))
-    → plan ≡ appending m (table_of around table).bytes → SlotsIn cells place xs
-    → texts_after plan m ts (mentions_with (slot_role paths) table around xs) ≡ texts_at plan m (text_source around cells table) ts (offset_fields table paths xs)
-texts_by_slots table plan m around cells ts place paths [] is l = refl
-texts_by_slots table plan m around cells ts place paths (x ∷ xs) is l =
-    piece_texts (slot_role paths x.state) table plan m around cells ts x.cells (joined xs) place (mentions_with (slot_role paths) table around xs) (offset_fields table paths xs) is
-    l.1 (λ (us : List (List ℕ)). texts_by_slots table plan m around cells us (place + length x.cells) paths xs is l.2)
+    → SlotsIn cells place xs → texts_after plan m ts (mentions_with (slot_role paths) table around xs) ≡ texts_at plan m (text_source around cells table) ts (offset_fields table paths xs)
+texts_by_slots table plan m around cells ts place paths [] l = refl
+texts_by_slots table plan m around cells ts place paths (x ∷ xs) l =
+    piece_texts (slot_role paths x.state) table plan m around cells ts x.cells (joined xs) place (mentions_with (slot_role paths) table around xs) (offset_fields table paths xs)
+    l.1 (λ (us : List (List ℕ)). texts_by_slots table plan m around cells us (place + length x.cells) paths xs l.2)
     ∙ ap (λ (i : ℕ). texts_at plan m (text_source around cells table) ts (field_by table (slot_role paths x.state) i (length x.cells) ++ offset_fields table paths xs)) (sym l.0)
 
 -- and none a path
@@ -66,16 +62,16 @@ slots-bytes cells place (x ∷ xs) l = (l.0, bytes-there x.cells (joined xs) cel
 
 -- what pieces become
 pub slots_written : (c : TableChanges) (a : Around) (cells : List Cell) (front : List ℕ) (place : ℕ) (paths : List ℕ) (xs : List (Piece OffsetState))
-    → (c.new Str).plan ≡ appending c.map (a.stands Str).bytes → (c.new LineStr).plan ≡ appending c.map (a.stands LineStr).bytes → length front ≡ place → SlotsIn cells place xs
+    → length front ≡ place → SlotsIn cells place xs
     → unit_by c a cells (offset_fields InStr paths xs) (offset_fields InLineStr paths xs) [] [] (front ++ bytes_of (joined xs))
     ≡ front ++ bytes_of (joined (edited_with (slot_role paths) c a xs))
-slots_written c a cells front place paths [] str line at l = refl
-slots_written c a cells front place paths (x ∷ xs) str line at l =
+slots_written c a cells front place paths [] at l = refl
+slots_written c a cells front place paths (x ∷ xs) at l =
     let r : Role = slot_role paths x.state in
     let q : List Cell = edited_by (slot_role paths x.state) c a x.cells in
     let rest : List ℕ = bytes_of (joined xs) in
-    let fs : List TextField = offset_fields InStr paths xs in
-    let gs : List TextField = offset_fields InLineStr paths xs in
+    let fs : List OffsetField = offset_fields InStr paths xs in
+    let gs : List OffsetField = offset_fields InLineStr paths xs in
     let fits : InlineFitsBy (slot_role paths x.state) c.map x.cells = fits-inline paths x.state.mode x.state.slot c.map x.cells in
     let size : length q ≡ length x.cells = length-edited (slot_role paths x.state) c a x.cells in
     let next : length (front ++ bytes_of q) ≡ place + length x.cells = length-append front (bytes_of q) ∙ omega (arith, at, size, length-bytes_of q) in
@@ -86,48 +82,13 @@ slots_written c a cells front place paths (x ∷ xs) str line at l =
     ∙ ap (λ (is : List InlinePath). unit_by c a cells (field_by InStr (slot_role paths x.state) place (length x.cells) ++ fs)
     (field_by InLineStr (slot_role paths x.state) place (length x.cells) ++ gs) [] (is ++ []) (front ++ (bytes_of x.cells ++ rest)))
     (sym (no-inline paths x.state.mode x.state.slot place x.cells))
-    ∙ ap (λ (hs : List TextField). unit_by c a cells (field_by InStr (slot_role paths x.state) place (length x.cells) ++ fs)
+    ∙ ap (λ (hs : List OffsetField). unit_by c a cells (field_by InStr (slot_role paths x.state) place (length x.cells) ++ fs)
     (field_by InLineStr (slot_role paths x.state) place (length x.cells) ++ gs) (hs ++ []) (inline_by (slot_role paths x.state) place x.cells ++ []) (front ++ (bytes_of x.cells ++ rest)))
     (sym (no-start paths x.state.mode x.state.slot place (length x.cells)))
-    ∙ piece_written (slot_role paths x.state) c a cells front x.cells (joined xs) rest place fs gs [] [] str line at l.1 fits
+    ∙ piece_written (slot_role paths x.state) c a cells front x.cells (joined xs) rest place fs gs [] [] at l.1 fits
     (from-place InStr (bytes_of cells) (place + length x.cells) paths xs (slots-bytes cells (place + length x.cells) xs l.2))
     (from-place InLineStr (bytes_of cells) (place + length x.cells) paths xs (slots-bytes cells (place + length x.cells) xs l.2)) tt
     ∙ ap (unit_by c a cells fs gs [] []) (sym (append_assoc front (bytes_of q) rest))
-    ∙ slots_written c a cells (front ++ bytes_of q) (place + length x.cells) paths xs str line next l.2
+    ∙ slots_written c a cells (front ++ bytes_of q) (place + length x.cells) paths xs next l.2
     ∙ append_assoc front (bytes_of q) (bytes_of (joined (edited_with (slot_role paths) c a xs)))
     ∙ ap (λ (b : List ℕ). front ++ b) (sym (bytes_of-append q (joined (edited_with (slot_role paths) c a xs))))
-
--- name tables add no text
-name-texts : (mode : NameMode) (table : TextSection) (plan : Plan) (m : PathMap) (around : Around) (ts : List (List ℕ)) (p : List Cell) (more : List Mention)
-    → plan ≡ appending m (table_of around table).bytes → texts_after plan m ts (mentions_by (name_role_by mode) table around p ++ more) ≡ texts_after plan m ts more
-name-texts at_table InStr plan m around ts p more is = refl
-name-texts at_table InLineStr plan m around ts p more is = refl
-name-texts (at_string w left end) InStr plan m around ts p more is =
-    let none : with_mention plan m ts (mention_at around InStr false p) ≡ ts = rw is refl in
-    ap (λ (us : List (List ℕ)). texts_after plan m us more) none
-name-texts (at_string w left end) InLineStr plan m around ts p more is = refl
-name-texts (at_rest end) InStr plan m around ts p more is = refl
-name-texts (at_rest end) InLineStr plan m around ts p more is = refl
-name-texts no_names InStr plan m around ts p more is = refl
-name-texts no_names InLineStr plan m around ts p more is = refl
-
-pub names-texts : (table : TextSection) (plan : Plan) (m : PathMap) (around : Around) (ts : List (List ℕ)) (xs : List (Piece NameState))
-    → plan ≡ appending m (table_of around table).bytes → texts_after plan m ts (mentions_with name_role table around xs) ≡ ts
-names-texts table plan m around ts [] is = refl
-names-texts table plan m around ts (x ∷ xs) is =
-    name-texts x.state.mode table plan m around ts x.cells (mentions_with name_role table around xs) is ∙ names-texts table plan m around ts xs is
-
--- and keep their cells
-name-kept : (mode : NameMode) (c : TableChanges) (a : Around) (p : List Cell) → (c.new Str).plan ≡ appending c.map (a.stands Str).bytes → edited_by (name_role_by mode) c a p ≡ p
-name-kept at_table c a p str = refl
-name-kept (at_string w left end) c a p str =
-    let none = no_path-asks c.map (a.stands Str).bytes (c.new Str).plan (mention_at a InStr false p).text str in
-    rw none refl
-name-kept (at_rest end) c a p str = refl
-name-kept no_names c a p str = refl
-
-pub names-kept : (c : TableChanges) (a : Around) (xs : List (Piece NameState)) → (c.new Str).plan ≡ appending c.map (a.stands Str).bytes → joined (edited_with name_role c a xs) ≡ joined xs
-names-kept c a [] str = refl
-names-kept c a (x ∷ xs) str =
-    ap (λ (p : List Cell). p ++ joined (edited_with name_role c a xs)) (name-kept x.state.mode c a x.cells str)
-    ∙ ap (λ (p : List Cell). x.cells ++ p) (names-kept c a xs str)

@@ -1,5 +1,5 @@
 -- What becomes of a table of texts is told by the fields of all sections.
-use Rattle.std.proofs.Common.{◌≡◌, ℕ, List, [], ◌++◌, length, Option, Some, None, refl, sym, ap, ◌∙◌}
+use Rattle.std.proofs.Common.{Bool, ◌≡◌, ℕ, List, [], ◌++◌, length, Option, Some, None, refl, sym, ap, ◌∙◌}
 use Rattle.dw_base.specs.Cells.{Cell}
 use Rattle.dw_base.specs.DebugData.{DataReadings, around_of, line_source, path_slots, ReadsAll}
 use Rattle.dw_base.specs.DebugSections.{name_of}
@@ -8,6 +8,8 @@ use Rattle.dw_base.specs.TextLineChanges.{all_texts_mentions}
 use Rattle.dw_base.specs.LineReadings.{LineReading, AreTables}
 use Rattle.dw_base.specs.LineSources.{LineSource}
 use Rattle.dw_base.specs.LineTables.{LineTable}
+use Rattle.dw_base.specs.MacroReadings.{ReadsAllMacros}
+use Rattle.dw_base.specs.NamePieces.{ReadsNames}
 use Rattle.dw_base.specs.OffsetPieces.{ReadsOffsets}
 use Rattle.dw_base.specs.Paths.{PathMap}
 use Rattle.dw_base.specs.SectionTexts.{file_mentions, macro_mentions, mentions_with, name_role, slot_role}
@@ -15,16 +17,17 @@ use Rattle.dw_base.specs.StringTables.{Mention, Plan, TextTable, texts_after, ta
 use Rattle.dw_base.specs.TextChanges.{all_mentions}
 use Rattle.dw_base.specs.Texts.{laid_texts}
 use Rattle.dw_base.specs.ViewData.{debug_data}
-use Rattle.dw_base.specs.declared.debug_sections.DebugSection.TheVariants.{Info, StrOffsets, Line}
+use Rattle.dw_base.specs.declared.debug_sections.DebugSection.TheVariants.{Info, StrOffsets, Line, Macro, Names}
 use Rattle.dw_base.specs.declared.texts.TextSection.{TextSection}
 use Rattle.dw_base.specs.declared.texts.TextSection.TheVariants.{InStr, InLineStr}
 use Rattle.dw_lines.specs.ViewTables.{tables_read}
 use Rattle.dw_lines.proofs.ViewTableLaws.{source-none}
 use Rattle.dw_meaning.specs.DataOutput.{table_change}
-use Rattle.dw_meaning.proofs.FurtherLaws.{appending-asks, lines-ask}
 use Rattle.dw_meaning.proofs.LineSectionLaws.{no-tables}
+use Rattle.dw_find.specs.AllFields.{Fields, all_of, fields_read}
 use Rattle.dw_find.specs.FoundPaths.{PathsFound}
 use Rattle.dw_find.specs.MacroSections.{macros_read}
+use Rattle.dw_find.specs.NameSections.{names_read}
 use Rattle.dw_rewrite.specs.Changes.{FieldSource, texts_at}
 use Rattle.dw_find.specs.ViewFields.{fields_of}
 use Rattle.dw_rewrite.specs.NewTables.{TableMade, all_texts_at, plan_in, source_in, texts_of}
@@ -32,9 +35,9 @@ use Rattle.dw_find.specs.SlotPaths.{slots_read}
 use Rattle.dw_find.specs.SectionFields.{SectionFields, paths_of}
 use Rattle.dw_find.specs.ViewLines.{lines_by, lines_of_view, lines_with, table_fields}
 use Rattle.dw_rewrite.proofs.LineMentionLaws.{IsWhole, line_texts, lines-texts}
-use Rattle.dw_rewrite.proofs.MacroWrittenLaws.{macros-say, macros-texts}
+use Rattle.dw_rewrite.proofs.MacroWrittenLaws.{macros-told}
 use Rattle.dw_rewrite.proofs.NewBodyLaws.{all_texts-append, readings-texts, same-plan, slots-texts, texts_after-append}
-use Rattle.dw_rewrite.proofs.SlotWrittenLaws.{names-texts}
+use Rattle.dw_rewrite.proofs.NameWrittenLaws.{names-told}
 use Rattle.dw_find.proofs.FoundUnitLaws.{cells-some, view-apart}
 
 pub lines-none : (v : View) (rs : List LineReading) → None ≡ section_named v (name_of Line) → AreTables (line_source (debug_data v)) rs → rs ≡ []
@@ -64,32 +67,35 @@ lines-texts-by m v table ts rs None e are =
     ap (λ (xs : List LineReading). texts_after (plan_in m v table) m ts (all_texts_mentions (line_source (debug_data v)) table xs)) (lines-none v rs e are)
 lines-texts-by m v table ts rs (Some i) e are =
     let us : List LineTable = tables_read (line_source (debug_data v)) rs in
-    lines-ask (plan_in m v table) m ts (line_source (debug_data v)) table 0 (length (line_source (debug_data v)).bytes) rs (appending-asks m (texts_of v table).bytes) are
-    ∙ lines-texts (line_source (debug_data v)) table (plan_in m v table) m ts 0 (length (line_source (debug_data v)).bytes) rs (lines-whole v) are
+    lines-texts (line_source (debug_data v)) table (plan_in m v table) m ts 0 (length (line_source (debug_data v)).bytes) rs (lines-whole v) are
     ∙ ap (λ (s : FieldSource). texts_at (plan_in m v table) m s ts
     (table_fields (line_source (debug_data v)).number (line_source (debug_data v)).str.number table (tables_read (line_source (debug_data v)) rs))) (same-texts v table i e)
     ∙ ap (texts_at (plan_in m v table) m (source_in v (line_source (debug_data v)).number table) ts)
     (same-lines (line_source (debug_data v)) table (tables_read (line_source (debug_data v)) rs))
 
--- those of all sections, of which macro units say none
+-- those of all sections
 parts-texts : (m : PathMap) (v : View) (table : TextSection) (rs : DataReadings) (ls : List SectionFields)
-    → all_texts_at m v table [] (((paths_of rs.units ++ slots_read v rs) ++ macros_read rs.macros) ++ ls)
-    ≡ all_texts_at m v table (all_texts_at m v table (all_texts_at m v table [] (paths_of rs.units)) (slots_read v rs)) ls
+    → all_texts_at m v table [] (paths_of rs.units ++ (slots_read v rs ++ (ls ++ (macros_read rs.macros ++ names_read v rs))))
+    ≡ all_texts_at m v table (all_texts_at m v table (all_texts_at m v table (all_texts_at m v table (all_texts_at m v table [] (paths_of rs.units)) (slots_read v rs)) ls)
+    (macros_read rs.macros)) (names_read v rs)
 parts-texts m v table rs ls =
-    let front : List SectionFields = paths_of rs.units ++ slots_read v rs in
-    all_texts-append m v table [] (front ++ macros_read rs.macros) ls
-    ∙ ap (λ (xs : List (List ℕ)). all_texts_at m v table xs ls)
-    (all_texts-append m v table [] front (macros_read rs.macros) ∙ macros-say m v table (all_texts_at m v table [] front) rs.macros
-    ∙ all_texts-append m v table [] (paths_of rs.units) (slots_read v rs))
+    let units : List (List ℕ) = all_texts_at m v table [] (paths_of rs.units) in
+    let slots : List (List ℕ) = all_texts_at m v table (all_texts_at m v table [] (paths_of rs.units)) (slots_read v rs) in
+    let lined : List (List ℕ) = all_texts_at m v table slots ls in
+    all_texts-append m v table [] (paths_of rs.units) (slots_read v rs ++ (ls ++ (macros_read rs.macros ++ names_read v rs)))
+    ∙ all_texts-append m v table units (slots_read v rs) (ls ++ (macros_read rs.macros ++ names_read v rs))
+    ∙ all_texts-append m v table slots ls (macros_read rs.macros ++ names_read v rs)
+    ∙ all_texts-append m v table lined (macros_read rs.macros) (names_read v rs)
 
 -- what becomes of a table is told by the fields of all sections
 pub table-texts : (m : PathMap) (v : View) (rs : DataReadings) (ts : List LineTable) (table : TextSection) → ReadsAll (debug_data v).base 0 ((debug_data v).found Info) rs.units
     → ReadsOffsets (debug_data v).base.order ((debug_data v).found StrOffsets).contents rs.offsets → AreTables (line_source (debug_data v)) rs.lines
-    → ts ≡ tables_read (line_source (debug_data v)) rs.lines
+    → ReadsAllMacros (debug_data v).base.order ((debug_data v).found Macro) rs.macros
+    → ReadsNames (debug_data v).base.order ((debug_data v).found Names).contents rs.names → ts ≡ tables_read (line_source (debug_data v)) rs.lines
     → (table_change m table (around_of (debug_data v) rs) rs).texts
-    ≡ all_texts_at m v table [] (((paths_of rs.units ++ slots_read v rs) ++ macros_read rs.macros) ++ lines_of_view v ts)
+    ≡ all_texts_at m v table [] (all_of (fields_read v rs ts))
 unfolding table_change
-table-texts m v rs ts table reads offsets lines is =
+table-texts m v rs ts table reads offsets lines macros names is =
     let us : List Mention = all_mentions table (around_of (debug_data v) rs) rs.units in
     let ss : List Mention = mentions_with (slot_role (path_slots (around_of (debug_data v) rs))) table (around_of (debug_data v) rs) rs.offsets in
     let ls : List Mention = all_texts_mentions (line_source (debug_data v)) table rs.lines in
@@ -107,20 +113,19 @@ table-texts m v rs ts table reads offsets lines is =
     ∙ texts_after-append (plan_in m v table) m slots ls (ms ++ ns)
     ∙ ap (λ (xs : List (List ℕ)). texts_after (plan_in m v table) m xs (ms ++ ns)) (lines-texts-by m v table slots rs.lines (section_named v (name_of Line)) refl lines)
     ∙ texts_after-append (plan_in m v table) m lined ms ns
-    ∙ ap (λ (xs : List (List ℕ)). texts_after (plan_in m v table) m xs ns)
-    (macros-texts table (plan_in m v table) m (around_of (debug_data v) rs) lined rs.macros (same-plan m v rs table))
-    ∙ names-texts table (plan_in m v table) m (around_of (debug_data v) rs) lined rs.names (same-plan m v rs table)
+    ∙ ap (λ (xs : List (List ℕ)). texts_after (plan_in m v table) m xs ns) (macros-told m v rs table lined macros)
+    ∙ names-told m v rs table (all_texts_at m v table lined (macros_read rs.macros)) names
     ∙ sym (parts-texts m v table rs (lines_of_view v (tables_read (line_source (debug_data v)) rs.lines)))
-    ∙ ap (λ (ts_ : List LineTable). all_texts_at m v table [] (((paths_of rs.units ++ slots_read v rs) ++ macros_read rs.macros) ++ lines_of_view v ts_)) (sym is)
+    ∙ ap (λ (ts_ : List LineTable). all_texts_at m v table [] (all_of (fields_read v rs ts_))) (sym is)
 
 -- the table after the paths of all sections
-pub made-table : (m : PathMap) (v : View) (table : TextSection) (us : List SectionFields) (ts : List LineTable) (pool : TextTable) (known : ℕ → Option ℕ) (f : PathsFound m v us ts)
-    → TableMade m v table us pool known → pool.texts ≡ (table_change m table (around_of (debug_data v) f.readings) f.readings).texts
+pub made-table : (m : PathMap) (v : View) (table : TextSection) (us : Fields) (ts : List LineTable) (pool : TextTable) (known : Bool → ℕ → Option ℕ) (f : PathsFound m v us ts)
+    → TableMade m v table (all_of us) pool known → pool.texts ≡ (table_change m table (around_of (debug_data v) f.readings) f.readings).texts
 made-table m v table us ts pool known f t =
-    t.texts ∙ ap (all_texts_at m v table []) f.is ∙ sym (table-texts m v f.readings ts table f.reads.units f.reads.offsets f.reads.lines f.tables)
+    t.texts ∙ ap (λ (x : Fields). all_texts_at m v table [] (all_of x)) f.is ∙ sym (table-texts m v f.readings ts table f.reads.units f.reads.offsets f.reads.lines f.reads.macros f.reads.names f.tables)
 
-pub table-bytes : (m : PathMap) (v : View) (table : TextSection) (us : List SectionFields) (ts : List LineTable) (pool : TextTable) (known : ℕ → Option ℕ) (f : PathsFound m v us ts)
-    → TableMade m v table us pool known
+pub table-bytes : (m : PathMap) (v : View) (table : TextSection) (us : Fields) (ts : List LineTable) (pool : TextTable) (known : Bool → ℕ → Option ℕ) (f : PathsFound m v us ts)
+    → TableMade m v table (all_of us) pool known
     → table_bytes pool ≡ (texts_of v table).bytes ++ laid_texts (table_change m table (around_of (debug_data v) f.readings) f.readings).texts
 table-bytes m v table us ts pool known f t =
     ap (λ (k : List ℕ). k ++ laid_texts pool.texts) t.grown.kept

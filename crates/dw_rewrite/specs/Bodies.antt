@@ -23,6 +23,7 @@ use Rattle.dw_meaning.specs.NewAddends.{AddendsFail}
 use Rattle.dw_meaning.specs.RelocatedBodies.{CellBody, new_cells, relocated_body}
 use Rattle.dw_meaning.specs.RelocationFails.{RelocationsRead}
 use Rattle.dw_find.specs.MacroSections.{macros_read}
+use Rattle.dw_find.specs.NameSections.{names_read}
 use Rattle.dw_find.specs.SlotPaths.{slots_read}
 use Rattle.dw_find.specs.SectionFields.{SectionFields, paths_of}
 
@@ -45,9 +46,10 @@ abbrev pub lines_numbers : Option ℕ → List ℕ
 lines_numbers None = []
 lines_numbers (Some i) = i ∷ []
 
--- the sections of which relocations are written anew: units, string offsets, macro units, line tables. Those of the others stay.
+-- the sections of which relocations are written anew: units, string offsets, macro units, name tables, line tables. Those of the others stay.
 abbrev pub moved_numbers : View → DataReadings → List ℕ
-moved_numbers v r = numbers_in ((paths_of r.units ++ slots_read v r) ++ macros_read r.macros) ++ lines_numbers (section_named v (name_of Line))
+moved_numbers v r =
+    numbers_in (((paths_of r.units ++ slots_read v r) ++ macros_read r.macros) ++ names_read v r) ++ lines_numbers (section_named v (name_of Line))
 
 -- the sections of a file with new bytes: the two tables of texts, string offsets, line tables and name tables, of which one that isn't there has
 -- number 0 and no bytes, the sections of macro units, the unit sections, and behind them those that hold relocations of these

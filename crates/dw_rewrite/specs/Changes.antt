@@ -1,5 +1,5 @@
--- What becomes of the bytes of a unit section and of a table of texts, by the fields that hold the offsets of paths into it.
-use Rattle.std.specs.Prelude.{true, ◌≡◌, ◌≢◌, ◌⊎◌, ℕ, ◌+◌, ◌<◌, ◌≤◌, List, length, get_or, [], ◌∷◌, if◌then◌else◌, Option, Some, None, is_some, ◌++◌, ⊤, take, drop}
+-- What becomes of the bytes of a unit section and of a table of texts, by the fields that hold the offsets of texts into it.
+use Rattle.std.specs.Prelude.{Bool, true, ◌≡◌, ◌≢◌, ◌⊎◌, ℕ, ◌+◌, ◌<◌, ◌≤◌, List, length, get_or, [], ◌∷◌, if◌then◌else◌, Option, Some, None, is_some, ◌++◌, ⊤, take, drop}
 use Rattle.dw_base.specs.Cells.{Cell, Located, bytes_of, cells_at, offset_of}
 use Rattle.dw_base.specs.DebugData.{start_number}
 use Rattle.dw_base.specs.NewOffsets.{with_offset}
@@ -9,7 +9,7 @@ use Rattle.dw_base.specs.StringTables.{Mention, Plan, TextTable, with_mention, w
 use Rattle.dw_base.specs.TextChanges.{TableChange}
 use Rattle.dw_base.specs.Texts.{text_in, is_in}
 use Rattle.dw_base.specs.declared.shared.Order.{Order}
-use Rattle.dw_base.specs.declared.texts.TextField.{TextField}
+use Rattle.dw_offsets.specs.declared.fields.OffsetField.{OffsetField}
 use Rattle.dw_patch.specs.Patching.{IsFree, PatchList}
 use Rattle.elf_layout.specs.declared.patch.Patch.{Patch}
 
@@ -20,66 +20,66 @@ pub record FieldSource : Type 0 where
   pub table : Located
 
 -- a field lies in the section, and has the size of an offset; each of these does
-pub record IsFieldOf (s : FieldSource) (f : TextField) : Type 0 where
+pub record IsFieldOf (s : FieldSource) (f : OffsetField) : Type 0 where
   pub sized : (f.size ≡ 4) ⊎ (f.size ≡ 8)
   pub inside : f.at + f.size ≤ length s.cells
 
-pub record AreFieldsOf (s : FieldSource) (fields : List TextField) : Type 0 where
-  pub each : (k : ℕ) (d : TextField) → k < length fields → IsFieldOf s (get_or fields k d)
+pub record AreFieldsOf (s : FieldSource) (fields : List OffsetField) : Type 0 where
+  pub each : (k : ℕ) (d : OffsetField) → k < length fields → IsFieldOf s (get_or fields k d)
 
 -- the offset that a field holds; one into another section counts as past the table
-abbrev pub offset_at : FieldSource → TextField → ℕ
+abbrev pub offset_at : FieldSource → OffsetField → ℕ
 offset_at s f = offset_of s.order s.table (cells_at s.cells f.at f.size)
 
 -- the bytes of a field that says another offset, by the relocation that begins at it
-abbrev pub offset_bytes : FieldSource → TextField → ℕ → List ℕ
+abbrev pub offset_bytes : FieldSource → OffsetField → ℕ → List ℕ
 offset_bytes s f place = bytes_of (with_offset s.order (cells_at s.cells f.at f.size) place)
 
 -- bytes with others in place of so many at a place
 abbrev pub put_at : List ℕ → ℕ → ℕ → List ℕ → List ℕ
 put_at out at n bytes = take at out ++ bytes ++ drop (at + n) out
 
--- the mention of the path at an offset of a table
-abbrev pub path_of : List ℕ → ℕ → Mention
-path_of table offset = record { path = true; text = text_in table offset }
+-- the mention of the text at an offset of a table, as a path or not
+abbrev pub mention_as : Bool → List ℕ → ℕ → Mention
+mention_as path table offset = record { path = path; text = text_in table offset }
 
--- the mention of the path whose offset a field holds
-abbrev pub path_at : FieldSource → TextField → Mention
-path_at s f = path_of s.table.bytes (offset_at s f)
+-- the mention that a field makes
+abbrev pub field_mention : FieldSource → OffsetField → Mention
+field_mention s f = mention_as f.path s.table.bytes (offset_at s f)
 
--- the new texts after the paths of these fields
-abbrev pub texts_at : Plan → PathMap → FieldSource → List (List ℕ) → List TextField → List (List ℕ)
+-- the new texts after the mentions of these fields
+abbrev pub texts_at : Plan → PathMap → FieldSource → List (List ℕ) → List OffsetField → List (List ℕ)
 texts_at plan m s ts [] = ts
-texts_at plan m s ts (f ∷ fs) = texts_at plan m s (with_mention plan m ts (path_at s f)) fs
+texts_at plan m s ts (f ∷ fs) = texts_at plan m s (with_mention plan m ts (field_mention s f)) fs
 
--- the bytes with a new offset in a field, where its path asks for one
-abbrev pub patched_at : TableChange → PathMap → FieldSource → List ℕ → TextField → List ℕ
+-- the bytes with a new offset in a field, where its mention asks for one
+abbrev pub patched_at : TableChange → PathMap → FieldSource → List ℕ → OffsetField → List ℕ
 patched_at change m s out f =
-    if change.plan.asks (path_at s f)
-    then put_at out f.at f.size (offset_bytes s f (new_place change.plan m change.texts (path_at s f))) else out
+    if change.plan.asks (field_mention s f)
+    then put_at out f.at f.size (offset_bytes s f (new_place change.plan m change.texts (field_mention s f))) else out
 
 -- the bytes with new offsets in these fields
-abbrev pub patched : TableChange → PathMap → FieldSource → List ℕ → List TextField → List ℕ
+abbrev pub patched : TableChange → PathMap → FieldSource → List ℕ → List OffsetField → List ℕ
 patched change m s out [] = out
 patched change m s out (f ∷ fs) = patched change m s (patched_at change m s out f) fs
 
--- the path at an offset asks for a new place, and this is it
-pub record KnownPlace (plan : Plan) (m : PathMap) (table : List ℕ) (ts : List (List ℕ)) (offset place : ℕ) : Type 0 where
-  pub asks : plan.asks (path_of table offset) ≡ true
-  pub there : is_in ts (new_text m (path_of table offset)) ≡ true
-  pub place_is : place ≡ new_place plan m ts (path_of table offset)
+-- the text at an offset, as a path or not, asks for a new place, and this is it
+pub record KnownPlace (plan : Plan) (m : PathMap) (table : List ℕ) (ts : List (List ℕ)) (path : Bool) (offset place : ℕ) : Type 0 where
+  pub asks : plan.asks (mention_as path table offset) ≡ true
+  pub there : is_in ts (new_text m (mention_as path table offset)) ≡ true
+  pub place_is : place ≡ new_place plan m ts (mention_as path table offset)
 
--- the places that are known are those of the new texts
-pub record Knows (plan : Plan) (m : PathMap) (table : List ℕ) (ts : List (List ℕ)) (known : ℕ → Option ℕ) : Type 0 where
-  pub each : (offset place : ℕ) → known offset ≡ Some place → KnownPlace plan m table ts offset place
+-- the places that are known, of paths and of other texts by their offsets, are those of the new texts
+pub record Knows (plan : Plan) (m : PathMap) (table : List ℕ) (ts : List (List ℕ)) (known : Bool → ℕ → Option ℕ) : Type 0 where
+  pub each : (path : Bool) (offset place : ℕ) → known path offset ≡ Some place → KnownPlace plan m table ts path offset place
 
--- the new place of the path at an offset is known, if it asks for one
-pub record IsNoted (plan : Plan) (table : List ℕ) (known : ℕ → Option ℕ) (offset : ℕ) : Type 0 where
-  pub noted : plan.asks (path_of table offset) ≡ true → is_some (known offset) ≡ true
+-- the new place of the text at an offset is known, as a path or not, if it asks for one
+pub record IsNoted (plan : Plan) (table : List ℕ) (known : Bool → ℕ → Option ℕ) (path : Bool) (offset : ℕ) : Type 0 where
+  pub noted : plan.asks (mention_as path table offset) ≡ true → is_some (known path offset) ≡ true
 
 -- what was known is known
-pub record Remembers (old new : ℕ → Option ℕ) : Type 0 where
-  pub each : (offset : ℕ) → is_some (old offset) ≡ true → is_some (new offset) ≡ true
+pub record Remembers (old new : Bool → ℕ → Option ℕ) : Type 0 where
+  pub each : (path : Bool) (offset : ℕ) → is_some (old path offset) ≡ true → is_some (new path offset) ≡ true
 
 -- one place more is known
 pub record Adds (old new : ℕ → Option ℕ) (offset place : ℕ) : Type 0 where
@@ -91,52 +91,52 @@ abbrev pub place_after : TextTable → List ℕ → ℕ
 place_after table t = length table.kept + place_in (with_text table.texts t) t
 
 -- the bytes with a new offset in a field, where one is known
-abbrev pub with_known : FieldSource → List ℕ → TextField → Option ℕ → List ℕ
+abbrev pub with_known : FieldSource → List ℕ → OffsetField → Option ℕ → List ℕ
 with_known s out f None = out
 with_known s out f (Some new) = put_at out f.at f.size (offset_bytes s f new)
 
 -- the bytes with the new offsets that are known for the old ones in these fields
-abbrev pub with_all_known : FieldSource → (ℕ → Option ℕ) → List ℕ → List TextField → List ℕ
+abbrev pub with_all_known : FieldSource → (Bool → ℕ → Option ℕ) → List ℕ → List OffsetField → List ℕ
 with_all_known s known out [] = out
-with_all_known s known out (f ∷ fs) = with_all_known s known (with_known s out f (known (offset_at s f))) fs
+with_all_known s known out (f ∷ fs) = with_all_known s known (with_known s out f (known f.path (offset_at s f))) fs
 
 -- the new start of a line table, by its number
 abbrev pub new_start : List ℕ → Option ℕ → Option ℕ
 new_start news None = None
 new_start news (Some k) = Some (get_or news k 0)
 
--- the new start of the line table that started at a place
-abbrev pub start_known : List ℕ → List ℕ → ℕ → Option ℕ
-start_known olds news n = new_start news (start_number 0 olds n)
+-- the new start of the line table that started at a place, as a field of any kind says it
+abbrev pub start_known : List ℕ → List ℕ → Bool → ℕ → Option ℕ
+start_known olds news path n = new_start news (start_number 0 olds n)
 
--- the new places of the paths of these fields are noted
-pub record AreNoted (plan : Plan) (s : FieldSource) (fields : List TextField) (count : ℕ) (known : ℕ → Option ℕ) : Type 0 where
-  pub each : (k : ℕ) (d : TextField) → k < count → k < length fields → IsNoted plan s.table.bytes known (offset_at s (get_or fields k d))
+-- the new places of the texts of these fields are noted
+pub record AreNoted (plan : Plan) (s : FieldSource) (fields : List OffsetField) (count : ℕ) (known : Bool → ℕ → Option ℕ) : Type 0 where
+  pub each : (k : ℕ) (d : OffsetField) → k < count → k < length fields → IsNoted plan s.table.bytes known (get_or fields k d).path (offset_at s (get_or fields k d))
 
 -- a patch puts into a field the number with which it says another offset
-pub record Says (s : FieldSource) (f : TextField) (new : ℕ) (p : Patch) : Type 0 where
+pub record Says (s : FieldSource) (f : OffsetField) (new : ℕ) (p : Patch) : Type 0 where
   pub at : p.at ≡ f.at
   pub size : p.size ≡ f.size
   pub bytes : number_bytes s.order p.size p.value ≡ offset_bytes s f new
 
 -- the patch of a field, where a new offset is known
-pub data SaysBy (s : FieldSource) (f : TextField) : Option ℕ → List Patch → Type 0 where
+pub data SaysBy (s : FieldSource) (f : OffsetField) : Option ℕ → List Patch → Type 0 where
   says_none : SaysBy s f None []
   says_one : (new : ℕ) (p : Patch) → Says s f new p → SaysBy s f (Some new) (p ∷ [])
 
 -- the patches of these fields to the new offsets that are known for the old ones
-pub data AreSaid (s : FieldSource) (known : ℕ → Option ℕ) : List TextField → List Patch → Type 0 where
+pub data AreSaid (s : FieldSource) (known : Bool → ℕ → Option ℕ) : List OffsetField → List Patch → Type 0 where
   none_said : AreSaid s known [] []
-  more_said : (f : TextField) (fs : List TextField) (ps qs : List Patch) → SaysBy s f (known (offset_at s f)) ps → AreSaid s known fs qs
+  more_said : (f : OffsetField) (fs : List OffsetField) (ps qs : List Patch) → SaysBy s f (known f.path (offset_at s f)) ps → AreSaid s known fs qs
       → AreSaid s known (f ∷ fs) (ps ++ qs)
 
 -- these fields have no byte in common with any that is set
-abbrev pub AreFree : List Patch → List TextField → Type 0
+abbrev pub AreFree : List Patch → List OffsetField → Type 0
 AreFree patches [] = ⊤
 AreFree patches (f ∷ fs) = IsFree patches f.at f.size × AreFree patches fs
 
 -- a field of a section was set, where a new offset is known
-pub record IsSet (s : FieldSource) (f : TextField) (new : Option ℕ) (old now : PatchList) : Type 0 where
+pub record IsSet (s : FieldSource) (f : OffsetField) (new : Option ℕ) (old now : PatchList) : Type 0 where
   pub order : now.order ≡ old.order
   pub size : now.size ≡ old.size
   pub more : List Patch
@@ -144,7 +144,7 @@ pub record IsSet (s : FieldSource) (f : TextField) (new : Option ℕ) (old now :
   pub list : now.list ≡ old.list ++ more
 
 -- more fields of a section were set
-pub record AreSet (s : FieldSource) (known : ℕ → Option ℕ) (fields : List TextField) (old now : PatchList) : Type 0 where
+pub record AreSet (s : FieldSource) (known : Bool → ℕ → Option ℕ) (fields : List OffsetField) (old now : PatchList) : Type 0 where
   pub order : now.order ≡ old.order
   pub size : now.size ≡ old.size
   pub more : List Patch

@@ -1,6 +1,6 @@
 -- The section that holds the relocations of line tables when these are written anew (DWARF 5, 6.2.4; gABI ch. 4 "Relocation"): each record moves with
 -- the byte at which its relocation begins, and has the addend that makes the offset of its field.
-use Rattle.std.specs.Prelude.{◌≡◌, ◌⊎◌, ℕ, suc, ◌+◌, ◌^◌, ◌<◌, ◌≤◌, List, [], ◌∷◌, ◌++◌, length, map, Option, None, Some, ⊤}
+use Rattle.std.specs.Prelude.{Bool, ◌≡◌, ◌⊎◌, ℕ, suc, ◌+◌, ◌^◌, ◌<◌, ◌≤◌, List, [], ◌∷◌, ◌++◌, length, map, Option, None, Some, ⊤}
 use Rattle.dw_base.specs.Cells.{Cell}
 use Rattle.dw_base.specs.Elf.{contents_of}
 use Rattle.dw_base.specs.Layout.{output_limit}
@@ -26,15 +26,15 @@ use Rattle.dw_lines.specs.declared.moves.NewFieldOffset.{NewFieldOffset}
 use Rattle.dw_rewrite.specs.NewLines.{StandsIn, lines_known}
 
 -- what tables one behind another become, stretch by stretch, from the new places that are known in each table of texts
-abbrev pub stretches_known : PathMap → LineSource → (ℕ → Option ℕ) → (ℕ → Option ℕ) → List LineTable → List Stretch
+abbrev pub stretches_known : PathMap → LineSource → (Bool → ℕ → Option ℕ) → (Bool → ℕ → Option ℕ) → List LineTable → List Stretch
 stretches_known m g ks kl [] = []
 stretches_known m g ks kl (t ∷ ts) = table_stretches_by_texts g m (text_known g ks kl) t ++ stretches_known m g ks kl ts
 
 -- the runs of their bytes, and their fields that say other offsets
-abbrev pub line_runs : PathMap → LineSource → (ℕ → Option ℕ) → (ℕ → Option ℕ) → List LineTable → List Run
+abbrev pub line_runs : PathMap → LineSource → (Bool → ℕ → Option ℕ) → (Bool → ℕ → Option ℕ) → List LineTable → List Run
 line_runs m g ks kl ts = runs_from 0 0 (stretches_known m g ks kl ts)
 
-abbrev pub line_offsets : PathMap → LineSource → (ℕ → Option ℕ) → (ℕ → Option ℕ) → List LineTable → List NewFieldOffset
+abbrev pub line_offsets : PathMap → LineSource → (Bool → ℕ → Option ℕ) → (Bool → ℕ → Option ℕ) → List LineTable → List NewFieldOffset
 line_offsets m g ks kl ts = offsets_from 0 (stretches_known m g ks kl ts)
 
 -- the same for the records
@@ -45,7 +45,7 @@ abbrev pub said_fields : List NewFieldOffset → List Patch
 said_fields fs = map said_field fs
 
 -- a table starts at a place, its new bytes at another, below which all new bytes lie, and its texts stand in their order
-pub record TableMoves (m : PathMap) (g : LineSource) (ks kl : ℕ → Option ℕ) (place new start : ℕ) (t : LineTable) : Type 0 where
+pub record TableMoves (m : PathMap) (g : LineSource) (ks kl : Bool → ℕ → Option ℕ) (place new start : ℕ) (t : LineTable) : Type 0 where
   pub stands : StandsIn g t
   pub begins : t.start ≡ place
   pub start_is : start ≡ new
@@ -53,7 +53,7 @@ pub record TableMoves (m : PathMap) (g : LineSource) (ks kl : ℕ → Option ℕ
   pub fits : new_end new (table_stretches_by_texts g m (text_known g ks kl) t) < 2 ^ 63
 
 -- tables do, one behind another, and start anew at these places
-abbrev pub AllMove : PathMap → LineSource → (ℕ → Option ℕ) → (ℕ → Option ℕ) → ℕ → ℕ → List LineTable → List ℕ → Type 0
+abbrev pub AllMove : PathMap → LineSource → (Bool → ℕ → Option ℕ) → (Bool → ℕ → Option ℕ) → ℕ → ℕ → List LineTable → List ℕ → Type 0
 AllMove m g ks kl place new [] starts = ⊤
 AllMove m g ks kl place new (t ∷ ts) [] = ⊥
 AllMove m g ks kl place new (t ∷ ts) (n ∷ ns) =
@@ -61,7 +61,7 @@ AllMove m g ks kl place new (t ∷ ts) (n ∷ ns) =
     × AllMove m g ks kl (stretches_end place (table_stretches_by_texts g m (text_known g ks kl) t)) (new_end new (table_stretches_by_texts g m (text_known g ks kl) t)) ts ns
 
 -- the starts of new tables that are small enough to be written
-pub record StartsKnown (m : PathMap) (g : LineSource) (ks kl : ℕ → Option ℕ) (ts : List LineTable) (ns : List ℕ) : Type 0 where
+pub record StartsKnown (m : PathMap) (g : LineSource) (ks kl : Bool → ℕ → Option ℕ) (ts : List LineTable) (ns : List ℕ) : Type 0 where
   pub starts : ns ≡ starts_from 0 (lines_known m g ks kl ts)
   pub small : length (all_lines (lines_known m g ks kl ts)) ≤ output_limit
 
@@ -90,11 +90,11 @@ OffsetMisses number cells (f ∷ fs) r =
     ((r ≡ at TooWide number f.at) × Misses (relocation_at cells f.at) f.size f.offset) ⊎ OffsetMisses number cells fs r
 
 -- the new places of their relocations fit the words of the records that hold them
-pub record LinesFit (b : List ℕ) (m : PathMap) (g : LineSource) (ks kl : ℕ → Option ℕ) (ts : List LineTable) (i : ℕ) : Type 0 where
+pub record LinesFit (b : List ℕ) (m : PathMap) (g : LineSource) (ks kl : Bool → ℕ → Option ℕ) (ts : List LineTable) (i : ℕ) : Type 0 where
   pub each : (k : ℕ) → relocation_section b i ≡ Some k → PlacesFit (relocation_source (contents_of b) b k) (line_runs m g ks kl ts)
 
 -- the section of a number that holds the relocations of the tables, if there is one
-abbrev pub held_lines : List ℕ → PathMap → LineSource → (ℕ → Option ℕ) → (ℕ → Option ℕ) → List LineTable → Option ℕ → List Body
+abbrev pub held_lines : List ℕ → PathMap → LineSource → (Bool → ℕ → Option ℕ) → (Bool → ℕ → Option ℕ) → List LineTable → Option ℕ → List Body
 held_lines b m g ks kl ts None = []
 held_lines b m g ks kl ts (Some k) =
     record {
@@ -104,6 +104,6 @@ held_lines b m g ks kl ts (Some k) =
     ∷ []
 
 -- that of the section of line tables, where the file has one
-abbrev pub line_record : List ℕ → PathMap → LineSource → (ℕ → Option ℕ) → (ℕ → Option ℕ) → List LineTable → Option ℕ → List Body
+abbrev pub line_record : List ℕ → PathMap → LineSource → (Bool → ℕ → Option ℕ) → (Bool → ℕ → Option ℕ) → List LineTable → Option ℕ → List Body
 line_record b m g ks kl ts None = []
 line_record b m g ks kl ts (Some i) = held_lines b m g ks kl ts (relocation_section b i)

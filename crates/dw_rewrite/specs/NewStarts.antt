@@ -1,5 +1,5 @@
 -- Where line tables start anew, by where they started (DWARF 5, 3.1.1).
-use Rattle.std.specs.Prelude.{◌≡◌, ℕ, ◌^◌, ◌<◌, List, length, get_or, Option}
+use Rattle.std.specs.Prelude.{Bool, ◌≡◌, ℕ, ◌^◌, ◌<◌, List, length, get_or, Option}
 use Rattle.dw_rewrite.specs.Changes.{start_known}
 use Rattle.dw_find.specs.LineStarts.{Rises}
 
@@ -9,8 +9,8 @@ pub record StartChange : Type 0 where
   pub new : List ℕ
 
 -- where the table that started at a place starts anew
-abbrev pub known_starts : StartChange → ℕ → Option ℕ
-known_starts s n = start_known s.old s.new n
+abbrev pub known_starts : StartChange → Bool → ℕ → Option ℕ
+known_starts s path n = start_known s.old s.new path n
 
 -- the old starts rise, there are as many new ones, and these fit a field of four bytes
 pub record StartsFit (s : StartChange) : Type 0 where

@@ -1,6 +1,6 @@
 -- The tables of texts as an edit makes them, from the fields of paths of all unit sections of a view; and the new bytes of a
 -- section, from what is new of the tables.
-use Rattle.std.specs.Prelude.{◌≡◌, ◌≢◌, ℕ, ◌≤◌, ◌<◌, List, [], ◌∷◌, length, get_or, Option}
+use Rattle.std.specs.Prelude.{Bool, ◌≡◌, ◌≢◌, ℕ, ◌≤◌, ◌<◌, List, [], ◌∷◌, length, get_or, Option}
 use Rattle.dw_meaning.specs.DataOutput.{Body}
 use Rattle.dw_base.specs.Cells.{Located, located_cells}
 use Rattle.dw_base.specs.FileViews.{View, view_cells}
@@ -56,27 +56,34 @@ all_texts_at m v table ts [] = ts
 all_texts_at m v table ts (u ∷ us) = all_texts_at m v table (section_texts_at m v table ts u) us
 
 -- the new places of the paths of a section are noted, and of so many sections
-abbrev pub IsSectionNoted : PathMap → View → TextSection → SectionFields → (ℕ → Option ℕ) → Type 0
+abbrev pub IsSectionNoted : PathMap → View → TextSection → SectionFields → (Bool → ℕ → Option ℕ) → Type 0
 IsSectionNoted m v table u known = AreNoted (plan_in m v table) (source_in v u.number table) (fields_of table u) (length (fields_of table u)) known
 
-pub record AllNoted (m : PathMap) (v : View) (table : TextSection) (us : List SectionFields) (count : ℕ) (known : ℕ → Option ℕ) : Type 0 where
+pub record AllNoted (m : PathMap) (v : View) (table : TextSection) (us : List SectionFields) (count : ℕ) (known : Bool → ℕ → Option ℕ) : Type 0 where
   pub each : (k : ℕ) (d : SectionFields) → k < count → k < length us → IsSectionNoted m v table (get_or us k d) known
 
 -- a table that grows, with the new places of paths that are known
-pub record Growing (m : PathMap) (v : View) (table : TextSection) (pool : TextTable) (known : ℕ → Option ℕ) : Type 0 where
+pub record Growing (m : PathMap) (v : View) (table : TextSection) (pool : TextTable) (known : Bool → ℕ → Option ℕ) : Type 0 where
   pub kept : pool.kept ≡ (texts_of v table).bytes
   pub small : length (table_bytes pool) ≤ output_limit
   pub knows : Knows (plan_in m v table) m (texts_of v table).bytes pool.texts known
 
 -- it has grown by the paths of a section
-pub record GrownBy (m : PathMap) (v : View) (table : TextSection) (u : SectionFields) (old new : TextTable) (was known : ℕ → Option ℕ) : Type 0 where
+pub record GrownBy (m : PathMap) (v : View) (table : TextSection) (u : SectionFields) (old new : TextTable) (was known : Bool → ℕ → Option ℕ) : Type 0 where
   pub grown : Growing m v table new known
   pub texts : new.texts ≡ section_texts_at m v table old.texts u
   pub noted : IsSectionNoted m v table u known
   pub remembers : Remembers was known
 
--- and by those of all sections
-pub record TableMade (m : PathMap) (v : View) (table : TextSection) (us : List SectionFields) (pool : TextTable) (known : ℕ → Option ℕ) : Type 0 where
+-- by those of sections
+pub record GrownByAll (m : PathMap) (v : View) (table : TextSection) (us : List SectionFields) (old new : TextTable) (was known : Bool → ℕ → Option ℕ) : Type 0 where
+  pub grown : Growing m v table new known
+  pub texts : new.texts ≡ all_texts_at m v table old.texts us
+  pub noted : AllNoted m v table us (length us) known
+  pub remembers : Remembers was known
+
+-- and by those of all
+pub record TableMade (m : PathMap) (v : View) (table : TextSection) (us : List SectionFields) (pool : TextTable) (known : Bool → ℕ → Option ℕ) : Type 0 where
   pub grown : Growing m v table pool known
   pub texts : pool.texts ≡ all_texts_at m v table [] us
   pub noted : AllNoted m v table us (length us) known
@@ -90,16 +97,16 @@ abbrev pub change_in : PathMap → View → TextSection → List (List ℕ) → 
 change_in m v table ts = record { plan = plan_in m v table; texts = ts }
 
 -- the new bytes of a section, where these are the new texts of the two tables, and the new starts of line tables by their old ones
-unfoldable pub section_after : PathMap → View → List (List ℕ) → List (List ℕ) → (ℕ → Option ℕ) → SectionFields → List ℕ
+unfoldable pub section_after : PathMap → View → List (List ℕ) → List (List ℕ) → (Bool → ℕ → Option ℕ) → SectionFields → List ℕ
 section_after m v ts ls kt u =
     let with_str = patched (change_in m v InStr ts) m (source_in v u.number InStr) (info_of v u) (fields_into u Str) in
     let with_both = patched (change_in m v InLineStr ls) m (source_in v u.number InLineStr) with_str (fields_into u LineStr) in
     inlined m (info_of v u) (with_all_known (starts_in v u.number) kt with_both (fields_into u Line)) u.inline
 
-abbrev pub body_after : PathMap → View → List (List ℕ) → List (List ℕ) → (ℕ → Option ℕ) → SectionFields → Body
+abbrev pub body_after : PathMap → View → List (List ℕ) → List (List ℕ) → (Bool → ℕ → Option ℕ) → SectionFields → Body
 body_after m v ts ls kt u = record { number = u.number; bytes = section_after m v ts ls kt u }
 
-abbrev pub bodies_after : PathMap → View → List (List ℕ) → List (List ℕ) → (ℕ → Option ℕ) → List SectionFields → List Body
+abbrev pub bodies_after : PathMap → View → List (List ℕ) → List (List ℕ) → (Bool → ℕ → Option ℕ) → List SectionFields → List Body
 bodies_after m v ts ls kt [] = []
 bodies_after m v ts ls kt (u ∷ us) = body_after m v ts ls kt u ∷ bodies_after m v ts ls kt us
 
@@ -118,22 +125,22 @@ pub data TablesRefuse (m : PathMap) (v : View) (us : List SectionFields) : Refus
   one_is_long : (table : TextSection) {r : Refusal} → LongTable m v table us r → TablesRefuse m v us r
 
 -- the same from the new places that are known
-unfoldable pub section_known : PathMap → View → (ℕ → Option ℕ) → (ℕ → Option ℕ) → (ℕ → Option ℕ) → SectionFields → List ℕ
+unfoldable pub section_known : PathMap → View → (Bool → ℕ → Option ℕ) → (Bool → ℕ → Option ℕ) → (Bool → ℕ → Option ℕ) → SectionFields → List ℕ
 section_known m v ks kl kt u =
     let with_str = with_all_known (source_in v u.number InStr) ks (info_of v u) (fields_into u Str) in
     let with_both = with_all_known (source_in v u.number InLineStr) kl with_str (fields_into u LineStr) in
     inlined m (info_of v u) (with_all_known (starts_in v u.number) kt with_both (fields_into u Line)) u.inline
 
 -- the bytes of a section with the new offsets that are known in its fields of both tables, and the new starts of line tables
-abbrev pub fields_known : View → (ℕ → Option ℕ) → (ℕ → Option ℕ) → (ℕ → Option ℕ) → SectionFields → List ℕ → List ℕ
+abbrev pub fields_known : View → (Bool → ℕ → Option ℕ) → (Bool → ℕ → Option ℕ) → (Bool → ℕ → Option ℕ) → SectionFields → List ℕ → List ℕ
 fields_known v ks kl kt u out =
     with_all_known (starts_in v u.number) kt
     (with_all_known (source_in v u.number InLineStr) kl (with_all_known (source_in v u.number InStr) ks out (fields_into u Str)) (fields_into u LineStr)) (fields_into u Line)
 
-abbrev pub body_known : PathMap → View → (ℕ → Option ℕ) → (ℕ → Option ℕ) → (ℕ → Option ℕ) → SectionFields → Body
+abbrev pub body_known : PathMap → View → (Bool → ℕ → Option ℕ) → (Bool → ℕ → Option ℕ) → (Bool → ℕ → Option ℕ) → SectionFields → Body
 body_known m v ks kl kt u = record { number = u.number; bytes = section_known m v ks kl kt u }
 
-abbrev pub bodies_known : PathMap → View → (ℕ → Option ℕ) → (ℕ → Option ℕ) → (ℕ → Option ℕ) → List SectionFields → List Body
+abbrev pub bodies_known : PathMap → View → (Bool → ℕ → Option ℕ) → (Bool → ℕ → Option ℕ) → (Bool → ℕ → Option ℕ) → List SectionFields → List Body
 bodies_known m v ks kl kt [] = []
 bodies_known m v ks kl kt (u ∷ us) = body_known m v ks kl kt u ∷ bodies_known m v ks kl kt us
 

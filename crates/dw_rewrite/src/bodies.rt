@@ -22,10 +22,9 @@ ghost use Rattle.dw_meaning.specs.RelocationFails.{LeftRelocationsRead};
 ghost use Rattle.dw_find.specs.ViewFields.{AllHaveOffsets, AllHavePlaces, AllRoomsFit};
 ghost use Rattle.dw_rewrite.specs.NewTables.{bodies_known, table_body_of};
 ghost use Rattle.dw_rewrite.specs.Bodies.{BodiesRefuse, FileBodiesMade};
-ghost use Rattle.dw_find.specs.FoundPaths.{PathsFound, without_lines};
-ghost use Rattle.dw_find.specs.SlotPaths.{lines_count};
-ghost use Rattle.dw_find.specs.MacroSections.{UnitsFoundIn};
-ghost use Rattle.dw_rewrite.specs.PushedBodies.{macros_count, names_body, one_body, pushed_bodies, slots_count, some_sections};
+ghost use Rattle.dw_find.specs.AllFields.{standing};
+ghost use Rattle.dw_find.specs.FoundPaths.{PathsFound};
+ghost use Rattle.dw_rewrite.specs.PushedBodies.{one_body, pushed_bodies};
 ghost use Rattle.dw_rewrite.specs.NewLines.{LinesFail, LinesWritten};
 ghost use Rattle.dw_rewrite.specs.LineOffsets.{OffsetMisses, OffsetsMake, StartsKnown, line_offsets, line_record};
 ghost use Rattle.dw_rewrite.specs.NewOffsets.{AllPlacesFit, records_known};
@@ -36,11 +35,11 @@ use crate::line_records::push_line_record;
 use crate::lines::{NewLines, new_lines};
 use crate::new_places::NewPlaces;
 use crate::new_sections::{Body, new_sections};
-use crate::records::push_records;
+use crate::records::push_standing;
 use crate::starts::NewStarts;
 use crate::tables::{NewTables, new_tables};
 use dw_base::{DebugSection, Fault, Kind, OUTPUT_LIMIT, Refusal, TextSection};
-use dw_find::{MacroSection, SectionFields, starts_of, table_number};
+use dw_find::{Fields, SectionFields, starts_of, table_number};
 use dw_lines::{LineTable, NewTexts};
 use dw_paths::Maps;
 use dw_strings::Pool;
@@ -62,15 +61,13 @@ pub(crate) fn new_bodies<'a>(
     sources: &RelocationSources,
     maps: &Maps,
     tables: &[LineTable],
-    macros: &[MacroSection],
-    paths: &[SectionFields],
+    paths: &Fields,
 ) -> Result<Vec<Body<'a>>, Fault>
     requires file { view.now ≡ view_of elf.now.bytes.now }
     requires view { view.now ≡ view_of sources.now }
     requires relocations { RelocationSectionsRead (contents_of sources.now) sources.now }
     requires bytes { (k : ℕ) → slice_index sources.now k < 256 }
     requires found { PathsFound maps.now view.now paths.now tables.now }
-    requires macros { UnitsFoundIn view.now macros.now }
     ensures made { IfOk result (λ bodies. FileBodiesMade maps.now sources.now bodies.items) }
     ensures refused { IfErr result (Blames (BodiesRefuse maps.now (debug_data view.now))) }
 {
@@ -85,18 +82,7 @@ pub(crate) fn new_bodies<'a>(
     let places = NewPlaces { texts, starts };
     let mut bodies = table_bodies(alloc, view, pool, line_pool)?;
     let lines = lines_body(view, bytes);
-    let sections = without_lines(view, paths);
-    push_bodies(
-        alloc,
-        elf,
-        view,
-        maps,
-        &places,
-        lines,
-        macros.len(),
-        sections,
-        &mut bodies,
-    )?;
+    push_bodies(alloc, elf, view, maps, &places, lines, paths, &mut bodies)?;
     push_relocations(
         alloc,
         view,
@@ -105,7 +91,7 @@ pub(crate) fn new_bodies<'a>(
         &places,
         new.as_slice(),
         tables,
-        sections,
+        paths,
         &mut bodies,
     )?;
     Ok(bodies)
@@ -181,29 +167,9 @@ fn long_lines(view: &View) -> Refusal
     Refusal::at(Kind::TooLarge, lines_number(view), 0)
 }
 
-/// What the sections say of paths without that of line tables, which is the last, if there is one.
-#[tactic(auto, using(crate::proofs::PushLaws::without_rules))]
-fn without_lines<'a>(view: &View, paths: &'a [SectionFields]) -> &'a [SectionFields]
-    requires lines { lines_count view.now ≤ length paths.now }
-    ensures { result.now ≡ without_lines view.now paths.now }
-{
-    &paths[..paths.len() - lines_count(view)]
-}
-
-/// How many sections of line tables there are: one or none.
-#[tactic(auto, using(crate::proofs::PushLaws::count_rules))]
-fn lines_count(view: &View) -> usize
-    ensures { result ≡ lines_count view.now }
-{
-    match view.first(DebugSection::Line) {
-        Some(_) => 1,
-        None => 0,
-    }
-}
-
-/// Appends string offsets, line tables, name tables, as many sections of macro units and the unit sections with their new
-/// bytes, from the new places of paths that are known of each table, and the starts of line tables.
-#[tactic(auto, using(crate::proofs::PushLaws::all_rules))]
+/// Appends string offsets, line tables, name tables, the sections of macro units and the unit sections with their new bytes,
+/// from the new places of paths that are known of each table, and the starts of line tables.
+#[tactic(auto, using(crate::proofs::StandingLaws::part_rules))]
 fn push_bodies<'a>(
     alloc: Global,
     elf: &ElfFile<'a>,
@@ -211,26 +177,21 @@ fn push_bodies<'a>(
     maps: &Maps,
     new_places: &NewPlaces,
     lines: Body<'a>,
-    macro_count: usize,
-    paths: &[SectionFields],
+    paths: &Fields,
     bodies: &mut Vec<Body<'a>>,
 ) -> Result<(), Fault>
     requires file { view.now ≡ view_of elf.now.bytes.now }
-    requires offsets { AllHaveOffsets view.now paths.now }
-    requires places { AllHavePlaces view.now paths.now }
-    requires rooms { AllRoomsFit maps.now view.now paths.now }
-    requires macros { macro_count ≡ macros_count view.now }
-    requires among { some_sections view.now ≤ length paths.now }
+    requires offsets { AllHaveOffsets view.now (standing paths.now) }
+    requires places { AllHavePlaces view.now (standing paths.now) }
+    requires rooms { AllRoomsFit maps.now view.now (standing paths.now) }
     ensures bodies { OnOk result (bodies.new.items ≡ bodies.old.items ++ pushed_bodies maps.now view.now (places_known new_places.now Str) (places_known new_places.now LineStr) (places_known new_places.now Line) lines.entry paths.now) }
     ensures only { IfErr result (λ f. f ≡ NoMemory) }
 {
-    let (front, macros) = paths.split_at(paths.len() - macro_count);
-    let (units, slots) = front.split_at(front.len() - slots_count(view));
-    push_slots_body(alloc, elf, view, maps, new_places, slots, bodies)?;
+    push_one(alloc, elf, view, maps, new_places, paths.slots(), bodies)?;
     bodies.push(lines)?;
-    push_names(alloc, view, bodies)?;
-    new_sections(alloc, elf, view, maps, new_places, macros, bodies)?;
-    new_sections(alloc, elf, view, maps, new_places, units, bodies)?;
+    push_one(alloc, elf, view, maps, new_places, paths.names(), bodies)?;
+    new_sections(alloc, elf, view, maps, new_places, paths.macros(), bodies)?;
+    new_sections(alloc, elf, view, maps, new_places, paths.units(), bodies)?;
     Ok(())
 }
 
@@ -245,94 +206,53 @@ fn push_relocations(
     new_places: &NewPlaces,
     new: &[u64],
     tables: &[LineTable],
-    paths: &[SectionFields],
+    paths: &Fields,
     bodies: &mut Vec<Body>,
 ) -> Result<(), Fault>
     requires view { view.now ≡ view_of sources.now }
     requires relocations { RelocationSectionsRead (contents_of sources.now) sources.now }
     requires left { LeftRelocationsRead (debug_data view.now) (moving_sections view.now) }
-    requires offsets { AllHaveOffsets view.now paths.now }
-    requires places { AllHavePlaces view.now paths.now }
+    requires offsets { AllHaveOffsets view.now (standing paths.now) }
+    requires places { AllHavePlaces view.now (standing paths.now) }
     requires fit { AllPlacesFit sources.now }
     requires tables { TablesFound view.now tables.now }
     requires starts { StartsKnown maps.now (line_source (debug_data view.now)) (places_known new_places.now Str) (places_known new_places.now LineStr) tables.now new.now }
-    ensures bodies { OnOk result (bodies.new.items ≡ (bodies.old.items ++ records_known sources.now view.now (places_known new_places.now Str) (places_known new_places.now LineStr) (places_known new_places.now Line) paths.now) ++ line_record sources.now maps.now (line_source (debug_data view.now)) (places_known new_places.now Str) (places_known new_places.now LineStr) tables.now (section_named view.now (name_of Line))) }
-    ensures makes { OnOk result (AllMake view.now (places_known new_places.now Str) (places_known new_places.now LineStr) (places_known new_places.now Line) paths.now) }
+    ensures bodies { OnOk result (bodies.new.items ≡ (bodies.old.items ++ records_known sources.now view.now (places_known new_places.now Str) (places_known new_places.now LineStr) (places_known new_places.now Line) (standing paths.now)) ++ line_record sources.now maps.now (line_source (debug_data view.now)) (places_known new_places.now Str) (places_known new_places.now LineStr) tables.now (section_named view.now (name_of Line))) }
+    ensures makes { OnOk result (AllMake view.now (places_known new_places.now Str) (places_known new_places.now LineStr) (places_known new_places.now Line) (standing paths.now)) }
     ensures line_makes { OnOk result (OffsetsMake (line_source (debug_data view.now)).cells (line_offsets maps.now (line_source (debug_data view.now)) (places_known new_places.now Str) (places_known new_places.now LineStr) tables.now)) }
-    ensures refused { IfErr result (Blames (λ r. AllMiss view.now (places_known new_places.now Str) (places_known new_places.now LineStr) (places_known new_places.now Line) paths.now r ⊎ OffsetMisses (line_source (debug_data view.now)).number (line_source (debug_data view.now)).cells (line_offsets maps.now (line_source (debug_data view.now)) (places_known new_places.now Str) (places_known new_places.now LineStr) tables.now) r)) }
+    ensures refused { IfErr result (Blames (λ r. AllMiss view.now (places_known new_places.now Str) (places_known new_places.now LineStr) (places_known new_places.now Line) (standing paths.now) r ⊎ OffsetMisses (line_source (debug_data view.now)).number (line_source (debug_data view.now)).cells (line_offsets maps.now (line_source (debug_data view.now)) (places_known new_places.now Str) (places_known new_places.now LineStr) tables.now) r)) }
 {
-    push_records(alloc, view, sources, new_places, paths, bodies)?;
+    push_standing(alloc, view, sources, new_places, paths, bodies)?;
     let new_texts = new_places.texts();
     push_line_record(alloc, view, sources, maps, new_texts, new, tables, bodies)?;
     Ok(())
 }
 
-/// How many sections of string offsets there are: one or none.
-#[tactic(auto, using(crate::proofs::PushLaws::count_rules))]
-fn slots_count(view: &View) -> usize
-    ensures { result ≡ slots_count view.now }
-{
-    match view.first(DebugSection::StrOffsets) {
-        Some(_) => 1,
-        None => 0,
-    }
-}
-
-/// Appends the section of string offsets with its new bytes; a body of no section where there is none.
-#[tactic(auto, using(crate::proofs::PushLaws::slot_rules))]
-fn push_slots_body<'a>(
+/// Appends the section of string offsets, or that of name tables, with its new bytes; a body of no section where there is none.
+#[tactic(auto, using(crate::proofs::PushLaws::one_rules))]
+fn push_one<'a>(
     alloc: Global,
     elf: &ElfFile<'a>,
     view: &View,
     maps: &Maps,
     new_places: &NewPlaces,
-    slots: &[SectionFields],
+    found: &[SectionFields],
     bodies: &mut Vec<Body<'a>>,
 ) -> Result<(), Fault>
     requires file { view.now ≡ view_of elf.now.bytes.now }
-    requires offsets { AllHaveOffsets view.now slots.now }
-    requires places { AllHavePlaces view.now slots.now }
-    requires rooms { AllRoomsFit maps.now view.now slots.now }
-    ensures body { OnOk result (bodies.new.items ≡ bodies.old.items ++ one_body (bodies_known maps.now view.now (places_known new_places.now Str) (places_known new_places.now LineStr) (places_known new_places.now Line) slots.now)) }
+    requires offsets { AllHaveOffsets view.now found.now }
+    requires places { AllHavePlaces view.now found.now }
+    requires rooms { AllRoomsFit maps.now view.now found.now }
+    ensures body { OnOk result (bodies.new.items ≡ bodies.old.items ++ one_body (bodies_known maps.now view.now (places_known new_places.now Str) (places_known new_places.now LineStr) (places_known new_places.now Line) found.now)) }
     ensures only { IfErr result (λ f. f ≡ NoMemory) }
 {
-    if slots.is_empty() {
+    if found.is_empty() {
         bodies.push(Body {
             section: 0,
             bytes: NewBody::whole(Vec::new(alloc)),
         })?;
         return Ok(());
     }
-    new_sections(alloc, elf, view, maps, new_places, slots, bodies)?;
+    new_sections(alloc, elf, view, maps, new_places, found, bodies)?;
     Ok(())
-}
-
-/// Appends the section of name tables, which keeps its bytes; a body of no section where there is none.
-#[tactic(auto, using(crate::proofs::PushLaws::name_rules))]
-fn push_names(alloc: Global, view: &View, bodies: &mut Vec<Body>) -> Result<(), AllocError>
-    ensures body { OnOk result (bodies.new.items ≡ bodies.old.items ++ names_body view.now ∷ []) }
-{
-    let body = names_body(alloc, view)?;
-    bodies.push(body)?;
-    Ok(())
-}
-
-/// The section of name tables with its bytes.
-#[tactic(auto, using(crate::proofs::PushLaws::name_rules))]
-fn names_body<'v>(alloc: Global, view: &View) -> Result<Body<'v>, AllocError>
-    ensures body { IfOk result (λ b. b ≡ names_body view.now) }
-{
-    match view.first(DebugSection::Names) {
-        Some(section) => {
-            let bytes = Vec::from_slice(alloc, view.bytes(section))?;
-            Ok(Body {
-                section,
-                bytes: NewBody::whole(bytes),
-            })
-        }
-        None => Ok(Body {
-            section: 0,
-            bytes: NewBody::whole(Vec::new(alloc)),
-        }),
-    }
 }

@@ -26,7 +26,7 @@ use crate::loaded_sections::check_unloaded;
 use crate::new_sections::Body;
 use crate::refusal::{fixed, too_large};
 use dw_base::{Fault, Kind, Refusal};
-use dw_find::{MacroSection, SectionFields, found_paths, macro_sections};
+use dw_find::{Fields, MacroSection, found_paths, macro_sections};
 use dw_lines::{LineTable, line_tables};
 use dw_paths::Maps;
 use dw_view::{RelocationSources, View};
@@ -134,7 +134,7 @@ fn made_bodies<'a>(
 {
     let macros = macros_in(alloc, elf, view, maps)?;
     let paths = paths_in(alloc, elf, view, maps, tables, &macros)?;
-    bodies_in(alloc, elf, view, sources, maps, tables, &macros, &paths)
+    bodies_in(alloc, elf, view, sources, maps, tables, &paths)
 }
 
 /// The line tables of the file.
@@ -171,7 +171,7 @@ fn macros_in(
     Ok(macros)
 }
 
-/// What the units, the string offsets, the macro units and the line tables of the file say of paths.
+/// What the debug data of the file say of texts.
 #[tactic(auto, using(crate::proofs::ExitLaws::paths_rules))]
 fn paths_in(
     alloc: Global,
@@ -180,19 +180,19 @@ fn paths_in(
     maps: &Maps,
     tables: &[LineTable],
     macros: &[MacroSection],
-) -> Result<Vec<SectionFields>, Fault>
+) -> Result<Fields, Fault>
     requires checked { IsChecked elf.now.bytes.now }
     requires view { view.now ≡ view_of elf.now.bytes.now }
     requires tables { TablesFound (view_of elf.now.bytes.now) tables.now }
     requires macros { UnitsFoundIn (view_of elf.now.bytes.now) macros.now }
-    ensures found { IfOk result (λ paths. PathsFound maps.now (view_of elf.now.bytes.now) paths.items tables.now) }
+    ensures found { IfOk result (λ paths. PathsFound maps.now (view_of elf.now.bytes.now) paths tables.now) }
     ensures refused { IfErr result (Blames (EditFails maps.now elf.now.bytes.now)) }
 {
     let paths = found_paths(alloc, view, maps, tables, macros)?;
     Ok(paths)
 }
 
-/// The new bytes of the sections that change, by what was found of paths.
+/// The new bytes of the sections that change, by what was found of texts.
 #[tactic(auto, using(crate::proofs::ExitLaws::bodies_rules))]
 fn bodies_in<'a>(
     alloc: Global,
@@ -201,19 +201,17 @@ fn bodies_in<'a>(
     sources: &RelocationSources,
     maps: &Maps,
     tables: &[LineTable],
-    macros: &[MacroSection],
-    paths: &[SectionFields],
+    paths: &Fields,
 ) -> Result<Vec<Body<'a>>, Fault>
     requires small { length elf.now.bytes.now ≤ output_limit }
     requires checked { IsChecked elf.now.bytes.now }
     requires view { view.now ≡ view_of elf.now.bytes.now }
     requires sources { sources.now ≡ elf.now.bytes.now }
-    requires macros { UnitsFoundIn (view_of elf.now.bytes.now) macros.now }
     requires found { PathsFound maps.now (view_of elf.now.bytes.now) paths.now tables.now }
     ensures made { IfOk result (λ bodies. FileBodiesMade maps.now elf.now.bytes.now bodies.items) }
     ensures refused { IfErr result (Blames (EditFails maps.now elf.now.bytes.now)) }
 {
-    match new_bodies(alloc, elf, view, sources, maps, tables, macros, paths) {
+    match new_bodies(alloc, elf, view, sources, maps, tables, paths) {
         Ok(bodies) => Ok(bodies),
         Err(fault) => Err(long_fault(elf, fault)),
     }

@@ -31,8 +31,9 @@ ghost use Rattle.dw_lines.specs.NewTexts.{text_known, texts_known};
 
 use crate::new_sections::Body;
 use crate::sources::FieldSource;
-use dw_base::{DebugSection, Fault, Kind, Refusal, TextField};
+use dw_base::{DebugSection, Fault, Kind, Refusal};
 use dw_lines::{LineTable, NewFieldOffset, NewTexts, Run};
+use dw_offsets::OffsetField;
 use dw_patch::{Offsets, RelocSource};
 use dw_paths::Maps;
 use dw_view::{RelocationSources, View};
@@ -230,9 +231,10 @@ fn field_makes(lines: &FieldSource, field: NewFieldOffset) -> bool
     ensures makes { OnTrue result (Makes (relocation_at lines.now.cells field.at) field.size field.offset) }
     ensures misses { OnFalse result (Misses (relocation_at lines.now.cells field.at) field.size field.offset) }
 {
-    let path = TextField {
+    let at = OffsetField {
         at: field.at,
         size: field.size,
+        path: false,
     };
-    lines.makes(path, field.offset)
+    lines.makes(at, field.offset)
 }

@@ -1,4 +1,4 @@
-//! The new places of what fields hold offsets of, by the section of debug data that it is in: of texts, and of line tables.
+//! The new places of what fields hold offsets of, by the section of debug data that it is in: of paths, and of line tables.
 //!
 //! Read first: `specs/NewPlaces.antt`.
 
@@ -33,13 +33,14 @@ impl<'a> NewPlaces<'a> {
         &self.texts
     }
 
-    /// The new place of what is at an old place of a section. `None` where none is known.
-    pub(crate) fn get(&self, section: DebugSection, old: u64) -> Option<u64>
-        ensures value { result ≡ places_known self.now section old }
+    /// The new place of what is at an old place of a section, a path or not. `None` where none is known.
+    #[tactic(auto, using(crate::proofs::NewPlaceLaws::get_rules))]
+    pub(crate) fn get(&self, section: DebugSection, path: bool, old: u64) -> Option<u64>
+        ensures value { result ≡ places_known self.now section path old }
     {
         match section {
             DebugSection::Line => self.starts.get(old),
-            _ => self.texts.get(section, old),
+            _ => self.texts.get(section, path, old),
         }
     }
 }

@@ -8,6 +8,7 @@ ghost use Rattle.dw_base.specs.FileViews.{view_of};
 ghost use Rattle.dw_base.specs.Refusals.{Blames};
 ghost use Rattle.dw_base.specs.SectionRelocations.{relocation_section};
 ghost use Rattle.dw_base.specs.declared.debug_sections.DebugSection.TheVariants.{Str, LineStr, Line};
+ghost use Rattle.dw_find.specs.AllFields.{standing};
 ghost use Rattle.dw_find.specs.ViewFields.{AllHaveOffsets, AllHavePlaces, HasOffsets, HasPlaces};
 ghost use Rattle.dw_patch.specs.RecordMoves.{PlacesFit, moved_table, patch_for};
 ghost use Rattle.dw_rewrite.specs.Changes.{AreFieldsOf, IsFieldOf};
@@ -17,21 +18,48 @@ ghost use Rattle.dw_rewrite.specs.NewTables.{source_into};
 ghost use Rattle.dw_rewrite.specs.OffsetAddends.{AllMake, AllMiss, FieldMakes, FieldMisses, FieldsMake, FieldsMiss, SectionMakes, SectionMisses};
 ghost use Rattle.dw_rewrite.specs.NewPlaces.{places_known};
 
+use crate::change::place_for;
 use crate::new_places::NewPlaces;
 use crate::new_sections::{Body, field_source};
 use crate::sources::FieldSource;
-use dw_base::{DebugSection, Fault, Kind, Refusal, TextField};
-use dw_find::SectionFields;
+use dw_base::{DebugSection, Fault, Kind, Refusal};
+use dw_find::{Fields, SectionFields};
+use dw_offsets::OffsetField;
 use dw_patch::{Offsets, RelocSource};
 use dw_view::{RelocationSources, View};
 use elf_layout::NewBody;
 use std::alloc::Global;
 
-/// Appends the sections that hold relocations of these sections, with their records as they are when the sections'
-/// fields say their new offsets. Refused as `TooWide`, at the field, where the addend of a field's relocation can't
+/// Appends the sections that hold relocations of units, string offsets, macro units and name tables, with their records as they are when the
+/// sections' fields say their new offsets. Refused as `TooWide`, at the field, where the addend of a field's relocation can't
 /// make its new offset.
+#[tactic(auto, using(crate::proofs::StandingLaws::part_rules))]
+pub(crate) fn push_standing(
+    alloc: Global,
+    view: &View,
+    sources: &RelocationSources,
+    new_places: &NewPlaces,
+    paths: &Fields,
+    bodies: &mut Vec<Body>,
+) -> Result<(), Fault>
+    requires view { view.now ≡ view_of sources.now }
+    requires offsets { AllHaveOffsets view.now (standing paths.now) }
+    requires places { AllHavePlaces view.now (standing paths.now) }
+    requires fit { AllPlacesFit sources.now }
+    ensures bodies { OnOk result (bodies.new.items ≡ bodies.old.items ++ records_known sources.now view.now (places_known new_places.now Str) (places_known new_places.now LineStr) (places_known new_places.now Line) (standing paths.now)) }
+    ensures makes { OnOk result (AllMake view.now (places_known new_places.now Str) (places_known new_places.now LineStr) (places_known new_places.now Line) (standing paths.now)) }
+    ensures refused { IfErr result (Blames (AllMiss view.now (places_known new_places.now Str) (places_known new_places.now LineStr) (places_known new_places.now Line) (standing paths.now))) }
+{
+    push_records(alloc, view, sources, new_places, paths.units(), bodies)?;
+    push_records(alloc, view, sources, new_places, paths.slots(), bodies)?;
+    push_records(alloc, view, sources, new_places, paths.macros(), bodies)?;
+    push_records(alloc, view, sources, new_places, paths.names(), bodies)?;
+    Ok(())
+}
+
+/// The same of these sections.
 #[tactic(auto, using(crate::proofs::RecordPushLaws::all_rules))]
-pub(crate) fn push_records(
+fn push_records(
     alloc: Global,
     view: &View,
     sources: &RelocationSources,
@@ -153,7 +181,7 @@ fn add_section(
 fn add_fields(
     source: &FieldSource,
     section: u32,
-    fields: &[TextField],
+    fields: &[OffsetField],
     into: DebugSection,
     new_places: &NewPlaces,
     offsets: &mut Offsets,
@@ -166,8 +194,7 @@ fn add_fields(
     ensures refused { IfErr result (Blames (FieldsMiss source.now (places_known new_places.now into) section fields.now)) }
 {
     for at in fields {
-        let old = source.offset(*at);
-        let new = new_places.get(into, old);
+        let new = place_for(source, *at, into, new_places);
         add_known(source, section, *at, new, offsets)?;
     }
     Ok(())
@@ -179,7 +206,7 @@ fn add_fields(
 fn add_known(
     source: &FieldSource,
     section: u32,
-    field: TextField,
+    field: OffsetField,
     new: Option<u64>,
     offsets: &mut Offsets,
 ) -> Result<(), Fault>

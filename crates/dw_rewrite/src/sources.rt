@@ -15,7 +15,7 @@ ghost use Rattle.dw_meaning.specs.NewAddends.{Makes, Misses};
 ghost use Rattle.dw_rewrite.specs.Changes.{FieldSource as SourceOf, offset_at, offset_bytes};
 ghost use Rattle.dw_view.specs.Relocations.{relocation_value};
 
-use dw_base::TextField;
+use dw_offsets::OffsetField;
 use dw_view::{Relocation, SectionBytes, View};
 use elf_relocs::addend_makes;
 use std::marker::Model;
@@ -68,7 +68,7 @@ impl<'v, 'f, 't> FieldSource<'v, 'f, 't> {
     }
 
     /// The offset that a field holds.
-    pub(crate) fn offset(&self, field: TextField) -> u64
+    pub(crate) fn offset(&self, field: OffsetField) -> u64
         requires sized { (field.size ≡ 4) ⊎ (field.size ≡ 8) }
         requires inside { field.at + field.size ≤ length self.now.cells }
         ensures value { result ≡ offset_at self.now field }
@@ -77,7 +77,7 @@ impl<'v, 'f, 't> FieldSource<'v, 'f, 't> {
     }
 
     /// The number with which a field says another offset.
-    pub(crate) fn number(&self, field: TextField, offset: u64) -> u64
+    pub(crate) fn number(&self, field: OffsetField, offset: u64) -> u64
         requires sized { (field.size ≡ 4) ⊎ (field.size ≡ 8) }
         requires inside { field.at + field.size ≤ length self.now.cells }
         ensures bytes { number_bytes self.now.order field.size result ≡ offset_bytes self.now field offset }
@@ -88,7 +88,7 @@ impl<'v, 'f, 't> FieldSource<'v, 'f, 't> {
 
     /// A field can say an offset: false where the relocation that begins at it has an addend of 32 bits, which
     /// doesn't make the offset in the eight bytes of the field.
-    pub(crate) fn makes(&self, field: TextField, offset: u64) -> bool
+    pub(crate) fn makes(&self, field: OffsetField, offset: u64) -> bool
         requires sized { (field.size ≡ 4) ⊎ (field.size ≡ 8) }
         requires inside { field.at + field.size ≤ length self.now.cells }
         ensures makes { OnTrue result (Makes (relocation_at self.now.cells field.at) field.size offset) }
@@ -100,7 +100,7 @@ impl<'v, 'f, 't> FieldSource<'v, 'f, 't> {
 
 /// The offset that a field of the section of a number holds into a table.
 #[tactic(auto, using(crate::proofs::SourceLaws::offset_rules))]
-fn offset_there(view: &View, section: u32, number: u32, table: &[u8], field: TextField) -> u64
+fn offset_there(view: &View, section: u32, number: u32, table: &[u8], field: OffsetField) -> u64
     requires there { section < length view.now.sections }
     requires sized { (field.size ≡ 4) ⊎ (field.size ≡ 8) }
     requires inside { field.at + field.size ≤ length (view_cells view.now section) }
@@ -116,7 +116,7 @@ fn offset_there(view: &View, section: u32, number: u32, table: &[u8], field: Tex
 
 /// The number with which a field of the section of a number says another offset.
 #[tactic(auto, using(crate::proofs::SourceLaws::number_rules))]
-fn number_there(view: &View, section: u32, field: TextField, offset: u64) -> u64
+fn number_there(view: &View, section: u32, field: OffsetField, offset: u64) -> u64
     requires there { section < length view.now.sections }
     requires sized { (field.size ≡ 4) ⊎ (field.size ≡ 8) }
     requires inside { field.at + field.size ≤ length (view_cells view.now section) }
@@ -142,7 +142,7 @@ fn low_bytes(number: u64, size: u8) -> u64
 
 /// A field of the section of a number can say an offset.
 #[tactic(auto, using(crate::proofs::SourceLaws::makes_rules))]
-fn makes_there(view: &View, section: u32, field: TextField, offset: u64) -> bool
+fn makes_there(view: &View, section: u32, field: OffsetField, offset: u64) -> bool
     requires there { section < length view.now.sections }
     requires sized { (field.size ≡ 4) ⊎ (field.size ≡ 8) }
     requires inside { field.at + field.size ≤ length (view_cells view.now section) }

@@ -2,7 +2,7 @@
 //!
 //! Read first: `specs/NewStarts.antt`.
 
-ghost use Rattle.std.specs.Prelude.{◌≡◌, ◌<◌, ◌^◌};
+ghost use Rattle.std.specs.Prelude.{false, ◌≡◌, ◌<◌, ◌^◌};
 ghost use Rattle.std.specs.Option.{ForSome};
 ghost use Rattle.dw_base.specs.DebugData.{start_number};
 ghost use Rattle.dw_rewrite.specs.NewStarts.{StartChange, StartsFit, known_starts};
@@ -38,7 +38,7 @@ impl<'a> NewStarts<'a> {
 
     /// Where the table that started at a place starts anew. `None` exactly where none started there.
     pub(crate) fn get(&self, start: u64) -> Option<u64>
-        ensures value { result ≡ known_starts self.now start }
+        ensures value { result ≡ known_starts self.now false start }
         ensures fits { ForSome result (λ place. place < 2 ^ 32) }
     {
         start_among(self.old, self.new, start)
@@ -49,7 +49,7 @@ impl<'a> NewStarts<'a> {
 #[tactic(auto, using(crate::proofs::NewStartLaws::among_rules))]
 fn start_among(old: &[u64], new: &[u64], start: u64) -> Option<u64>
     requires fit { StartsFit (record { old = old.now; new = new.now }) }
-    ensures value { result ≡ known_starts (record { old = old.now; new = new.now }) start }
+    ensures value { result ≡ known_starts (record { old = old.now; new = new.now }) false start }
     ensures fits { ForSome result (λ place. place < 2 ^ 32) }
 {
     match start_number(old, start) {

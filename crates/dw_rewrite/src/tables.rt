@@ -9,23 +9,25 @@ ghost use Rattle.dw_base.specs.Refusals.{Blames};
 ghost use Rattle.dw_base.specs.StringTables.{table_bytes};
 ghost use Rattle.dw_base.specs.declared.debug_sections.DebugSection.TheVariants.{LineStr, Str};
 ghost use Rattle.dw_base.specs.declared.texts.TextSection.TheVariants.{InLineStr, InStr};
+ghost use Rattle.dw_find.specs.AllFields.{all_of};
 ghost use Rattle.dw_find.specs.ViewFields.{AllHaveOffsets, HasOffsets, fields_of, table_number};
-ghost use Rattle.dw_lines.specs.NewTexts.{texts_known};
-ghost use Rattle.dw_rewrite.specs.NewTables.{GrownBy, Growing, LongTable, TableMade, TablesRefuse, all_texts_at, fault_at, section_texts_at, source_in, table_with};
+ghost use Rattle.dw_lines.specs.NewTexts.{path_known, texts_known};
+ghost use Rattle.dw_rewrite.specs.NewTables.{GrownBy, GrownByAll, Growing, LongTable, TableMade, TablesRefuse, all_texts_at, fault_at, section_texts_at, source_in, table_with};
 
 use crate::change::note_fields;
 use crate::sources::FieldSource;
-use dw_base::{DebugSection, Fault, Refusal, TextField, TextSection};
-use dw_find::{SectionFields, table_number, table_texts};
+use dw_base::{DebugSection, Fault, Refusal, TextSection};
+use dw_find::{Fields, SectionFields, table_number, table_texts};
 use dw_lines::NewTexts;
+use dw_offsets::OffsetField;
 use dw_paths::Maps;
 use dw_strings::Pool;
 use dw_view::View;
 use std::alloc::Global;
 use std::collections::HashMap;
 
-/// The fields of paths' offsets into a table.
-pub(crate) fn fields_of(paths: &SectionFields, texts: TextSection) -> &[TextField]
+/// The fields of offsets into a table of texts.
+pub(crate) fn fields_of(paths: &SectionFields, texts: TextSection) -> &[OffsetField]
     ensures { result.now ≡ fields_of texts paths.now }
 {
     match texts {
@@ -69,12 +71,12 @@ pub(crate) fn new_tables(
     alloc: Global,
     view: &View,
     maps: &Maps,
-    paths: &[SectionFields],
+    paths: &Fields,
 ) -> Result<NewTables, Fault>
-    requires paths { AllHaveOffsets view.now paths.now }
-    ensures str { IfOk result (λ t. TableMade maps.now view.now InStr paths.now t.pool (texts_known t.texts Str)) }
-    ensures line_str { IfOk result (λ t. TableMade maps.now view.now InLineStr paths.now t.line_pool (texts_known t.texts LineStr)) }
-    ensures refused { IfErr result (Blames (TablesRefuse maps.now view.now paths.now)) }
+    requires paths { AllHaveOffsets view.now (all_of paths.now) }
+    ensures str { IfOk result (λ t. TableMade maps.now view.now InStr (all_of paths.now) t.pool (texts_known t.texts Str)) }
+    ensures line_str { IfOk result (λ t. TableMade maps.now view.now InLineStr (all_of paths.now) t.line_pool (texts_known t.texts LineStr)) }
+    ensures refused { IfErr result (Blames (TablesRefuse maps.now view.now (all_of paths.now))) }
 {
     let NewTable { pool, new_offsets } = new_table(alloc, view, maps, TextSection::InStr, paths)?;
     let NewTable {
@@ -106,11 +108,11 @@ fn new_table(
     view: &View,
     maps: &Maps,
     texts: TextSection,
-    paths: &[SectionFields],
+    paths: &Fields,
 ) -> Result<NewTable, Fault>
-    requires paths { AllHaveOffsets view.now paths.now }
-    ensures made { IfOk result (λ t. TableMade maps.now view.now texts paths.now t.pool (λ o. get nat_eq t.new_offsets o)) }
-    ensures refused { IfErr result (Blames (LongTable maps.now view.now texts paths.now)) }
+    requires paths { AllHaveOffsets view.now (all_of paths.now) }
+    ensures made { IfOk result (λ t. TableMade maps.now view.now texts (all_of paths.now) t.pool (path_known (λ o. get nat_eq t.new_offsets o))) }
+    ensures refused { IfErr result (Blames (LongTable maps.now view.now texts (all_of paths.now))) }
 {
     match grown_table(alloc, view, maps, texts, paths) {
         Ok(table) => Ok(table),
@@ -119,25 +121,67 @@ fn new_table(
 }
 
 /// The same, with a refusal at no section.
-#[tactic(auto, using(crate::proofs::GrowthLaws::grown_rules))]
 fn grown_table(
     alloc: Global,
     view: &View,
     maps: &Maps,
     texts: TextSection,
-    paths: &[SectionFields],
+    paths: &Fields,
 ) -> Result<NewTable, Fault>
-    requires paths { AllHaveOffsets view.now paths.now }
-    ensures made { IfOk result (λ t. TableMade maps.now view.now texts paths.now t.pool (λ o. get nat_eq t.new_offsets o)) }
-    ensures refused { IfErr result (Blames (TooLong (length (table_bytes (table_with view.now texts (all_texts_at maps.now view.now texts [] paths.now)))))) }
+    requires paths { AllHaveOffsets view.now (all_of paths.now) }
+    ensures made { IfOk result (λ t. TableMade maps.now view.now texts (all_of paths.now) t.pool (path_known (λ o. get nat_eq t.new_offsets o))) }
+    ensures refused { IfErr result (Blames (TooLong (length (table_bytes (table_with view.now texts (all_texts_at maps.now view.now texts [] (all_of paths.now))))))) }
 {
     let table = table_texts(view, texts);
     let mut pool = Pool::new(alloc, table)?;
     let mut new_offsets = HashMap::new(alloc);
-    for found in paths {
-        note_section(alloc, view, maps, texts, found, &mut pool, &mut new_offsets)?;
-    }
+    note_lists(alloc, view, maps, texts, paths, &mut pool, &mut new_offsets)?;
     Ok(NewTable { pool, new_offsets })
+}
+
+/// Notes the new places of the paths of all sections, kind by kind.
+#[tactic(auto, using(crate::proofs::ListGrowthLaws::list_rules))]
+fn note_lists(
+    alloc: Global,
+    view: &View,
+    maps: &Maps,
+    texts: TextSection,
+    paths: &Fields,
+    pool: &mut Pool,
+    new_offsets: &mut HashMap<u64, u64>,
+) -> Result<(), Fault>
+    requires paths { AllHaveOffsets view.now (all_of paths.now) }
+    requires growing { Growing maps.now view.now texts pool.old (path_known (λ o. get nat_eq new_offsets.old o)) }
+    ensures grown { OnOk result (GrownByAll maps.now view.now texts (all_of paths.now) pool.old pool.new (path_known (λ o. get nat_eq new_offsets.old o)) (path_known (λ o. get nat_eq new_offsets.new o))) }
+    ensures refused { IfErr result (Blames (TooLong (length (table_bytes (table_with view.now texts (all_texts_at maps.now view.now texts pool.old.texts (all_of paths.now))))))) }
+{
+    note_sections(alloc, view, maps, texts, paths.units(), pool, new_offsets)?;
+    note_sections(alloc, view, maps, texts, paths.slots(), pool, new_offsets)?;
+    note_sections(alloc, view, maps, texts, paths.lines(), pool, new_offsets)?;
+    note_sections(alloc, view, maps, texts, paths.macros(), pool, new_offsets)?;
+    note_sections(alloc, view, maps, texts, paths.names(), pool, new_offsets)?;
+    Ok(())
+}
+
+/// Notes the new places of the paths of these sections.
+fn note_sections(
+    alloc: Global,
+    view: &View,
+    maps: &Maps,
+    texts: TextSection,
+    sections: &[SectionFields],
+    pool: &mut Pool,
+    new_offsets: &mut HashMap<u64, u64>,
+) -> Result<(), Fault>
+    requires sections { AllHaveOffsets view.now sections.now }
+    requires growing { Growing maps.now view.now texts pool.old (path_known (λ o. get nat_eq new_offsets.old o)) }
+    ensures grown { OnOk result (GrownByAll maps.now view.now texts sections.now pool.old pool.new (path_known (λ o. get nat_eq new_offsets.old o)) (path_known (λ o. get nat_eq new_offsets.new o))) }
+    ensures refused { IfErr result (Blames (TooLong (length (table_bytes (table_with view.now texts (all_texts_at maps.now view.now texts pool.old.texts sections.now)))))) }
+{
+    for found in sections {
+        note_section(alloc, view, maps, texts, found, pool, new_offsets)?;
+    }
+    Ok(())
 }
 
 /// Notes the new places of the paths of a section.
@@ -152,8 +196,8 @@ fn note_section(
     new_offsets: &mut HashMap<u64, u64>,
 ) -> Result<(), Fault>
     requires paths { HasOffsets view.now found.now }
-    requires growing { Growing maps.now view.now texts pool.old (λ o. get nat_eq new_offsets.old o) }
-    ensures grown { OnOk result (GrownBy maps.now view.now texts found.now pool.old pool.new (λ o. get nat_eq new_offsets.old o) (λ o. get nat_eq new_offsets.new o)) }
+    requires growing { Growing maps.now view.now texts pool.old (path_known (λ o. get nat_eq new_offsets.old o)) }
+    ensures grown { OnOk result (GrownBy maps.now view.now texts found.now pool.old pool.new (path_known (λ o. get nat_eq new_offsets.old o)) (path_known (λ o. get nat_eq new_offsets.new o))) }
     ensures refused { IfErr result (Blames (TooLong (length (table_bytes (table_with view.now texts (section_texts_at maps.now view.now texts pool.old.texts found.now)))))) }
 {
     let source = text_source(view, texts, found.section);

@@ -3,7 +3,7 @@ use Rattle.std.proofs.Common.{ℕ, List, ap, ◌∙◌}
 use Rattle.std.proofs.lemmas.Result.{err_from_is_err_and}
 use Rattle.dw_rewrite.proofs.BodyRowLaws.{lines-fault, relocations-fault, tables-fault}
 use Rattle.dw_rewrite.proofs.FileMadeLaws.{known-here, made, pushed-behind}
-use Rattle.dw_rewrite.proofs.MadeBodyLaws.{have-offsets, lines-among, slices-fit, some-among}
+use Rattle.dw_rewrite.proofs.MadeBodyLaws.{have-offsets, slices-fit}
 use Rattle.dw_rewrite.proofs.bodies.new_bodies.Goals as goal
 
 pub returns-in_err-pool-clause-refused : goal.returns-in_err-pool-clause-refused
@@ -24,20 +24,11 @@ new-starts-requires c =
           c.as_slice.result.now c.as_slice-2.result.now c.requires.found c.in_ok-bytes.ensures.written c.in_ok-old.ensures c.as_slice.ensures.value c.as_slice-2.ensures.value c.in_ok-bytes.ensures.small;
     }
 
-pub without_lines-sections-requires : goal.without_lines-sections-requires
-without_lines-sections-requires c = record { lines = lines-among c.args.maps.now c.args.view.now c.args.paths.now c.args.tables.now c.requires.found }
-
-pub push_bodies-requires-clause-among : goal.push_bodies-requires-clause-among
-push_bodies-requires-clause-among c =
-    some-among c.args.maps.now c.args.view.now c.args.paths.now c.without_lines-sections.result.now c.args.tables.now c.requires.found c.without_lines-sections.ensures
-
 pub push_bodies-requires-clause-offsets : goal.push_bodies-requires-clause-offsets
-push_bodies-requires-clause-offsets c =
-    have-offsets c.args.maps.now c.args.view.now c.args.paths.now c.without_lines-sections.result.now c.args.tables.now c.requires.found c.without_lines-sections.ensures
+push_bodies-requires-clause-offsets c = have-offsets c.args.maps.now c.args.view.now c.args.paths.now c.args.tables.now c.requires.found
 
 pub push_relocations-requires-clause-offsets : goal.push_relocations-requires-clause-offsets
-push_relocations-requires-clause-offsets c =
-    have-offsets c.args.maps.now c.args.view.now c.args.paths.now c.without_lines-sections.result.now c.args.tables.now c.requires.found c.without_lines-sections.ensures
+push_relocations-requires-clause-offsets c = have-offsets c.args.maps.now c.args.view.now c.args.paths.now c.args.tables.now c.requires.found
 
 pub push_relocations-requires-clause-left : goal.push_relocations-requires-clause-left
 push_relocations-requires-clause-left c = c.requires.found.relocations.left
@@ -50,17 +41,17 @@ push_relocations-requires-clause-starts c =
 pub returns-in_err-push_relocations-clause-refused : goal.returns-in_err-push_relocations-clause-refused
 returns-in_err-push_relocations-clause-refused c =
     let p = err_from_is_err_and c.from_residual-in_err-push_relocations.result c.from_residual-in_err-push_relocations.ensures.1 in
-    rw (p.1, p.2) (relocations-fault c.args.maps.now c.args.sources.now c.args.view.now c.args.paths.now c.without_lines-sections.result.now c.args.tables.now _ _ _ _
+    rw (p.1, p.2) (relocations-fault c.args.maps.now c.args.sources.now c.args.view.now c.args.paths.now c.args.tables.now _ _ _ _
     c.in_ok-bytes.field-0.bytes.items c.in_ok-bytes.field-0.starts.items c.as_slice.result.now c.new-starts.result c.in_err-push_relocations.field-0.0 c.requires.view c.requires.found
     c.in_ok-pool.ensures.str c.in_ok-pool.ensures.line_str c.in_ok-bytes.ensures.written (c.as_slice.ensures.value ∙ c.in_ok-old.ensures)
-    (c.new-starts.ensures ∙ ap (λ (xs : List ℕ). record { old = c.as_slice.result.now; new = xs }) c.as_slice-2.ensures.value) c.without_lines-sections.ensures
+    (c.new-starts.ensures ∙ ap (λ (xs : List ℕ). record { old = c.as_slice.result.now; new = xs }) c.as_slice-2.ensures.value)
     c.in_err-push_relocations.ensures.refused)
 
 pub returns-clause-made : goal.returns-clause-made
 returns-clause-made c =
-    made c.args.maps.now c.args.sources.now c.args.view.now c.args.paths.now c.without_lines-sections.result.now c.args.tables.now _ _ _ _ c.in_ok-bytes.field-0.bytes.items
+    made c.args.maps.now c.args.sources.now c.args.view.now c.args.paths.now c.args.tables.now _ _ _ _ c.in_ok-bytes.field-0.bytes.items
     c.in_ok-bytes.field-0.starts.items c.as_slice.result.now c.new-starts.result _ _ c.requires.view c.requires.relocations c.requires.found c.in_ok-pool.ensures.str
     c.in_ok-pool.ensures.line_str c.in_ok-bytes.ensures.written (c.as_slice.ensures.value ∙ c.in_ok-old.ensures)
     (c.new-starts.ensures ∙ ap (λ (xs : List ℕ). record { old = c.as_slice.result.now; new = xs }) c.as_slice-2.ensures.value) c.lines_body-lines.ensures
-    c.without_lines-sections.ensures c.in_ok-push_relocations.ensures.makes c.in_ok-push_relocations.ensures.line_makes
+    c.in_ok-push_relocations.ensures.makes c.in_ok-push_relocations.ensures.line_makes
     (pushed-behind _ _ _ _ _ _ _ c.in_ok-bodies.ensures.bodies c.in_ok-push_bodies.ensures.bodies c.in_ok-push_relocations.ensures.bodies)

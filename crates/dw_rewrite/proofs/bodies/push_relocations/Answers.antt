@@ -8,10 +8,10 @@ use Rattle.dw_rewrite.specs.LineOffsets.{OffsetMisses, line_offsets}
 use Rattle.dw_rewrite.proofs.BodyRowLaws.{either-first, either-known}
 use Rattle.dw_rewrite.proofs.bodies.push_relocations.Goals as goal
 
-pub returns-in_err-push_records-clause-refused : goal.returns-in_err-push_records-clause-refused
-returns-in_err-push_records-clause-refused c =
+pub returns-in_err-push_standing-clause-refused : goal.returns-in_err-push_standing-clause-refused
+returns-in_err-push_standing-clause-refused c =
     let p = err_from_is_err_and c.from_residual.result c.from_residual.ensures.1 in
-    rw (p.1, p.2) (either-first _ _ c.in_err-push_records.field-0.0 c.in_err-push_records.ensures.refused)
+    rw (p.1, p.2) (either-first _ _ c.in_err-push_standing.field-0.0 c.in_err-push_standing.ensures.refused)
 
 pub returns-in_err-push_line_record-clause-refused : goal.returns-in_err-push_line_record-clause-refused
 returns-in_err-push_line_record-clause-refused c =

@@ -1,5 +1,5 @@
 -- A field that is set was free, and the others stay so.
-use Rattle.std.proofs.Common.{ap, ◌∙◌, arith}
+use Rattle.std.proofs.Common.{arith}
 use Rattle.std.proofs.lemmas.List.{get_or_default}
 use Rattle.dw_rewrite.proofs.FieldSetLaws.{pass-end, pass-free, pass-more}
 use Rattle.dw_rewrite.specs.NewPlaces.{places_known}
@@ -13,8 +13,8 @@ set_known-requires-clause-free c =
 pub loop-at-preserved : goal.loop-at-preserved
 loop-at-preserved c =
     pass-more c.args.source.now (places_known c.args.new_places.now c.args.into) c.args.fields.now c.args.patches.now c.loop-at.patches
-    c.set_known.new.patches c.loop-at.at-index _ c.get-new.result c.loop-at.invariant (omega arith)
-    (get_or_default c.args.fields.now c.loop-at.at-index _ _ (omega arith)) (c.get-new.ensures.value ∙ ap (places_known c.args.new_places.now c.args.into) c.offset-old.ensures.value) c.in_ok-set_known.ensures.set
+    c.set_known.new.patches c.loop-at.at-index _ c.place_for-new.result c.loop-at.invariant (omega arith)
+    (get_or_default c.args.fields.now c.loop-at.at-index _ _ (omega arith)) c.place_for-new.ensures.place c.in_ok-set_known.ensures.set
 
 pub returns-clause-set : goal.returns-clause-set
 returns-clause-set c =
