@@ -87,7 +87,7 @@ macros-there v front [] e has = record { readings = []; reads = tt; texts = tt }
 macros-there v front (z ∷ zs) e has =
     let u : HasMacroUnits v z.number = has front zs z e in
     let c : CellsOf v z.number z.contents = cells-of v front zs z e in
-    let here : PiecesRead v z.number z.contents (MacroText v) u.list =
+    let here : PiecesRead v z.number z.contents (MacroText v) u.list u.are =
     units-read v z.number z.contents (MacroText v) u.list c (texts-else v) (units-asked v z.number z.contents u.list c) u.are in
     let rest : MacrosThere v zs = macros-there v (front ++ z ∷ []) zs (e ∙ sym (append_assoc front (z ∷ []) zs)) has in
     record {
@@ -145,7 +145,7 @@ unfolding debug_data
 parts-read v units contributions lines macros tables =
     let o : OffsetsThere v = offsets-there v contributions.list contributions.are in
     let m : MacrosThere v (macro_sections v) = macros-there v [] (macro_sections v) refl macros in
-    let n : NamesRead v (cells_located v (section_named v (name_of Names))).contents = names-read v tables.list tables.are in
+    let n : NamesRead v (cells_located v (section_named v (name_of Names))).contents tables.list = names-read v tables.list tables.are in
     record {
       readings = record { units = units.units; offsets = o.pieces; lines = lines.lines; macros = m.readings; names = n.pieces };
       are = record { units = units.read; offsets = o.reads; lines = lines.are; macros = m.reads; names = n.reads };
