@@ -242,3 +242,14 @@ pub entry-there : (es : List (List ℕ)) (k place : ℕ) (d : List ℕ) (o : Opt
 entry-there es k place d o lt e = e ∙ ap (λ (xs : List ℕ). start_number 0 xs place) (entries-there es k d lt)
 
 pub ruleset there_laws = (entries-rise, entry-there)
+
+-- how many entries a unit has
+pub count-there : (es : List (List ℕ)) (k n : ℕ) (d : List ℕ) → k < length es → n ≡ length (get_or es k d) → n ≡ length (entries_at es k)
+count-there es k n d lt is = is ∙ ap length (entries-there es k d lt)
+
+pub count-past : (es : List (List ℕ)) (k : ℕ) → length es ≤ k → 0 ≡ length (entries_at es k)
+count-past [] k le = refl
+count-past (e ∷ es) zero le = absurd (omega (arith, le))
+count-past (e ∷ es) (suc k) le = count-past es k (omega (arith, le))
+
+pub ruleset counted_laws = (count-there, count-past)

@@ -178,7 +178,10 @@ impl EntryIndex {
     }
 
     /// How many entries the unit of a number has, none where there is no such unit.
-    pub(crate) fn count_in(&self, unit: u64) -> usize {
+    #[tactic(auto, using(crate::proofs::IndexEntryLaws::counted_laws))]
+    pub(crate) fn count_in(&self, unit: u64) -> usize
+        ensures count { result ≡ length (entries_at self.now.entries unit) }
+    {
         if unit < self.entries.len() as u64 {
             return self.entries[unit as usize].places.len();
         }

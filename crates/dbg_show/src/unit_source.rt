@@ -13,7 +13,7 @@ ghost use Rattle.dw_find.specs.LineStarts.{Rises};
 ghost use Rattle.dw_find.specs.UnitPlaces.{place_key};
 ghost use Rattle.dw_base.specs.TextIndexes.{holds_number};
 ghost use Rattle.dw_offsets.specs.SlotSearch.{BasesRise};
-ghost use Rattle.dbg_show.specs.EntryIndexes.{AreBefore, unit_number, unit_starts};
+ghost use Rattle.dbg_show.specs.EntryIndexes.{AreBefore, entries_at, unit_number, unit_starts};
 ghost use Rattle.dbg_show.specs.ShownUnits.{UnitSource as UnitSourceOf, index_text, info_section, lies_in, macro_named, first_macro, named_at, named_in, slot_field, slot_in, slot_size, slot_text};
 ghost use Rattle.dbg_show.specs.UnitReads.{SourceFits};
 ghost use Rattle.dw_base.specs.LineMeanings.{item_at};
@@ -111,7 +111,9 @@ impl<'v, 'f, 'u> UnitSource<'v, 'f, 'u> {
     }
 
     /// How many entries the unit of a number has.
-    pub(crate) fn entry_count(&self, unit: u64) -> usize {
+    pub(crate) fn entry_count(&self, unit: u64) -> usize
+        ensures count { result ≡ length (entries_at self.now.index.entries unit) }
+    {
         let index = self.index;
         index.count_in(unit)
     }
