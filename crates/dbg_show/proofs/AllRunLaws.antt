@@ -22,8 +22,8 @@ use Rattle.dw_meaning.proofs.DataRowLaws.{scanned-units}
 use Rattle.dw_meaning.proofs.PieceLaws.{leads-chain}
 use Rattle.dw_meaning.proofs.ScanBackLaws.{section-scanned}
 use Rattle.dw_find.proofs.IndexRunLaws.{run-begins}
-use Rattle.dbg_show.specs.UnitLists.{IsListed, AreListed, ListsAll, none_listed, more_listed}
-use Rattle.dbg_show.specs.declared.listed_unit.ListedUnit.{ListedUnit}
+use Rattle.dw_units.specs.UnitLists.{IsListed, AreListed, ListsAll, none_listed, more_listed}
+use Rattle.dw_units.specs.declared.listed_unit.ListedUnit.{ListedUnit}
 use Rattle.dw_base.specs.declared.debug_sections.DebugSection.TheVariants.{Info}
 use Rattle.dw_meaning.proofs.RunLaws.{PieceRun, run-more, run-none}
 use Rattle.dw_meaning.proofs.ScanSectionLaws.{before}
@@ -173,7 +173,7 @@ own-more d tables (y ∷ zs) (x ∷ os) z o each one = (each.0, own-more d table
 
 pub all-owned : (d : DebugData) (tables : List (List Abbreviation)) (zs : List UnitSection) (us : List ListedUnit) → ListsAll d tables zs us → Owned d tables zs us
 all-owned d tables zs us none_listed = record { owns = []; is = refl; each = tt }
-all-owned d tables all_zs all_us (more_listed zs us own z headers l units listed) =
+all-owned d tables all_zs all_us (more_listed zs us own z headers l units read listed) =
     let r : Owned d tables zs us = all-owned d tables zs us l in
     record {
       owns = r.owns ++ own ∷ [];

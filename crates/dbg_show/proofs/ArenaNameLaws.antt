@@ -13,7 +13,7 @@ use Rattle.dbg_show.specs.ArenaTexts.{HasArena}
 use Rattle.dbg_show.specs.EntryIndexes.{AreApart, end_key, start_key, unit_starts}
 use Rattle.dbg_show.specs.ShownUnits.{ShownUnit, entry_number, lies_in, named_in, number_in, or_behind, unit_entries}
 use Rattle.dbg_show.specs.UnitReads.{SourceFits}
-use Rattle.dbg_show.specs.declared.listed_unit.ListedUnit.{ListedUnit}
+use Rattle.dw_units.specs.declared.listed_unit.ListedUnit.{ListedUnit}
 use Rattle.dbg_show.proofs.ArenaTextLaws.{count-of, offset-of}
 use Rattle.dbg_show.proofs.EntryListLaws.{entries-are}
 use Rattle.dbg_show.proofs.EntryPrintLaws.{own-short}

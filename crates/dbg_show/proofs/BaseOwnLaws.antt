@@ -19,8 +19,8 @@ use Rattle.dw_base.specs.declared.units.UnitHeader.{UnitHeader}
 use Rattle.dw_base.specs.declared.values.Spec.{Spec}
 use Rattle.dw_base.specs.declared.values.Value.{Value}
 use Rattle.dbg_show.specs.ShownUnits.{UnitSource, base_number, first_base, shown_unit, unit_bytes, unit_entries}
-use Rattle.dbg_show.specs.UnitLists.{ListsAll}
-use Rattle.dbg_show.specs.declared.listed_unit.ListedUnit.{ListedUnit}
+use Rattle.dw_units.specs.UnitLists.{ListsAll}
+use Rattle.dw_units.specs.declared.listed_unit.ListedUnit.{ListedUnit}
 use Rattle.dbg_show.proofs.AllRunLaws.{EachNumbered, EachOut, all_out, all_pieces, all-said-out}
 use Rattle.dbg_show.proofs.BaseRunLaws.{base_says, bases_of, bases-all, class_base, no_base, or_base, unit-base, unit-bases, value_placed}
 use Rattle.dbg_show.proofs.PlaceRunLaws.{NoPremise, no-premises}

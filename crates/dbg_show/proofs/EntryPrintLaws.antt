@@ -6,7 +6,6 @@ use Rattle.dw_base.specs.AbbreviationTables.{Abbreviation, abbreviation_of}
 use Rattle.dw_base.specs.EntryValues.{HasUnit}
 use Rattle.dw_base.specs.FileViews.{View, section_bytes}
 use Rattle.dw_base.specs.Lebs.{uleb_at}
-use Rattle.dw_base.specs.LineMeanings.{item_at}
 use Rattle.dw_base.specs.UnitHeaders.{is_address_size}
 use Rattle.dw_base.specs.ViewData.{debug_data}
 use Rattle.dw_base.specs.declared.units.Scanned.{Scanned}
@@ -19,7 +18,7 @@ use Rattle.dbg_show.specs.Printing.{Printed, Cut}
 use Rattle.dbg_show.specs.ShownUnits.{UnitSource, ShownUnit, entries_text, entry_coded, entry_listed, entry_text, first_base, shown_unit, tabled_text, unit_bytes, unit_entries, values_shown}
 use Rattle.dbg_show.specs.UnitReads.{BytesFit, CanRead, EachReads}
 use Rattle.dbg_show.specs.UnitTexts.{entry_line}
-use Rattle.dbg_show.specs.declared.listed_unit.ListedUnit.{ListedUnit}
+use Rattle.dw_units.specs.declared.listed_unit.ListedUnit.{ListedUnit}
 use Rattle.dbg_show.specs.declared.show_err.ShowErr.{ShowErr}
 use Rattle.dbg_show.proofs.EntryPassLaws.{bytes-short}
 use Rattle.dbg_show.proofs.PrintingLaws.{goes-start, goes-over, printed-then, cut-then, cut-more}
@@ -101,9 +100,6 @@ each-there v tables u e = unit-there v u.header e.unit
 pub ruleset unit_laws = (each-there, printed-then, cut-then, cut-more)
 
 -- its table
-pub table-read : (v : View) (tables : List (List Abbreviation)) (u : ListedUnit) (t : List Abbreviation) → EachReads v tables u → Some t ≡ item_at tables u.table → CanRead v u.header t
-table-read v tables u t e is = e.reads t (sym is)
-
 pub tabled-printed : (g : UnitSource) (number : ℕ) (h : UnitHeader) (o : Option (List Abbreviation)) (t : List Abbreviation) (before behind : List ℕ) (old new : Heard) → Some t ≡ o
     → Printed (entries_text (shown_unit g number h t) 0 (unit_entries h t (unit_bytes g.view h))) before old new behind → Printed (tabled_text g number h o) before old new behind
 tabled-printed g number h o t before behind old new is p = subst (λ (x : Option (List Abbreviation)). Printed (tabled_text g number h x) before old new behind) is p
@@ -111,12 +107,6 @@ tabled-printed g number h o t before behind old new is p = subst (λ (x : Option
 pub tabled-cut : (g : UnitSource) (number : ℕ) (h : UnitHeader) (o : Option (List Abbreviation)) (t : List Abbreviation) (before : List ℕ) (old new : Heard) (e : ShowErr) → Some t ≡ o
     → Cut (before ++ entries_text (shown_unit g number h t) 0 (unit_entries h t (unit_bytes g.view h))) old new e → Cut (before ++ tabled_text g number h o) old new e
 tabled-cut g number h o t before old new e is c = subst (λ (x : Option (List Abbreviation)). Cut (before ++ tabled_text g number h x) old new e) is c
-
-pub tabled-none : (g : UnitSource) (number : ℕ) (h : UnitHeader) (o : Option (List Abbreviation)) (before : List ℕ) (heard : Heard) → None ≡ o
-    → Printed (tabled_text g number h o) before heard heard before
-tabled-none g number h o before heard is = nothing before heard (tabled_text g number h o) (ap (tabled_text g number h) (sym is))
-
-pub ruleset tabled_laws = (table-read, tabled-printed, tabled-cut, tabled-none)
 
 -- what is known of a unit with its table
 pub unit-address : (v : View) (h : UnitHeader) (t : List Abbreviation) → CanRead v h t → IsTrue (is_address_size h.params.address)

@@ -17,13 +17,15 @@ use Rattle.dw_find.specs.LineStarts.{HasStart, IsStartGap, Rises}
 use Rattle.dbg_show.specs.EntryIndexes.{AreBefore, EachRises, IsIndexed, entries_at, offsets_of, start_key, tabled_offsets, unit_offsets, unit_starts}
 use Rattle.dbg_show.specs.ShownUnits.{EntryIndex, entry_number, number_in, unit_bytes, unit_entries}
 use Rattle.dbg_show.specs.UnitReads.{AllCanRead, CanRead, EachReads}
-use Rattle.dbg_show.specs.declared.listed_unit.ListedUnit.{ListedUnit}
+use Rattle.dw_units.specs.declared.listed_unit.ListedUnit.{ListedUnit}
 use Rattle.dbg_show.proofs.EntryListLaws.{PassAt, entries-are, pass-ends, pass-first, pass-more, pass-scans, spells-after}
 use Rattle.dbg_show.proofs.EntryPlaceLaws.{AllInside, entries-inside}
 use Rattle.dbg_show.proofs.EntryPassLaws.{bytes-short}
 use Rattle.dbg_show.proofs.IndexUnitLaws.{Climbs, climbs-rise}
 use Rattle.dbg_show.proofs.UnitStartLaws.{unit-some}
 use Rattle.dw_base.proofs.LebLaws.{uleb-some}
+use Rattle.dw_units.specs.UnitLists.{IsTableOf, Units}
+use Rattle.dw_units.proofs.UnitTableLaws.{unit-table}
 
 -- the number of an entry is that of its place
 pub number-offset : (n place : ℕ) (es : List Scanned) → start_number n (offsets_of es) place ≡ entry_number n place es
@@ -148,17 +150,10 @@ tabled-number v h place (Some table) = number-offset 0 place (unit_entries h tab
 
 pub ruleset kept_laws = (kept-starts, kept-more, kept-over, entry-small)
 
--- without a table there are none
-pub offsets-none : (v : View) (h : UnitHeader) (o : Option (List Abbreviation)) → None ≡ o → [] ≡ tabled_offsets v h o
-offsets-none v h o e = ap (tabled_offsets v h) e
-
-pub offsets-some : (v : View) (h : UnitHeader) (o : Option (List Abbreviation)) (t : List Abbreviation) → Some t ≡ o → offsets_of (unit_entries h t (unit_bytes v h)) ≡ tabled_offsets v h o
-offsets-some v h o t e = ap (tabled_offsets v h) e
-
-pub listed-reads : (v : View) (tables : List (List Abbreviation)) (u : ListedUnit) (t : List Abbreviation) → EachReads v tables u → Some t ≡ item_at tables u.table → CanRead v u.header t
-listed-reads v tables u t reads e = reads.reads t (sym e)
-
-pub ruleset listed_laws = (offsets-none, offsets-some, listed-reads)
+-- those of a unit with its own table
+pub listed-offsets : (v : View) (us : Units) (n : ℕ) (u : ListedUnit) (t s : List Abbreviation) → IsTableOf us n t → item_at us.units n ≡ Some u → s ≡ t
+    → offsets_of (unit_entries u.header s (unit_bytes v u.header)) ≡ tabled_offsets v u.header (item_at us.tables u.table)
+listed-offsets v us n u t s of there same = ap (tabled_offsets v u.header) (sym (unit-table us n u t s of there same))
 
 -- a unit starts in a section
 pub start-small : (v : View) (tables : List (List Abbreviation)) (u : ListedUnit) → EachReads v tables u → u.header.start < 2 ^ 32

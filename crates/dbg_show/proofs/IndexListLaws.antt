@@ -11,8 +11,8 @@ use Rattle.dw_find.specs.UnitPlaces.{place_key}
 use Rattle.dw_base.proofs.HeaderOfLaws.{header-of}
 use Rattle.dw_meaning.proofs.ScanSectionLaws.{header-placed}
 use Rattle.dbg_show.specs.EntryIndexes.{AreApart, StandApart, end_key, start_key}
-use Rattle.dbg_show.specs.UnitLists.{AreListed, ListsAll, none_listed, more_listed}
-use Rattle.dbg_show.specs.declared.listed_unit.ListedUnit.{ListedUnit}
+use Rattle.dw_units.specs.UnitLists.{AreListed, ListsAll, none_listed, more_listed}
+use Rattle.dw_units.specs.declared.listed_unit.ListedUnit.{ListedUnit}
 use Rattle.dbg_show.proofs.AllRunLaws.{LastListed, last-listed}
 use Rattle.dbg_show.proofs.UnitStartLaws.{unit-some}
 use Rattle.dw_base.specs.declared.debug_sections.DebugSection.TheVariants.{Info}
@@ -103,7 +103,7 @@ numbers-rise i (s ∷ ss) =
 all-apart : (d : DebugData) (tables : List (List Abbreviation)) (zs : List UnitSection) (us : List ListedUnit) (q : ℕ) → ListsAll d tables zs us → NumbersRise 0 zs q
     → AreApart 0 us (place_key q 0)
 all-apart d tables zs us q none_listed n = omega arith
-all-apart d tables all whole q (more_listed zs us own z headers l units listed) n =
+all-apart d tables all whole q (more_listed zs us own z headers l units read listed) n =
     let r : LastNumber 0 zs z q = last-number 0 zs z q n in
     let below = r.below in
     let section : SectionApart z own (length z.contents) = section-apart d tables z headers (length z.contents) own units listed in

@@ -11,7 +11,7 @@ use Rattle.dw_find.specs.LineStarts.{Rises}
 use Rattle.dw_find.specs.UnitPlaces.{place_key}
 use Rattle.dbg_show.specs.EntryIndexes.{AreApart, AreBefore, end_key, start_key, unit_starts}
 use Rattle.dbg_show.specs.ShownUnits.{lies_in, named_in, number_in, or_behind}
-use Rattle.dbg_show.specs.declared.listed_unit.ListedUnit.{ListedUnit}
+use Rattle.dw_units.specs.declared.listed_unit.ListedUnit.{ListedUnit}
 
 -- numbers that rise from one on
 abbrev pub Climbs : ℕ → List ℕ → Type 0

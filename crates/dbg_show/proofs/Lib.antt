@@ -33,10 +33,10 @@ pub mod SourceLaws
 pub mod ShownLaws
 pub mod ArenaTextLaws
 pub mod SectionNameLaws
+pub mod UnitRowLaws
 pub mod BaseLaws
 pub mod EntryPrintLaws
 pub mod ArenaNameLaws
-pub mod UnitListLaws
 pub mod MacroListLaws
 pub mod MacroLoopLaws
 pub mod MacroStartLaws

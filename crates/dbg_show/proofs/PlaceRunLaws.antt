@@ -16,9 +16,9 @@ use Rattle.dw_base.specs.ValueMeanings.{ValueMeaning, entry_of, stray, found_ent
 use Rattle.dw_base.specs.ViewData.{debug_data}
 use Rattle.dw_base.specs.declared.units.UnitHeader.{UnitHeader}
 use Rattle.dbg_show.specs.ShownUnits.{UnitSource, entry_number, entry_shown, lies_in, named_in, number_in, or_behind, reference_said, unit_bytes, unit_entries}
-use Rattle.dbg_show.specs.UnitLists.{ListsAll}
+use Rattle.dw_units.specs.UnitLists.{ListsAll}
 use Rattle.dbg_show.specs.UnitTexts.{value_said}
-use Rattle.dbg_show.specs.declared.listed_unit.ListedUnit.{ListedUnit}
+use Rattle.dw_units.specs.declared.listed_unit.ListedUnit.{ListedUnit}
 use Rattle.dbg_show.proofs.AllRunLaws.{Among, EachNumbered, EachOut, EachUnit, UnitHolds, all_out, all_pieces, all-said-out, all-hold}
 use Rattle.dbg_show.proofs.EntryPlaceLaws.{AllInside, all-places, entries-inside, found-elsewhere, found-listed, found_or, listed_places, no_place, number-lies, one_place, places-out, places-said, places_of}
 use Rattle.dbg_show.proofs.UnitFactLaws.{UnitFacts, unit-facts}

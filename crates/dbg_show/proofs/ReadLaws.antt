@@ -44,11 +44,11 @@ use Rattle.dbg_show.specs.ReadTables.{AllIn, read_text, all_read, TablesMeant, V
 use Rattle.dbg_show.specs.Rows.{rows_text}
 use Rattle.dbg_show.specs.ShownMacros.{AreMacros, MacroSource, MacrosFit, units_shown}
 use Rattle.dbg_show.specs.ShownUnits.{EntryIndex, UnitSource}
-use Rattle.dbg_show.specs.UnitLists.{ListsAll}
+use Rattle.dw_units.specs.UnitLists.{ListsAll}
 use Rattle.dbg_show.specs.UnitReads.{AllCanRead, SourceFits}
 use Rattle.dbg_show.specs.UnitTexts.{units_text}
 use Rattle.dbg_show.specs.ViewSources.{AreSources, all_printed}
-use Rattle.dbg_show.specs.declared.listed_unit.ListedUnit.{ListedUnit}
+use Rattle.dw_units.specs.declared.listed_unit.ListedUnit.{ListedUnit}
 use Rattle.dbg_show.specs.Shows.{ShowReads, IsShown, ShowRefuses, unreadable, ShowEnds, refused, unread, cut, view_text}
 use Rattle.dbg_show.specs.declared.show_err.ShowErr.{ShowErr}
 use Rattle.dbg_show.specs.declared.show_err.ShowErr.TheVariants as err
@@ -279,13 +279,7 @@ sources-are v us tables index cs_ starts macros keys ts ss t listed indexed are 
   macros = macros-shown (macros_of v starts macros keys) ts ss t.read is list;
 }
 
--- the units are those of a list that was read
-pub units-listed : (v : View) (us vs : List ListedUnit) (tables abbrevs : List (List Abbreviation)) → us ≡ vs → tables ≡ abbrevs → ListsAll (debug_data v) abbrevs ((debug_data v).found Info) vs
-    → ListsAll (debug_data v) tables ((debug_data v).found Info) us
-units-listed v us vs tables abbrevs is are listed =
-    subst (λ (xs : List ListedUnit). ListsAll (debug_data v) tables ((debug_data v).found Info) xs) (sym is)
-    (subst (λ (xs : List (List Abbreviation)). ListsAll (debug_data v) xs ((debug_data v).found Info) vs) (sym are) listed)
-
+-- the macro units are those of a list that was read
 pub macros-listed : (v : View) (ss : List SectionUnits) (us ws : List MacroUnit) (keys numbers : List ℕ) → us ≡ ws → keys ≡ numbers → AreMacros v ss ws numbers → AreMacros v ss us keys
 macros-listed v ss us ws keys numbers is are list =
     subst (λ (xs : List MacroUnit). AreMacros v ss xs keys) (sym is) (subst (AreMacros v ss ws) (sym are) list)

@@ -9,7 +9,7 @@ use Rattle.dw_base.proofs.ViewOffsetLaws.{kind_at-there}
 use Rattle.dw_entries.specs.ViewUnits.{IsUnitSection, unit_section_at}
 use Rattle.dw_entries.proofs.UnitSectionLaws.{found-section}
 use Rattle.dbg_show.specs.UnitTexts.{kind_name}
-use Rattle.dbg_show.proofs.UnitListLaws.{section-within}
+use Rattle.dw_units.proofs.HeaderListLaws.{section-within}
 
 kind-there : (v : View) (n : ℕ) → IsUnitSection v n → unit_kind (kind_at v n) ≡ Some (unit_section_at v n).kind
 kind-there v n there =

@@ -1,7 +1,6 @@
 -- Units are printed one after another: each with its entries, each entry with its attributes.
-use Rattle.std.proofs.Common.{zero, suc, ◌≡◌, ℕ, ◌+◌, ◌<◌, ◌≤◌, ◌^◌, List, [], ◌∷◌, ◌++◌, length, take, drop, drop-cons, get_or, Option, Some, None, refl, sym, ap, ◌∙◌, subst, arith, append_assoc, append-nil}
+use Rattle.std.proofs.Common.{suc, ◌≡◌, ℕ, ◌+◌, ◌<◌, ◌≤◌, ◌^◌, List, [], ◌∷◌, ◌++◌, length, take, drop, drop-cons, get_or, Option, Some, None, sym, ap, ◌∙◌, subst, arith, append_assoc, append-nil}
 use Rattle.std.proofs.lemmas.List.{drop_all, length-take}
-use Rattle.dw_base.specs.LineMeanings.{item_at}
 use Rattle.dw_base.specs.Values.{value_at}
 use Rattle.dw_base.specs.declared.shared.Params.{Params}
 use Rattle.dw_base.specs.declared.units.Scanned.{Scanned}
@@ -13,7 +12,7 @@ use Rattle.dbg_show.specs.Printing.{Printed, Cut, Goes}
 use Rattle.dbg_show.specs.ShownUnits.{UnitSource, ShownUnit, all_shown, entries_text, entry_shown, entry_text, indexed_said, named_in, one_shown, reference_said, table_said, value_shown, values_behind, values_shown}
 use Rattle.dbg_show.specs.UnitReads.{AllCanRead, BytesFit, ShownFits, SourceFits}
 use Rattle.dbg_show.specs.UnitTexts.{attribute_line, bytes_said, lines_said, stray_said, text_said}
-use Rattle.dbg_show.specs.declared.listed_unit.ListedUnit.{ListedUnit}
+use Rattle.dw_units.specs.declared.listed_unit.ListedUnit.{ListedUnit}
 use Rattle.dbg_show.specs.declared.show_err.ShowErr.{ShowErr}
 use Rattle.dbg_show.proofs.PrintingLaws.{goes-start, goes-more, goes-over, goes-cut}
 use Rattle.dbg_show.proofs.SourceLaws.{each-reads, past-none}
@@ -135,11 +134,6 @@ unit-first : (g : UnitSource) (us : List ListedUnit) (i : ℕ) (d : ListedUnit) 
 unit-first g us i d lt =
     let next : suc i ≡ i + 1 = omega arith in
     ap (all_shown g i) (drop-cons us i d lt) ∙ ap (λ (n : ℕ). one_shown g i (get_or us i d) ++ all_shown g (i + 1) (drop n us)) next
-
-pub unit-listed : (us : List ListedUnit) (i : ℕ) (d : ListedUnit) → i < length us → item_at us i ≡ Some (get_or us i d)
-unit-listed [] i d lt = absurd (omega (arith, lt))
-unit-listed (u ∷ us) zero d lt = refl
-unit-listed (u ∷ us) (suc i) d lt = unit-listed us i d (omega (arith, lt))
 
 pub units-start : (g : UnitSource) (us : List ListedUnit) (before : List ℕ) (h : Heard) → Goes (all_shown g 0 us) (all_shown g 0 (drop 0 us)) before h h before
 units-start g us before h = goes-start (all_shown g 0 us) before h

@@ -16,7 +16,7 @@ use Rattle.dw_offsets.specs.SlotSearch.{BasesRise, HasBase, IsBaseGap, base_at}
 use Rattle.dbg_show.specs.EntryIndexes.{AreBefore, EachRises, entries_at, unit_number, unit_offsets, unit_starts}
 use Rattle.dbg_show.specs.ShownUnits.{UnitSource, lies_in, named_in, number_in, or_behind, slot_in, slot_size}
 use Rattle.dbg_show.specs.UnitReads.{EachReads, AllCanRead, SourceFits}
-use Rattle.dbg_show.specs.declared.listed_unit.ListedUnit.{ListedUnit}
+use Rattle.dw_units.specs.declared.listed_unit.ListedUnit.{ListedUnit}
 use Rattle.dbg_show.proofs.IndexEntryLaws.{each-rises, tabled-number}
 use Rattle.dbg_show.proofs.IndexUnitLaws.{here_at, named-first, named-last, starts-length, unit-starts-rise}
 
@@ -73,19 +73,6 @@ pub size-missing : (list : List Contribution) (base i : ℕ) → IsBaseGap list 
 size-missing list base i gap = size-absent list base (λ k lt. other-base list base i k gap lt)
 
 pub ruleset size_laws = (size-there, size-missing)
-
--- the item of a number
-pub item-there : (tables : List (List Abbreviation)) (i : ℕ) (d t : List Abbreviation) → i < length tables → t ≡ get_or tables i d → Some t ≡ item_at tables i
-item-there [] i d t lt e = absurd (omega (arith, lt))
-item-there (x ∷ xs) zero d t lt e = ap (λ (y : List Abbreviation). Some y) e
-item-there (x ∷ xs) (suc i) d t lt e = item-there xs i d t (omega (arith, lt)) e
-
-pub item-none : (tables : List (List Abbreviation)) (i : ℕ) → length tables ≤ i → None ≡ item_at tables i
-item-none [] i le = refl
-item-none (x ∷ xs) zero le = absurd (omega (arith, le))
-item-none (x ∷ xs) (suc i) le = item-none xs i (omega (arith, le))
-
-pub ruleset item_laws = (item-there, item-none)
 
 -- units, one after another
 pub each-reads : (v : View) (tables : List (List Abbreviation)) (us : List ListedUnit) (i : ℕ) (d : ListedUnit) → AllCanRead v tables us → i < length us → EachReads v tables (get_or us i d)

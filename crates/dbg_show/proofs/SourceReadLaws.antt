@@ -26,10 +26,10 @@ use Rattle.dw_find.proofs.TableStartLaws.{read-starts}
 use Rattle.dbg_show.specs.EntryIndexes.{IsIndexed}
 use Rattle.dbg_show.specs.ShownMacros.{AreMacros}
 use Rattle.dbg_show.specs.ShownUnits.{UnitSource, all_shown, first_macro}
-use Rattle.dbg_show.specs.UnitLists.{ListsAll}
+use Rattle.dw_units.specs.UnitLists.{ListsAll}
 use Rattle.dbg_show.specs.UnitReads.{AllCanRead, EachReads, SourceFits}
 use Rattle.dbg_show.specs.UnitTexts.{units_text}
-use Rattle.dbg_show.specs.declared.listed_unit.ListedUnit.{ListedUnit}
+use Rattle.dw_units.specs.declared.listed_unit.ListedUnit.{ListedUnit}
 use Rattle.dbg_show.proofs.AllRunLaws.{EachUnit, all-hold}
 use Rattle.dbg_show.proofs.IndexListLaws.{stand-apart}
 use Rattle.dbg_show.proofs.InfoLaws.{info-is}

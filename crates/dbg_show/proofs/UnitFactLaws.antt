@@ -22,9 +22,9 @@ use Rattle.dw_base.proofs.HeaderOfLaws.{header-of}
 use Rattle.dw_meaning.proofs.ScanSectionLaws.{header-placed}
 use Rattle.dw_meaning.proofs.UnitOneLaws.{header-tests}
 use Rattle.dbg_show.specs.ShownUnits.{unit_bytes, unit_entries}
-use Rattle.dbg_show.specs.UnitLists.{IsListed}
+use Rattle.dw_units.specs.UnitLists.{IsListed}
 use Rattle.dbg_show.specs.UnitReads.{EachReads}
-use Rattle.dbg_show.specs.declared.listed_unit.ListedUnit.{ListedUnit}
+use Rattle.dw_units.specs.declared.listed_unit.ListedUnit.{ListedUnit}
 use Rattle.dbg_show.proofs.AllRunLaws.{Among}
 use Rattle.dbg_show.proofs.EntryListLaws.{entries-are}
 use Rattle.dw_base.specs.declared.debug_sections.DebugSection.TheVariants.{Info}

@@ -26,9 +26,9 @@ use Rattle.dw_entries.proofs.HasUnitLaws.{numbered-section}
 use Rattle.dw_find.specs.UnitPlaces.{unit_number}
 use Rattle.dbg_show.specs.PieceTexts.{all_said, mark_said}
 use Rattle.dbg_show.specs.ShownUnits.{UnitSource, all_shown, entries_text, first_base, first_macro, header_line, index_shown, info_section, one_shown, shown_unit, tabled_text, unit_bytes, unit_entries}
-use Rattle.dbg_show.specs.UnitLists.{ListsAll}
+use Rattle.dw_units.specs.UnitLists.{ListsAll}
 use Rattle.dbg_show.specs.UnitTexts.{kind_name, section_name, unit_line, units_text, value_said}
-use Rattle.dbg_show.specs.declared.listed_unit.ListedUnit.{ListedUnit}
+use Rattle.dw_units.specs.declared.listed_unit.ListedUnit.{ListedUnit}
 use Rattle.dbg_show.proofs.AllRunLaws.{Among, EachOut, all_out, all_pieces, all-said-out}
 use Rattle.dbg_show.proofs.BaseOwnLaws.{HasBase, all-based, in-shown, offsets_in, tabled_base}
 use Rattle.dbg_show.proofs.ForestTextLaws.{all-said}

@@ -7,7 +7,7 @@ use Rattle.dw_base.specs.declared.units.UnitHeader.{UnitHeader}
 use Rattle.entry_arena.specs.UnitArenas.{IsArenaOf}
 use Rattle.entry_arena.specs.declared.arena.EntryNode.{EntryNode}
 use Rattle.dbg_show.specs.ShownUnits.{ShownUnit, UnitSource, unit_bytes}
-use Rattle.dbg_show.specs.declared.listed_unit.ListedUnit.{ListedUnit}
+use Rattle.dw_units.specs.declared.listed_unit.ListedUnit.{ListedUnit}
 
 -- where its values end isn't asked for
 abbrev pub node_entry : EntryNode → ℕ → Scanned

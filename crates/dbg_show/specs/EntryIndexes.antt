@@ -9,7 +9,7 @@ use Rattle.dw_base.specs.declared.units.UnitHeader.{UnitHeader}
 use Rattle.dw_find.specs.LineStarts.{Rises}
 use Rattle.dw_find.specs.UnitPlaces.{place_key}
 use Rattle.dbg_show.specs.ShownUnits.{EntryIndex, number_in, unit_bytes, unit_entries}
-use Rattle.dbg_show.specs.declared.listed_unit.ListedUnit.{ListedUnit}
+use Rattle.dw_units.specs.declared.listed_unit.ListedUnit.{ListedUnit}
 
 abbrev pub start_key : UnitHeader → ℕ
 start_key h = place_key h.section h.start

@@ -8,7 +8,6 @@ pub mod ShownUnits
 pub mod ArenaTexts
 pub mod EntryIndexes
 pub mod UnitReads
-pub mod UnitLists
 pub mod MacroTexts
 pub mod ShownMacros
 pub mod Printing

@@ -32,7 +32,7 @@ use Rattle.dw_base.specs.declared.view_fields.Field.{Field}
 use Rattle.dw_base.specs.declared.view_fields.Field.TheVariants.{Num, Into, Sym}
 use Rattle.dw_entries.specs.ViewUnits.{unit_section_at}
 use Rattle.dw_find.specs.UnitPlaces.{unit_number}
-use Rattle.dbg_show.specs.declared.listed_unit.ListedUnit.{ListedUnit}
+use Rattle.dw_units.specs.declared.listed_unit.ListedUnit.{ListedUnit}
 use Rattle.dbg_show.specs.UnitTexts.{attribute_line, bytes_said, entry_line, entry_said, field_said, kind_name, lines_said, macros_said, relocation_said, signed_said, stray_said, text_said, unit_line}
 use Rattle.dw_base.specs.Roles.{is_macros}
 use Rattle.dw_base.specs.TableStarts.{is_start_form, own_form}

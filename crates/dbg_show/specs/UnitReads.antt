@@ -11,7 +11,7 @@ use Rattle.dw_base.specs.declared.units.Scanned.{Scanned}
 use Rattle.dw_base.specs.declared.units.UnitHeader.{UnitHeader}
 use Rattle.dw_entries.specs.ViewUnits.{unit_section_at}
 use Rattle.dw_find.specs.LineStarts.{Rises}
-use Rattle.dbg_show.specs.declared.listed_unit.ListedUnit.{ListedUnit}
+use Rattle.dw_units.specs.declared.listed_unit.ListedUnit.{ListedUnit}
 use Rattle.dbg_show.specs.EntryIndexes.{IsIndexed, StandApart}
 use Rattle.dbg_show.specs.ShownUnits.{UnitSource, ShownUnit, unit_bytes}
 

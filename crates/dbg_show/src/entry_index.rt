@@ -2,7 +2,7 @@
 //!
 //! Read first: `specs/EntryIndexes.antt`.
 
-ghost use Rattle.std.specs.Prelude.{◌≡◌, ◌+◌, ◌<◌, ◌^◌, List, ℕ, length, option_map, IfErr, IfOk};
+ghost use Rattle.std.specs.Prelude.{◌≡◌, ◌+◌, ◌<◌, ◌^◌, List, ℕ, length, IfErr, IfOk, Some};
 ghost use Rattle.dw_base.specs.DebugData.{start_number};
 ghost use Rattle.dw_base.specs.LineMeanings.{item_at};
 ghost use Rattle.dw_find.specs.LineStarts.{HasStart, IsStartGap, Rises};
@@ -11,13 +11,13 @@ ghost use Rattle.dbg_show.specs.EntryIndexes.{AreBefore, EachRises, IsIndexed, e
 ghost use Rattle.dbg_show.specs.ShownUnits.{EntryIndex as EntryIndexOf, unit_bytes, unit_entries};
 ghost use Rattle.dbg_show.specs.UnitReads.{AllCanRead, CanRead, EachReads};
 
-use crate::listed_unit::ListedUnit;
 use dw_abbrev::AbbrevTable;
-use dw_base::UnitHeader;
+use dw_base::{NoMemory, UnitHeader};
 use dw_entries::EntryScan;
 use dw_find::{place_key, with_start};
+use dw_units::{ListedUnit, Units};
 use dw_view::View;
-use std::alloc::{AllocError, Global};
+use std::alloc::Global;
 use std::marker::Model;
 
 /// Where the entries of a unit start in its section, in order. A section is shorter than 2^31 bytes.
@@ -45,17 +45,6 @@ impl Model for EntryIndex {
     ghost view = { λ x. record { starts = x.starts.items; entries = x.entries.items } };
 }
 
-/// A table of a number.
-#[tactic(auto, using(crate::proofs::SourceLaws::item_laws))]
-pub(crate) fn table_at<'u>(tables: &'u [AbbrevTable], number: u64) -> Option<&'u AbbrevTable>
-    ensures table { option_map (λ t. t.now) result ≡ item_at tables.now number }
-{
-    if number < tables.len() as u64 {
-        return Some(&tables[number as usize]);
-    }
-    None
-}
-
 /// Where the entries of a unit start.
 #[tactic(auto, using(crate::proofs::IndexEntryLaws::kept_laws))]
 fn entry_places(
@@ -63,7 +52,7 @@ fn entry_places(
     view: &View,
     unit: &UnitHeader,
     table: &AbbrevTable,
-) -> Result<UnitEntries, AllocError>
+) -> Result<UnitEntries, NoMemory>
     requires reads { CanRead view.now unit.now table.now }
     ensures places { IfOk result (λ e. e ≡ offsets_of (unit_entries unit.now table.now (unit_bytes view.now unit.now))) }
 {
@@ -77,23 +66,21 @@ fn entry_places(
     Ok(UnitEntries { places })
 }
 
-/// The same, where the unit's table is one of these.
-#[tactic(auto, using(crate::proofs::IndexEntryLaws::listed_laws))]
+/// The same, where the unit is that of a number.
 fn listed_entries(
     alloc: Global,
     view: &View,
-    tables: &[AbbrevTable],
+    units: &Units,
+    number: usize,
     unit: &ListedUnit,
-) -> Result<UnitEntries, AllocError>
-    requires unit { EachReads view.now tables.now unit.now }
-    ensures places { IfOk result (λ e. e ≡ tabled_offsets view.now unit.now.header (item_at tables.now unit.now.table)) }
+) -> Result<UnitEntries, NoMemory>
+    requires unit { EachReads view.now units.now.tables unit.now }
+    requires there { item_at units.now.units number ≡ Some unit.now }
+    ensures places { IfOk result (λ e. e ≡ tabled_offsets view.now unit.now.header (item_at units.now.tables unit.now.table)) }
 {
-    match table_at(tables, unit.table) {
-        Some(table) => entry_places(alloc, view, &unit.header, table),
-        None => Ok(UnitEntries {
-            places: Vec::new(alloc),
-        }),
-    }
+    let table = units.table(alloc, number)?;
+    let found = entry_places(alloc, view, &unit.header, table.get())?;
+    Ok(found)
 }
 
 /// Where a unit starts.
@@ -137,25 +124,34 @@ fn entry_number(places: &[u32], place: u32) -> Option<u64>
     }
 }
 
+/// The index of units that can be read, of which this is the list.
+#[tactic(auto, using(crate::proofs::IndexEntryLaws::index_laws))]
+fn index_of(
+    alloc: Global,
+    view: &View,
+    units: &Units,
+    list: &[ListedUnit],
+) -> Result<EntryIndex, NoMemory>
+    requires units { AllCanRead view.now units.now.tables list.now }
+    requires all { list.now ≡ units.now.units }
+    ensures index { IfOk result (IsIndexed view.now units.now.tables list.now) }
+{
+    let mut starts = Vec::new(alloc);
+    let mut entries = Vec::new(alloc);
+    for (number, unit) in list.iter().enumerate() {
+        starts.push(unit_start(unit))?;
+        entries.push(listed_entries(alloc, view, units, number, unit)?)?;
+    }
+    Ok(EntryIndex { starts, entries })
+}
+
 impl EntryIndex {
     /// The index of units that can be read.
-    #[tactic(auto, using(crate::proofs::IndexEntryLaws::index_laws))]
-    pub(crate) fn read(
-        alloc: Global,
-        view: &View,
-        tables: &[AbbrevTable],
-        units: &[ListedUnit],
-    ) -> Result<EntryIndex, AllocError>
-        requires units { AllCanRead view.now tables.now units.now }
-        ensures index { IfOk result (IsIndexed view.now tables.now units.now) }
+    pub(crate) fn read(alloc: Global, view: &View, units: &Units) -> Result<EntryIndex, NoMemory>
+        requires units { AllCanRead view.now units.now.tables units.now.units }
+        ensures index { IfOk result (IsIndexed view.now units.now.tables units.now.units) }
     {
-        let mut starts = Vec::new(alloc);
-        let mut entries = Vec::new(alloc);
-        for unit in units {
-            starts.push(unit_start(unit))?;
-            entries.push(listed_entries(alloc, view, tables, unit)?)?;
-        }
-        Ok(EntryIndex { starts, entries })
+        index_of(alloc, view, units, units.all())
     }
 
     /// How many units start at a place or in front of it.

@@ -20,7 +20,6 @@
 
 mod entry_index;
 mod fields;
-mod listed_unit;
 mod lists;
 mod macro_lines;
 mod macro_source;
@@ -37,7 +36,6 @@ mod unit_bases;
 mod unit_lines;
 mod unit_source;
 mod unit_texts;
-mod units;
 mod value_texts;
 mod view_text;
 

@@ -4,7 +4,7 @@ ghost use Rattle.std.specs.Prelude.{◌≡◌};
 ghost use Rattle.dw_base.specs.declared.fault.Fault.TheVariants.{NoMemory as no_memory};
 ghost use Rattle.dbg_show.specs.declared.show_err.ShowErr.TheVariants as err;
 
-use dw_base::Fault;
+use dw_base::{Fault, NoMemory};
 use file_tree::SinkErr;
 use std::alloc::AllocError;
 
@@ -29,6 +29,14 @@ impl From<AllocError> for ShowErr {
     ghost from_gives = { λ _ e. e ≡ err.Fault no_memory };
 
     fn from(_e: AllocError) -> ShowErr {
+        ShowErr::Fault(Fault::NoMemory)
+    }
+}
+
+impl From<NoMemory> for ShowErr {
+    ghost from_gives = { λ _ e. e ≡ err.Fault no_memory };
+
+    fn from(_e: NoMemory) -> ShowErr {
         ShowErr::Fault(Fault::NoMemory)
     }
 }

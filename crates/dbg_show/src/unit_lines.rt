@@ -19,7 +19,6 @@ ghost use Rattle.dw_entries.specs.ViewUnits.{IsUnitSection, unit_section_at};
 ghost use Rattle.dw_find.specs.LineStarts.{Rises};
 
 use crate::fields::{address_field, number_field};
-use crate::listed_unit::ListedUnit;
 use crate::printing::write_full;
 use crate::show_err::ShowErr;
 use crate::unit_bases::{unit_base, value_in};
@@ -38,6 +37,7 @@ use dw_base::{
     own_form, uleb_at,
 };
 use dw_find::start_number;
+use dw_units::ListedUnit;
 use dw_view::View;
 use entry_arena::{EntryArena, EntryNode, WalkStep};
 use file_tree::Sink;
@@ -622,7 +622,7 @@ fn print_linked<O: Sink>(
 }
 
 /// Prints the entries of a unit.
-#[tactic(auto, using(crate::proofs::EntryPrintLaws::tabled_laws))]
+#[tactic(auto, using(crate::proofs::PrintingLaws::line_laws))]
 fn print_tabled<O: Sink>(
     alloc: Global,
     text: &mut String,
@@ -637,10 +637,8 @@ fn print_tabled<O: Sink>(
     ensures done { OnOk result (Printed (tabled_text source.now number unit.now.header (item_at source.now.tables unit.now.table)) (string_bytes text.old) (O.heard out.old) (O.heard out.new) (string_bytes text.new)) }
     ensures cut { IfErr result (Cut (string_bytes text.old ++ tabled_text source.now number unit.now.header (item_at source.now.tables unit.now.table)) (O.heard out.old) (O.heard out.new)) }
 {
-    match source.table(unit.table) {
-        Some(table) => print_linked(alloc, text, out, source, number, &unit.header, table),
-        None => Ok(()),
-    }
+    let table = source.table(alloc, number as usize)?;
+    print_linked(alloc, text, out, source, number, &unit.header, table.get())
 }
 
 /// Prints a unit of a number.

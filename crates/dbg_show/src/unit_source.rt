@@ -2,7 +2,7 @@
 //!
 //! Read first: `specs/ShownUnits.antt`.
 
-ghost use Rattle.std.specs.Prelude.{◌≡◌, ◌<◌, ◌≤◌, ◌^◌, drop, length, option_map};
+ghost use Rattle.std.specs.Prelude.{◌≡◌, ◌<◌, ◌≤◌, ◌^◌, drop, length, option_map, IfOk};
 ghost use Rattle.dw_base.specs.Texts.{text_in};
 ghost use Rattle.dw_base.specs.ViewData.{debug_data, located};
 ghost use Rattle.dw_base.specs.DebugSections.{name_of};
@@ -16,31 +16,30 @@ ghost use Rattle.dw_offsets.specs.SlotSearch.{BasesRise};
 ghost use Rattle.dbg_show.specs.EntryIndexes.{AreBefore, entries_at, unit_number, unit_starts};
 ghost use Rattle.dbg_show.specs.ShownUnits.{UnitSource as UnitSourceOf, index_text, info_section, lies_in, macro_named, first_macro, named_at, named_in, slot_field, slot_in, slot_size, slot_text};
 ghost use Rattle.dbg_show.specs.UnitReads.{SourceFits};
-ghost use Rattle.dw_base.specs.LineMeanings.{item_at};
+ghost use Rattle.dw_units.specs.UnitLists.{IsTableOf};
 ghost use Rattle.dw_base.specs.StringOffsets.{slot_place};
 
-use crate::entry_index::{EntryIndex, table_at};
+use crate::entry_index::EntryIndex;
 use crate::fields::has_room;
-use crate::listed_unit::ListedUnit;
 use crate::macro_source::unit_number;
-use dw_abbrev::AbbrevTable;
-use dw_base::{Contribution, DebugSection, Field, UnitHeader};
+use dw_base::{Contribution, DebugSection, Field, NoMemory, UnitHeader};
 use dw_find::place_key;
 use dw_offsets::{ContributionList, slot_place, with_base};
 use dw_strings::text_at;
+use dw_units::{ListedUnit, UnitTable, Units};
 use dw_view::View;
+use std::alloc::Global;
 use std::marker::Model;
 
 /// No unit ends behind this place of its section.
 const MOST_PLACE: u64 = 0x1_0000_0000;
 
-/// The view, all its units in order, their tables of abbreviations by their numbers, where they and their entries start, the contributions of
-/// string offsets, where line tables start, and where macro units start, as `place_key` says.
+/// The view, all its units in order with their tables of abbreviations, where they and their entries start, the contributions of string offsets,
+/// where line tables start, and where macro units start, as `place_key` says.
 #[derive(Drop)]
 pub(crate) struct UnitSource<'v, 'f, 'u> {
     pub view: &'v View<'f>,
-    pub units: &'u [ListedUnit],
-    pub tables: &'u [AbbrevTable],
+    pub list: &'u Units<'v>,
     pub index: &'u EntryIndex,
     pub contributions: &'u ContributionList,
     pub starts: &'u [u64],
@@ -50,7 +49,7 @@ pub(crate) struct UnitSource<'v, 'f, 'u> {
 impl<'v, 'f, 'u> Model for UnitSource<'v, 'f, 'u> {
     ghost Value = { UnitSourceOf };
 
-    ghost view = { λ s. record { view = s.view.now; units = s.units.now; tables = s.tables.now; index = s.index.now; contributions = s.contributions.now; starts = s.starts.now; keys = s.keys.now } };
+    ghost view = { λ s. record { view = s.view.now; units = s.list.now.units; tables = s.list.now.tables; index = s.index.now; contributions = s.contributions.now; starts = s.starts.now; keys = s.keys.now } };
 }
 
 /// A place of a section lies in a unit.
@@ -118,18 +117,21 @@ impl<'v, 'f, 'u> UnitSource<'v, 'f, 'u> {
         index.count_in(unit)
     }
 
-    /// A table of a number.
-    pub(crate) fn table(&self, number: u64) -> Option<&'u AbbrevTable>
-        ensures table { option_map (λ t. t.now) result ≡ item_at self.now.tables number }
+    /// The table of abbreviations of the unit of a number.
+    pub(crate) fn table(&self, alloc: Global, unit: usize) -> Result<UnitTable<'u>, NoMemory>
+        requires there { unit < length self.now.units }
+        ensures table { IfOk result (IsTableOf (record { units = self.now.units; tables = self.now.tables }) unit) }
     {
-        table_at(self.tables, number)
+        let list = self.list;
+        list.table(alloc, unit)
     }
 
     /// The units.
     pub(crate) fn units(&self) -> &'u [ListedUnit]
         ensures { result.now ≡ self.now.units }
     {
-        self.units
+        let list = self.list;
+        list.all()
     }
 
     /// Where line tables start.

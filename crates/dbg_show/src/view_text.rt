@@ -24,13 +24,12 @@ use crate::lists::TableLists;
 use crate::macro_lines::print_macros;
 use crate::macro_source::{MacroSource, macro_list};
 use crate::printing::write_all;
-use crate::reading::read_tables;
+use crate::reading::{listed_units, read_tables};
 use crate::show_err::ShowErr;
 use crate::source::{LineSource, line_source};
 use crate::table_lines::{print_dirs, print_files, print_row, print_start};
 use crate::unit_lines::print_units;
 use crate::unit_source::UnitSource;
-use crate::units::read_units;
 use dw_find::{MacroSection, starts_of};
 use dw_offsets::contributions;
 use dw_rows::{LineTable, Rows};
@@ -243,10 +242,8 @@ fn show_tables<O: Sink>(
     ensures shown { OnOk result (IsShown view.now (O.heard out.old) (O.heard out.new)) }
     ensures ends { IfErr result (ShowEnds view.now (O.heard out.old) (O.heard out.new)) }
 {
-    let list = read_units(alloc, view)?;
-    let units = list.units.as_slice();
-    let abbrevs = list.tables.as_slice();
-    let index = EntryIndex::read(alloc, view, abbrevs, units)?;
+    let list = listed_units(alloc, view)?;
+    let index = EntryIndex::read(alloc, view, &list)?;
     let contributions = contributions(alloc, view)?;
     let starts = starts_of(alloc, tables)?;
     let found = macro_list(alloc, view, macros)?;
@@ -254,8 +251,7 @@ fn show_tables<O: Sink>(
     let keys = found.keys.as_slice();
     let source = UnitSource {
         view,
-        units,
-        tables: abbrevs,
+        list: &list,
         index: &index,
         contributions: &contributions,
         starts: lines,

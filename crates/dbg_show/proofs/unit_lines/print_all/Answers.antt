@@ -3,8 +3,9 @@ use Rattle.std.proofs.Common.{List, ◌∙◌, ap, arith, refl, sym}
 use Rattle.std.specs.String.{string_bytes}
 use Rattle.dw_base.specs.LineMeanings.{item_at}
 use Rattle.dbg_show.specs.ShownUnits.{all_shown}
-use Rattle.dbg_show.specs.declared.listed_unit.ListedUnit.{ListedUnit}
-use Rattle.dbg_show.proofs.ShownLaws.{unit-listed, units-over, units-cut}
+use Rattle.dw_units.specs.declared.listed_unit.ListedUnit.{ListedUnit}
+use Rattle.dbg_show.proofs.ShownLaws.{units-over, units-cut}
+use Rattle.dw_units.proofs.UnitTableLaws.{unit-listed}
 use Rattle.dbg_show.proofs.SourceLaws.{each-reads}
 use Rattle.dbg_show.proofs.unit_lines.print_all.Goals as goal
 
