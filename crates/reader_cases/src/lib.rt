@@ -39,6 +39,8 @@ mod dw_sources_tests;
 #[cfg(test)]
 mod dw_strings_tests;
 #[cfg(test)]
+mod dw_units_tests;
+#[cfg(test)]
 mod dw_view_pair_tests;
 #[cfg(test)]
 mod dw_view_tests;
