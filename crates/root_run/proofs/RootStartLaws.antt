@@ -53,11 +53,11 @@ use Rattle.root_run.proofs.SettleLaws.{settled-once}
 use Rattle.root_run.proofs.WantedLaws.{wanted_run}
 use Rattle.root_run.proofs.WaysLaws.{over_core, run-ended}
 
-closed-by : {A E : Type 0} (r : Result A E) (c d : CoreState) → OnOk r (c ≡ d) → OnOk r (d.phase ≡ Closed) → OnOk r (c.phase ≡ Closed)
+pub closed-by : {A E : Type 0} (r : Result A E) (c d : CoreState) → OnOk r (c ≡ d) → OnOk r (d.phase ≡ Closed) → OnOk r (c.phase ≡ Closed)
 closed-by (Ok a) c d same closed = ap (λ (x : CoreState). x.phase) same ∙ closed
 closed-by (Err e) c d same closed = tt
 
-settles-by : (now then_ old n rounds : ℕ) → now ≤ then_ + n → then_ ≡ old + 1 → n ≤ rounds + 3 → now ≤ old + (rounds + 4)
+pub settles-by : (now then_ old n rounds : ℕ) → now ≤ then_ + n → then_ ≡ old + 1 → n ≤ rounds + 3 → now ≤ old + (rounds + 4)
 settles-by now then_ old n rounds a b c = omega (arith, a, b, c)
 
 module _ (start : TreeMap) (root : List ℕ) (s : Settings) (v : JudgeView) (fails : List ℕ → List ℕ → Refusal → Type 0) (clean : IsClean start root (work_folder root)) where

@@ -39,10 +39,13 @@ use Rattle.root_run.proofs.StartEndsLaws.{start-ends}
 
 -- ### A start that changed nothing settles at most once
 
-begun-settles : (old new : Past) → Begun old new → settles_of new ≤ settles_of old + 1
+pub begun-settles : (old new : Past) → Begun old new → settles_of new ≤ settles_of old + 1
 begun-settles old new (begun.not_yet e) = let same : settles_of new ≡ settles_of old = ap settles_of e in omega (arith, same)
 begun-settles old new (begun.settling_failed e) = let more : settles_of new ≡ settles_of old + 1 = settled-by old new effect.Same e in omega (arith, more)
 begun-settles old new (begun.settled_first {mid = m} e l) = let more : settles_of new ≡ settles_of old + 1 = settled-once old m new e l in omega (arith, more)
+
+pub more-settles : (now then_ rounds : ℕ) → now ≤ then_ + 1 → now ≤ then_ + (rounds + 4)
+more-settles now then_ rounds le = omega (arith, le)
 
 -- ### The clauses
 
@@ -88,10 +91,7 @@ module _ (start : TreeMap) (root : List ℕ) (s : Settings) (v : JudgeView) (fai
     settles-by : Entered start root s v fails edit_fails split_fails judge maps within in_flight old new u result → SettlesFew start root s v fails in_flight old.past new.past
     settles-by (entered.unbegun b e mild is) =
         let once : settles_of new.past ≤ settles_of old.past + 1 = begun-settles old.past new.past b in
-        record { few = λ p made planned. few-by (settles_of new.past) (settles_of old.past) (rounds_of (length p.jobs) in_flight) once; none = λ never. once }
-      where
-        few-by : (now then_ rounds : ℕ) → now ≤ then_ + 1 → now ≤ then_ + (rounds + 4)
-        few-by now then_ rounds le = omega (arith, le)
+        record { few = λ p made planned. more-settles (settles_of new.past) (settles_of old.past) (rounds_of (length p.jobs) in_flight) once; none = λ never. once }
     settles-by (entered.by_journal g) = journaled-settles start root s v fails judge in_flight old new u result g
 
     mild-by : HasKey s → Entered start root s v fails edit_fails split_fails judge maps within in_flight old new u result → IfErr result (λ e. IsTrue (is_mild_end e))
