@@ -1,5 +1,5 @@
 -- A journal by the maker of a gather's plan carries out that plan.
-use Rattle.std.proofs.Common.{◌≡◌, ℕ, ◌+◌, Bool, true, false, List, length, map, ap, sym, subst, ◌∙◌, Result, Err}
+use Rattle.std.proofs.Common.{◌≡◌, ℕ, ◌+◌, Bool, true, false, List, length, ap, sym, subst, ◌∙◌, Result}
 use Rattle.std.specs.Prelude.{OnOk, IfErr, IsTrue, ⊤}
 use Rattle.file_tree.specs.declared.node.Node.{Node}
 use Rattle.file_tree.specs.Images.{state_of}

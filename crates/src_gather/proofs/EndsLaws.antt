@@ -32,7 +32,7 @@ use Rattle.src_gather.specs.declared.gather_err.GatherErr.TheVariants as err
 use Rattle.src_gather.specs.Asked.{IsAsked}
 use Rattle.src_gather.specs.Errors.{journal_ends}
 use Rattle.src_gather.specs.Gathering.{IsGatherPlan, gather_key}
-use Rattle.src_gather.specs.GatherEnds.{CopyBlames, GatherEnds, GatherOpens, IsNeverRefused, ListEnds, NameEnds, NamesEnd, NamingEnds, NoneRefused, OrStopped, PlanEnds, RootEnds, is_due, is_text}
+use Rattle.src_gather.specs.GatherEnds.{CopyBlames, GatherEnds, GatherOpens, IsNeverRefused, ListEnds, NameEnds, NamingEnds, NoneRefused, OrStopped, PlanEnds, RootEnds, is_due, is_text}
 use Rattle.src_gather.specs.GatherEnds.{GatherEnds as ends, ListEnds as list_end, NameEnds as name_end, NamesEnd as names_end, NamingEnds as naming_end, OrStopped as or_stopped, PlanEnds as plan_end, RootEnds as root_end}
 use Rattle.src_gather.specs.Listed.{copy_folder}
 use Rattle.src_gather.specs.Makers.{copy_view, gather_folder}

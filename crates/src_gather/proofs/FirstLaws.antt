@@ -1,5 +1,5 @@
 -- Until a start of a gather changes the tree: it is settled and looked at, and where that ends the start, it ends early.
-use Rattle.std.proofs.Common.{◌≡◌, ◌≤◌, true, List, refl, sym, ap, subst, ◌∙◌, arith, Result, Ok, Err}
+use Rattle.std.proofs.Common.{◌≡◌, true, List, refl, sym, ap, subst, arith, Result, Ok, Err}
 use Rattle.std.specs.Prelude.{ℕ, Option, IsErrOf}
 use Rattle.file_tree.specs.declared.call.Call.TheVariants as call
 use Rattle.file_tree.specs.declared.call.Effect.TheVariants as effect
@@ -20,7 +20,7 @@ use Rattle.root_run.specs.Starts.{SettledFirst}
 use Rattle.root_run.proofs.FirstLaws.{err-failed, first-early, first-later, first-now, first-tells, journal-looked, looked-first}
 use Rattle.src_gather.specs.declared.gather_err.GatherErr.{GatherErr}
 use Rattle.src_gather.specs.declared.gather_err.GatherErr.TheVariants as err
-use Rattle.src_gather.specs.Errors.{journal_ends, tree_ends}
+use Rattle.src_gather.specs.Errors.{tree_ends}
 use Rattle.src_gather.specs.Gathering.{gather_key}
 use Rattle.src_gather.specs.GatherEnds.{RootEnds}
 use Rattle.src_gather.specs.Makers.{gather_folder}

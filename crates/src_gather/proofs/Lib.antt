@@ -18,5 +18,6 @@ pub mod EndsLaws
 pub mod BeforeLaws
 pub mod StartLaws
 pub mod OneLaws
+pub mod CoreLaws
 pub mod ExactLaws
 pub mod CompleteLaws

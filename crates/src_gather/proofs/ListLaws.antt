@@ -1,20 +1,18 @@
 -- The list of a run that is done, and what it comes to.
-use Rattle.std.proofs.Common.{◌≡◌, ℕ, true, false, List, Option, refl, sym, ap, ◌∙◌, subst}
+use Rattle.std.proofs.Common.{◌≡◌, ℕ, List, Option, sym, ap, ◌∙◌, subst}
 use Rattle.std.specs.Prelude.{codes}
 use Rattle.file_tree.specs.declared.node.Found.{Found}
 use Rattle.file_tree.specs.declared.node.Found.TheVariants as found
 use Rattle.file_tree.specs.Causes.{Stood}
 use Rattle.file_tree.specs.Seen.{Seen, now_of}
 use Rattle.file_tree.specs.Trees.{TreeMap}
-use Rattle.journal_core.specs.Names.{final}
 use Rattle.work_texts.specs.Rules.{text_limit}
 use Rattle.work_journal.specs.Work.{work_path}
 use Rattle.root_paths.specs.Looks.{Looked}
 use Rattle.root_paths.specs.Roots.{in_root, work_folder}
 use Rattle.root_paths.proofs.LookLaws.{rose_since}
 use Rattle.src_gather.specs.declared.gather_err.GatherErr.{GatherErr}
-use Rattle.src_gather.specs.declared.gather_err.GatherErr.TheVariants as err
-use Rattle.src_gather.specs.Listed.{AreNames, IsBytesOf, IsFileAt, IsNoFileAt, IsListText, IsListOf, IsRead, end_path, is_no_file, list_path}
+use Rattle.src_gather.specs.Listed.{AreNames, IsBytesOf, IsFileAt, IsNoFileAt, IsListText, IsListOf, IsRead, end_path, list_path}
 use Rattle.src_gather.specs.Gathering.{Gathering, Gathers, IsGathering}
 use Rattle.src_gather.specs.GatherEnds.{IsAbsent, ListEnds, ListFound, NamesEnd, NamingEnds, OrStopped}
 use Rattle.src_gather.specs.GatherEnds.{IsAbsent as gone, ListEnds as list_end, ListFound as list, NamingEnds as naming_end, OrStopped as or_stopped}

@@ -6,7 +6,6 @@ use Rattle.std.proofs.lemmas.List.{append_assoc, append-nil, map-append, drop_al
 use Rattle.work_texts.specs.declared.plan.JobLine.{JobLine}
 use Rattle.work_texts.specs.Lists.{bytes_of}
 use Rattle.root_paths.specs.Roots.{in_root}
-use Rattle.src_gather.specs.Gathering.{names_of}
 
 -- one more, of those that are left; and none is left
 each-more : {A B : Type 0} (f : A → B) (xs : List A) (i : ℕ) (x : A) (out new whole : List B) → i < length xs → x ≡ get_or xs i x → new ≡ out ++ f x ∷ []

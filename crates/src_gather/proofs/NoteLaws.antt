@@ -1,10 +1,9 @@
 -- What the listed names come to, one after another.
-use Rattle.std.proofs.Common.{◌≡◌, ℕ, zero, suc, ◌+◌, ◌-◌, ◌≤◌, ◌<◌, ◌^◌, true, false, List, [], ◌∷◌, ◌++◌, length, map, take, get_or, Vec, Option, Result, Err, refl, sym, ap, ◌∙◌, subst, arith}
+use Rattle.std.proofs.Common.{◌≡◌, ℕ, ◌+◌, ◌≤◌, ◌<◌, true, false, List, [], length, map, take, get_or, Vec, Option, Result, Err, refl, sym, ap, ◌∙◌, subst, arith}
 use Rattle.std.specs.Prelude.{IsErrOf}
 use Rattle.std.specs.declared.alloc.Global.{Global}
 use Rattle.std.proofs.lemmas.List.{get_or-map, length-map, take_more}
 use Rattle.file_tree.specs.declared.node.Found.{Found}
-use Rattle.file_tree.specs.declared.node.Found.TheVariants as found
 use Rattle.file_tree.specs.declared.node.TreeErr.{TreeErr}
 use Rattle.file_tree.specs.declared.node.TreeErr.TheVariants as tree
 use Rattle.file_tree.specs.Causes.{Stood, Rose}
@@ -17,8 +16,8 @@ use Rattle.root_paths.specs.Roots.{in_root, longest_path}
 use Rattle.root_paths.proofs.LookLaws.{looked_none, looked_then, rose_since}
 use Rattle.src_gather.specs.declared.gather_err.GatherErr.{GatherErr}
 use Rattle.src_gather.specs.Errors.{tree_ends}
-use Rattle.src_gather.specs.Listed.{is_fit, is_no_file, copy_folder, IsNoFileAt, IsRead, IsLarge}
-use Rattle.src_gather.specs.Gathering.{Gathering, FoundNoted, Noted, Gathers, IsShort, with_copy, with_missing}
+use Rattle.src_gather.specs.Listed.{is_fit, copy_folder}
+use Rattle.src_gather.specs.Gathering.{Gathering, FoundNoted, Noted, Gathers, IsShort, with_missing}
 use Rattle.src_gather.specs.Gathering.{FoundNoted as what_noted, Noted as note, Gathers as gathers}
 use Rattle.src_gather.specs.GatherEnds.{OrStopped, IsLong, IsLongName, FoundEnds, NameEnds, NamesEnd}
 use Rattle.src_gather.specs.GatherEnds.{OrStopped as or_stopped, IsLong as long, IsLongName as long_name, FoundEnds as large, NameEnds as name_end, NamesEnd as names_end}

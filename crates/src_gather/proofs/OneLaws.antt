@@ -1,7 +1,6 @@
 -- A tree that tells has one plan of a gather, and one end in its place; and where it has an end, nothing else comes.
-use Rattle.std.proofs.Common.{◌≡◌, ◌≢◌, ◌⊎◌, ℕ, zero, suc, ◌+◌, ◌<◌, ◌≤◌, Bool, true, false, List, [], ◌∷◌, ◌++◌, length, take, get_or, Option, Some, None, inl, inr, refl, sym, ap, ◌∙◌, subst, arith, Result, Ok, Err}
+use Rattle.std.proofs.Common.{◌≡◌, ◌⊎◌, ℕ, ◌<◌, ◌≤◌, Bool, true, false, List, [], ◌∷◌, ◌++◌, length, take, get_or, Some, inl, inr, refl, sym, ap, ◌∙◌, subst, arith}
 use Rattle.std.specs.Prelude.{Contains}
-use Rattle.std.specs.declared.cmp.Ordering.{Ordering}
 use Rattle.std.specs.declared.cmp.Ordering.TheVariants.{Less, Equal}
 use Rattle.std.specs.List.{AllByRecursion}
 use Rattle.std.specs.List.Sorted.{IsStrictlySortedBy}
@@ -22,7 +21,7 @@ use Rattle.src_gather.specs.declared.gather_err.GatherErr.{GatherErr}
 use Rattle.src_gather.specs.declared.gather_err.GatherErr.TheVariants as err
 use Rattle.src_gather.specs.Errors.{AreSameEnds}
 use Rattle.src_gather.specs.Errors.{AreSameEnds as same}
-use Rattle.src_gather.specs.Listed.{AreNames, IsFileAt, IsLarge, IsListOf, IsNoFileAt, IsRead, copy_folder, end_path, is_fit, is_no_file, list_path}
+use Rattle.src_gather.specs.Listed.{AreNames, IsFileAt, IsLarge, IsListOf, IsNoFileAt, IsRead, end_path, is_fit, is_no_file, list_path}
 use Rattle.src_gather.specs.Gathering.{Gathering, Gathers, IsGathering, IsGatherPlan, Noted, copy_paths, plan_length, plan_of, with_copy}
 use Rattle.src_gather.specs.Gathering.{Gathers as gathers, Noted as note}
 use Rattle.src_gather.specs.GatherEnds.{ListEnds, NameEnds, NamesEnd, NamingEnds, PlanEnds}

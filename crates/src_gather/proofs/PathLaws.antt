@@ -1,5 +1,5 @@
 -- What is said of paths, as the end of a gather.
-use Rattle.std.proofs.Common.{◌≡◌, ℕ, List}
+use Rattle.std.proofs.Common.{ℕ, List}
 use Rattle.std.specs.Prelude.{Contains}
 use Rattle.file_tree.specs.Seen.{Seen}
 use Rattle.root_paths.specs.declared.path_err.PathErr.{PathErr}

@@ -1,6 +1,6 @@
 -- The pieces of a list as a set: they rise, and are those of the list without the empty one.
 use Rattle.std.proofs.Common.{◌≡◌, ◌≢◌, ◌⊎◌, ℕ, zero, suc, ◌+◌, ◌<◌, ◌≤◌, Bool, true, false, ◌&&◌, List, [], ◌∷◌, length, map, drop, get_or, inl, inr, refl, sym, ap, ◌∙◌, subst, arith, drop-cons, add-one, Bor, Vec}
-use Rattle.std.specs.Prelude.{Contains, ◌==◌, ⊤}
+use Rattle.std.specs.Prelude.{Contains, ◌==◌}
 use Rattle.std.specs.declared.alloc.Global.{Global}
 use Rattle.std.specs.declared.cmp.Ordering.{Ordering}
 use Rattle.std.specs.declared.cmp.Ordering.TheVariants.{Less, Equal, Greater}

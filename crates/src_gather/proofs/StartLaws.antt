@@ -1,7 +1,8 @@
 -- A whole start of a gather that is underway, on each of the three ways in: at every moment of it a stop leaves the gather partway, at `Ok` it
 -- is done, and no text of its work folder and no source ends it.
-use Rattle.std.proofs.Common.{◌≡◌, ℕ, ◌+◌, Bool, true, false, List, length, refl, sym, ap, subst, ◌∙◌, Result, Ok, Err}
+use Rattle.std.proofs.Common.{◌≡◌, ℕ, ◌+◌, ◌≤◌, Bool, true, false, List, length, refl, sym, ap, subst, ◌∙◌, arith, Result, Ok, Err}
 use Rattle.std.specs.Prelude.{Option, Some, IfErr, IfOk, IsTrue, OnOk, ⊤}
+use Rattle.std.proofs.lemmas.List.{length-map}
 use Rattle.file_tree.specs.declared.call.Call.TheVariants as call
 use Rattle.file_tree.specs.declared.call.Effect.TheVariants as effect
 use Rattle.file_tree.specs.Images.{Images, state_of}
@@ -11,7 +12,7 @@ use Rattle.file_tree.specs.Trees.{TreeMap, is_below, keys_below}
 use Rattle.file_tree.proofs.ImageLaws.{image_now}
 use Rattle.journal_core.specs.Marks.{is_earlier}
 use Rattle.journal_core.specs.Names.{final, plan}
-use Rattle.journal_core.specs.Starts.{shown_states}
+use Rattle.journal_core.specs.Starts.{shown_core, shown_states}
 use Rattle.journal_core.specs.Table.{CoreState, new_core, resumed_core}
 use Rattle.work_texts.specs.declared.journal_err.JournalErr.{JournalErr}
 use Rattle.work_texts.specs.declared.journal_err.JournalErr.TheVariants as journal
@@ -44,16 +45,16 @@ use Rattle.root_run.proofs.MildLaws.{IsTold, told-mild}
 use Rattle.root_run.proofs.OldLaws.{HasTexts, marked-old}
 use Rattle.root_run.proofs.StartLaws.{HasNames, settled-partway, start-leaves, way-finished, way-fresh, way-resumed, way-unstarted}
 use Rattle.root_run.proofs.TextLaws.{finished-own, resumed-own}
-use Rattle.root_run.proofs.WaysLaws.{over_core, run-ended}
+use Rattle.root_run.proofs.WaysLaws.{over_core, run-ended, shown_new, shown_over, shown_resumed}
 use Rattle.src_gather.specs.declared.gather_err.GatherErr.{GatherErr}
 use Rattle.src_gather.specs.declared.gather_err.GatherErr.TheVariants as err
 use Rattle.src_gather.specs.Asked.{IsAsked}
 use Rattle.src_gather.specs.Errors.{is_mild, journal_ends}
 use Rattle.src_gather.specs.Gathering.{IsGatherPlan, gather_key}
-use Rattle.src_gather.specs.GatherEnds.{GatherOpens, OrStopped, PlanEnds, RootEnds}
+use Rattle.src_gather.specs.GatherEnds.{GatherOpens, OrStopped, PlanEnds}
 use Rattle.src_gather.specs.GatherEnds.{OrStopped as or_stopped, RootEnds as root_end}
 use Rattle.src_gather.specs.Listed.{copy_folder}
-use Rattle.src_gather.specs.Makers.{copy_view, gather_folder}
+use Rattle.src_gather.specs.Makers.{copy_view, gather_folder, one_step}
 use Rattle.src_gather.specs.Partways.{IsDone, IsPartwayGather, IsUnderway, StaysPartway}
 use Rattle.src_gather.specs.Starts.{ClearEnded, CopyRan, CopyWent, EarlyEnds, HasOpened, IsCopyRun, OpenedWent, StartRan, copy_steps, report_of}
 use Rattle.src_gather.specs.Starts.{ClearEnded as over, CopyWent as went, EarlyEnds as early, OpenedWent as way, StartRan as ran}
@@ -74,6 +75,9 @@ plain-mild (err.Taken p) h = refl
 plain-mild (err.Journal e) h = cc
 plain-mild err.Tree h = cc
 plain-mild err.NoMemory h = cc
+
+rounds-same : (p : PlanData) (in_flight : ℕ) → rounds_of (length (copy_steps p)) in_flight + 3 ≤ rounds_of (length p.jobs) in_flight + 3
+rounds-same p in_flight = subst (λ (n : ℕ). rounds_of n in_flight + 3 ≤ rounds_of (length p.jobs) in_flight + 3) (sym (length-map p.jobs one_step)) (omega arith)
 
 pub folder-below : (root : List ℕ) → is_below root (gather_folder root) ≡ true
 unfolding gather_folder
@@ -171,21 +175,25 @@ module _ (start : TreeMap) (root from dest : List ℕ) (asked : IsAsked root fro
 
   -- ### A start by a journal
 
-  -- a journal went on from a tree that had been settled and looked at, by a plan of the tree before
-  pub record Journaled (old new : Seen) (result : Result (List ℕ) GatherErr) : Type 1 where
+  -- a journal went on from a tree that had been settled and looked at, by a plan of the tree before, from the core that the tree shows
+  pub record Journaled (in_flight : ℕ) (old new : Seen) (result : Result (List ℕ) GatherErr) : Type 1 where
     pub p : PlanData
     pub sources : List (List ℕ)
     pub planned : IsPlanned start root from dest p sources
     pub first_ : Past
     pub mid : Seen
+    pub paths : List (List ℕ)
     pub settled : first_ ≡ adds old.past call.Settle effect.Settled
     pub looks : LooksOnly first_ mid.past
+    pub walked : AreWalked (Some (map_now mid.past)) root paths
     pub tells : mid.tells ≡ true
     pub runs : Wanted → Type 0
     pub run : runs (wanted p sources)
     pub settles : ℕ
+    pub few : settles ≤ rounds_of (length p.jobs) in_flight + 3
     pub hits : List ℕ → Type 0
     pub core : CoreState
+    pub shown : shown_core (copy_steps p) (presence (is_old_end (map_now mid.past) (gather_folder root)) (gather_folder root) paths) ≡ core
     pub keeps : Keeps (wanted p sources) core (state_of mid.past)
     pub ended : Result (Unit {0}) JournalErr
     pub ran : FinishRan hits settles (gather_folder root) runs core mid new ended
@@ -194,9 +202,9 @@ module _ (start : TreeMap) (root from dest : List ℕ) (asked : IsAsked root fro
     pub answer : result ≡ report_of ended p.report
 
   -- nothing was changed, or such a journal went on
-  pub data Entered (old new : Seen) (result : Result (List ℕ) GatherErr) : Type 1 where
-    unbegun : Begun old.past new.past → (e : GatherErr) → IsTrue (is_mild e) → result ≡ Err e → Entered old new result
-    by_journal : Journaled old new result → Entered old new result
+  pub data Entered (in_flight : ℕ) (old new : Seen) (result : Result (List ℕ) GatherErr) : Type 1 where
+    unbegun : Begun old.past new.past → (e : GatherErr) → IsTrue (is_mild e) → result ≡ Err e → Entered in_flight old new result
+    by_journal : Journaled in_flight old new result → Entered in_flight old new result
 
   ended-ok : (r : Result (Unit {0}) JournalErr) (report : List ℕ) (D : List ℕ → Type 0) → ((a : Unit {0}) → r ≡ Ok a → D report) → IfOk (report_of r report) D
   ended-ok (Ok a) report D f = f a refl
@@ -217,15 +225,15 @@ module _ (start : TreeMap) (root from dest : List ℕ) (asked : IsAsked root fro
   no-ok : (e : GatherErr) (result : Result (List ℕ) GatherErr) (P : List ℕ → Type 0) → result ≡ Err e → IfOk result P
   no-ok e result P is = subst (λ (r : Result (List ℕ) GatherErr). IfOk r P) (sym is) tt
 
-  module _ (old new : Seen) (u : IsUnderway start root from dest old) (result : Result (List ℕ) GatherErr) where
+  module _ (in_flight : ℕ) (old new : Seen) (u : IsUnderway start root from dest old) (result : Result (List ℕ) GatherErr) where
     -- at every moment a stop leaves the gather partway
-    pub entered-leaves : Entered old new result → StaysPartway start root from dest old new
+    pub entered-leaves : Entered in_flight old new result → StaysPartway start root from dest old new
     entered-leaves (unbegun b e mild is) = begun_leaves (IsPartwayGather start root from dest) old.past new.past u.partway b
     entered-leaves (by_journal g) =
         start-leaves start (gather_folder root) May clean.none_below may-fits may-starts g.runs (wanted g.p g.sources) g.settles g.hits g.core old.past g.first_ g.mid new g.ended u.partway
         g.settled g.looks (by-plan g.p g.sources g.planned) g.run g.tells g.keeps g.ran
 
-    done-by : (g : Journaled old new result) (a : Unit {0}) → g.ended ≡ Ok a → IsDone start root from dest g.p.report new
+    done-by : (g : Journaled in_flight old new result) (a : Unit {0}) → g.ended ≡ Ok a → IsDone start root from dest g.p.report new
     done-by g a ok =
         let cleared : IsCleared (gather_folder root) new = at-ok g.ended a (IsCleared (gather_folder root) new) ok g.cleared in
         record {
@@ -241,14 +249,14 @@ module _ (start : TreeMap) (root from dest : List ℕ) (asked : IsAsked root fro
         }
 
     -- at `Ok` it is done
-    pub entered-done : Entered old new result → IfOk result (λ report. IsDone start root from dest report new)
+    pub entered-done : Entered in_flight old new result → IfOk result (λ report. IsDone start root from dest report new)
     entered-done (unbegun b e mild is) = no-ok e result (λ report. IsDone start root from dest report new) is
     entered-done (by_journal g) =
         subst (λ (r : Result (List ℕ) GatherErr). IfOk r (λ report. IsDone start root from dest report new)) (sym g.answer)
         (ended-ok g.ended g.p.report (λ report. IsDone start root from dest report new) (λ a ok. done-by g a ok))
 
     -- and no text and no source ends it
-    pub entered-mild : Entered old new result → IfErr result (λ e. IsTrue (is_mild e))
+    pub entered-mild : Entered in_flight old new result → IfErr result (λ e. IsTrue (is_mild e))
     entered-mild (unbegun b e mild is) = subst (λ (r : Result (List ℕ) GatherErr). IfErr r (λ x. IsTrue (is_mild x))) (sym is) mild
     entered-mild (by_journal g) = subst (λ (r : Result (List ℕ) GatherErr). IfErr r (λ x. IsTrue (is_mild x))) (sym g.answer) (ended-mild g.ended g.p.report g.mild)
 
@@ -278,9 +286,9 @@ module _ (start : TreeMap) (root from dest : List ℕ) (asked : IsAsked root fro
 
         -- a gather that is over
         over-went : (report : List ℕ) (earlier : Bool) (result : Result (List ℕ) GatherErr) → GatherOpens root from dest paths at (Ok (opened.Finished report earlier))
-            → (runs : Wanted → Type 0) → ((w : Wanted) → IsEndRun (gather_key from dest) report w → runs w) → (n : ℕ) → (r : Result (Unit {0}) JournalErr)
-            → ClearRan (gather_folder root) runs n (over_core earlier) mid new r → result ≡ report_of r report → Journaled old new result
-        over-went report earlier result o runs run n r c answer =
+            → (runs : Wanted → Type 0) → ((w : Wanted) → IsEndRun (gather_key from dest) report w → runs w) → (n : ℕ) → ((m : ℕ) → n ≤ m + 3) → (r : Result (Unit {0}) JournalErr)
+            → ClearRan (gather_folder root) runs n (over_core earlier) mid new r → result ≡ report_of r report → Journaled in_flight old new result
+        over-went report earlier result o runs run n few r c answer =
             let x = finished-opened (gather_folder root) paths (gather_key from dest) at report earlier o in
             let g = finished-found old.past f.mid.past mid paths u.partway (f.settled u.tells) mid-looks mid-walked x.there in
             let own = finished-own (wanted g.p g.sources) g.p (gather-texts start root dest g.p g.sources) at (at_tells ∙ u.tells)
@@ -292,14 +300,18 @@ module _ (start : TreeMap) (root from dest : List ℕ) (asked : IsAsked root fro
               planned = g.planned;
               first_ = f.mid.past;
               mid = mid;
+              paths = paths;
               settled = f.settled u.tells;
               looks = mid-looks;
+              walked = mid-walked;
               tells = mid-tells;
               runs = runs;
               run = run (wanted g.p g.sources) (ap (λ (t : List ℕ). text_file t) (end-wanted g.p (gather_key from dest) report own.key_is own.report_is));
               settles = n;
+              few = few (rounds_of (length g.p.jobs) in_flight);
               hits = InWork (gather_folder root);
               core = over_core earlier;
+              shown = ap (λ (b : Bool). shown_core (copy_steps g.p) (presence b (gather_folder root) paths)) is_old ∙ shown_over earlier (copy_steps g.p) (gather_folder root) paths x.there;
               keeps = subst (λ (b : Bool). Keeps (wanted g.p g.sources) (over_core b) (state_of mid.past)) is_old g.keeps;
               ended = r;
               ran = c.ran;
@@ -309,15 +321,15 @@ module _ (start : TreeMap) (root from dest : List ℕ) (asked : IsAsked root fro
             }
 
         finished-went : (report : List ℕ) (earlier : Bool) (result : Result (List ℕ) GatherErr) → GatherOpens root from dest paths at (Ok (opened.Finished report earlier))
-            → ClearEnded (gather_folder root) (gather_key from dest) report mid new result earlier → Entered old new result
+            → ClearEnded (gather_folder root) (gather_key from dest) report mid new result earlier → Entered in_flight old new result
         finished-went report earlier result o (over.no_text same is) = unbegun (subst (λ (x : Seen). Begun old.past x.past) (sym same) mid-begun) err.NoMemory refl is
-        finished-went report earlier result o (over.renewed r c is) = by_journal (over-went report true result o (IsEndRun (gather_key from dest) report) (λ w run. run) 2 r c is)
-        finished-went report earlier result o (over.cleared r c is) = by_journal (over-went report false result o (λ w. ⊤) (λ w run. tt) 1 r c is)
+        finished-went report earlier result o (over.renewed r c is) = by_journal (over-went report true result o (IsEndRun (gather_key from dest) report) (λ w run. run) 2 (λ m. omega arith) r c is)
+        finished-went report earlier result o (over.cleared r c is) = by_journal (over-went report false result o (λ w. ⊤) (λ w run. tt) 1 (λ m. omega arith) r c is)
 
         -- a plan that was there
         resumed-went : (p : PlanData) (result : Result (List ℕ) GatherErr) → GatherOpens root from dest paths at (Ok (opened.Resumed p)) → (r : Result (Unit {0}) JournalErr)
             → CopyRan (copy_folder root dest) from (gather_folder root) p in_flight (core_from false (gather_folder root) paths (copy_steps p)) mid new r → result ≡ report_of r p.report
-            → Journaled old new result
+            → Journaled in_flight old new result
         resumed-went p result o r x answer =
             let q = plan-opened (gather_folder root) paths (gather_key from dest) at p o in
             let g = resumed-found old.past f.mid.past mid paths u.partway (f.settled u.tells) mid-looks mid-walked q.none q.there in
@@ -333,14 +345,18 @@ module _ (start : TreeMap) (root from dest : List ℕ) (asked : IsAsked root fro
               planned = planned;
               first_ = f.mid.past;
               mid = mid;
+              paths = paths;
               settled = f.settled u.tells;
               looks = mid-looks;
+              walked = mid-walked;
               tells = mid-tells;
               runs = IsCopyRun (copy_folder root dest) from p;
               run = run;
               settles = rounds_of (length (copy_view (copy_folder root dest) from p.jobs).steps) in_flight + 3;
+              few = rounds-same p in_flight;
               hits = IsHit (gather_folder root) (copy_view (copy_folder root dest) from p.jobs) (λ j. ⊤);
               core = core_from false (gather_folder root) paths (copy_steps p);
+              shown = shown_resumed (is_old_end (map_now mid.past) (gather_folder root)) (copy_steps p) (gather_folder root) paths q.none q.there;
               keeps = keeps;
               ended = r;
               ran = x.ran;
@@ -352,7 +368,7 @@ module _ (start : TreeMap) (root from dest : List ℕ) (asked : IsAsked root fro
       -- a plan that was just made
       planned-went : (at : Seen) (p : PlanData) (result : Result (List ℕ) GatherErr) → GatherOpens root from dest paths at (Ok opened.Empty) → IsGatherPlan (now_of old) root from dest paths p
           → (r : Result (Unit {0}) JournalErr) → CopyRan (copy_folder root dest) from (gather_folder root) p in_flight (core_from true (gather_folder root) paths (copy_steps p)) mid new r
-          → result ≡ report_of r p.report → Journaled old new result
+          → result ≡ report_of r p.report → Journaled in_flight old new result
       planned-went at p result o is r x answer =
           let q = none-opened (gather_folder root) paths (gather_key from dest) at o in
           let now_plan : IsGatherPlan (Some (map_now mid.past)) root from dest paths p =
@@ -368,14 +384,18 @@ module _ (start : TreeMap) (root from dest : List ℕ) (asked : IsAsked root fro
             planned = planned;
             first_ = f.mid.past;
             mid = mid;
+            paths = paths;
             settled = f.settled u.tells;
             looks = mid-looks;
+            walked = mid-walked;
             tells = mid-tells;
             runs = IsCopyRun (copy_folder root dest) from p;
             run = run;
             settles = rounds_of (length (copy_view (copy_folder root dest) from p.jobs).steps) in_flight + 3;
+            few = rounds-same p in_flight;
             hits = IsHit (gather_folder root) (copy_view (copy_folder root dest) from p.jobs) (λ j. ⊤);
             core = new_core (copy_steps p);
+            shown = shown_new (is_old_end (map_now mid.past) (gather_folder root)) (copy_steps p) (gather_folder root) paths q.none q.other;
             keeps = keeps;
             ended = r;
             ran = x.ran;
@@ -388,12 +408,12 @@ module _ (start : TreeMap) (root from dest : List ℕ) (asked : IsAsked root fro
       begun-at same = subst (λ (x : Seen). Begun old.past x.past) (sym same) mid-begun
 
       resumed-entered : (at : Seen) → at.tells ≡ old.tells → now_of at ≡ now_of old → (p : PlanData) (result : Result (List ℕ) GatherErr) → GatherOpens root from dest paths at (Ok (opened.Resumed p))
-          → CopyWent (copy_folder root dest) from (gather_folder root) p in_flight (core_from false (gather_folder root) paths (copy_steps p)) mid new result → Entered old new result
+          → CopyWent (copy_folder root dest) from (gather_folder root) p in_flight (core_from false (gather_folder root) paths (copy_steps p)) mid new result → Entered in_flight old new result
       resumed-entered at tells now p result o (went.no_start same is) = unbegun (begun-at same) err.NoMemory refl is
       resumed-entered at tells now p result o (went.started r x is) = by_journal (resumed-went at tells now p result o r x is)
 
       planned-entered : (at : Seen) (p : PlanData) (result : Result (List ℕ) GatherErr) → GatherOpens root from dest paths at (Ok opened.Empty) → IsGatherPlan (now_of old) root from dest paths p
-          → CopyWent (copy_folder root dest) from (gather_folder root) p in_flight (core_from true (gather_folder root) paths (copy_steps p)) mid new result → Entered old new result
+          → CopyWent (copy_folder root dest) from (gather_folder root) p in_flight (core_from true (gather_folder root) paths (copy_steps p)) mid new result → Entered in_flight old new result
       planned-entered at p result o is (went.no_start same e) = unbegun (begun-at same) err.NoMemory refl e
       planned-entered at p result o is (went.started r x e) = by_journal (planned-went at p result o is r x e)
 
@@ -403,7 +423,7 @@ module _ (start : TreeMap) (root from dest : List ℕ) (asked : IsAsked root fro
     unplanned-mild from_ to paths e or_stopped.no_memory = refl
 
     opened-entered : (mid : Seen) (paths : List (List ℕ)) (o : Opened) (result : Result (List ℕ) GatherErr) → HasOpened root from dest paths o old mid
-        → OpenedWent root from dest (gather_folder root) in_flight paths mid new result o → Entered old new result
+        → OpenedWent root from dest (gather_folder root) in_flight paths mid new result o → Entered in_flight old new result
     opened-entered mid paths o result h (way.finished {report} {earlier} c) = finished-went mid paths h.first h.walked h.at h.at_tells h.at_now report earlier result h.opens c
     opened-entered mid paths o result h (way.resumed {p} w) = resumed-entered mid paths h.first h.walked h.at h.at_tells h.at_now p result h.opens w
     opened-entered mid paths o result h (way.unplanned e looked ends is) =
@@ -427,17 +447,17 @@ module _ (start : TreeMap) (root from dest : List ℕ) (asked : IsAsked root fro
         let here : AreWalked (Some (map_now at.past)) root paths = subst (λ (m : Option TreeMap). AreWalked m root paths) (sym now ∙ now-tells at told) walked in
         mild-end d (told-mild start (gather_folder root) (gather_key from dest) May clean.none_below may-told no_longer at paths told partway (gather-names root (map_now at.past) paths here) d o)
 
-    pub start-entered : (result : Result (List ℕ) GatherErr) → StartRan root from dest in_flight old new result → Entered old new result
+    pub start-entered : (result : Result (List ℕ) GatherErr) → StartRan root from dest in_flight old new result → Entered in_flight old new result
     start-entered result (ran.early e a ends is) = unbegun (a.begun u.tells) e (early-mild e ends) is
     start-entered result (ran.entered paths o mid h w) = opened-entered mid paths o result h w
 
     -- ### The clauses
 
     pub start-stays : (result : Result (List ℕ) GatherErr) → StartRan root from dest in_flight old new result → StaysPartway start root from dest old new
-    start-stays result r = entered-leaves old new u result (start-entered result r)
+    start-stays result r = entered-leaves in_flight old new u result (start-entered result r)
 
     pub start-done : (result : Result (List ℕ) GatherErr) → StartRan root from dest in_flight old new result → IfOk result (λ report. IsDone start root from dest report new)
-    start-done result r = entered-done old new u result (start-entered result r)
+    start-done result r = entered-done in_flight old new u result (start-entered result r)
 
     pub start-mild : (result : Result (List ℕ) GatherErr) → StartRan root from dest in_flight old new result → IfErr result (λ e. IsTrue (is_mild e))
-    start-mild result r = entered-mild old new u result (start-entered result r)
+    start-mild result r = entered-mild in_flight old new u result (start-entered result r)

@@ -13,7 +13,7 @@ use Rattle.work_texts.specs.declared.plan.JobLine.{JobLine}
 use Rattle.work_texts.specs.declared.plan.PlanData.{PlanData}
 use Rattle.work_texts.specs.Rules.{rise_after, text_limit}
 use Rattle.work_journal.specs.Ending.{end_nodes}
-use Rattle.work_journal.specs.Files.{IsFile, IsSource}
+use Rattle.work_journal.specs.Files.{IsFile}
 use Rattle.work_journal.specs.Files.{IsSource as source}
 use Rattle.work_journal.specs.Finishing.{IsRun, plan_node}
 use Rattle.work_journal.specs.Runs.{IsGiven}

@@ -8,4 +8,5 @@ pub mod Fits
 pub mod Wholes
 pub mod Partways
 pub mod Starts
+pub mod Cores
 pub mod Dues

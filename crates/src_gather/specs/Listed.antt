@@ -1,6 +1,6 @@
 -- The sources that a run listed, and which of them are gathered from a folder. This project's profile: a list of sources holds names
 -- that are each ended by a NUL; what follows the last NUL is a name as well.
-use Rattle.std.specs.Prelude.{◌≡◌, ◌≢◌, ◌==◌, ◌++◌, ◌∷◌, ℕ, Bool, true, false, List, [], Option, Some, None, Contains}
+use Rattle.std.specs.Prelude.{◌≡◌, ◌≢◌, ◌==◌, ◌++◌, ◌∷◌, ℕ, Bool, true, false, List, [], Option, Contains}
 use Rattle.std.specs.List.{slice_split}
 use Rattle.file_tree.specs.declared.node.Found.{Found}
 use Rattle.file_tree.specs.declared.node.Found.TheVariants as found
@@ -9,7 +9,7 @@ use Rattle.file_tree.specs.Causes.{Stood, AreInOrder}
 use Rattle.journal_core.specs.Names.{final}
 use Rattle.work_texts.specs.Rules.{is_job_path, text_limit}
 use Rattle.work_journal.specs.Work.{work_path}
-use Rattle.root_paths.specs.Roots.{in_root, work_folder}
+use Rattle.root_paths.specs.Roots.{work_folder}
 use Rattle.root_plan.specs.Tallies.{with_source}
 
 -- ### Names

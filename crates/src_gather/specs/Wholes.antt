@@ -1,5 +1,5 @@
 -- What a gather is to make of a tree: of its plan and of the sources, the node of each name of the run.
-use Rattle.std.specs.Prelude.{◌≡◌, ◌≤◌, ◌<◌, ℕ, List, [], ◌∷◌, length, get_or, map, Some, None, IsTrue}
+use Rattle.std.specs.Prelude.{◌≡◌, ◌≤◌, ◌<◌, ℕ, List, [], length, get_or, map, Some, None, IsTrue}
 use Rattle.std.specs.FinMap as fin
 use Rattle.dw_base.specs.Layout.{file_limit}
 use Rattle.file_tree.specs.declared.node.Node.{Node}

@@ -6,12 +6,16 @@ ghost use Rattle.std.specs.Prelude.{◌≡◌, ◌<◌, ◌≤◌, ℕ, List, So
 ghost use Rattle.file_tree.specs.Causes.{Rose};
 ghost use Rattle.file_tree.specs.Seen.{Seen, map_now, now_of};
 ghost use Rattle.file_tree.specs.Trees.{TreeMap, is_below};
+ghost use Rattle.journal_core.specs.Table.{CoreState};
+ghost use Rattle.root_run.specs.Cores.{LeadsTo};
 ghost use Rattle.root_run.specs.RunEnds.{IsSame};
 ghost use Rattle.src_gather.specs.declared.gather_err.GatherErr.TheVariants as err;
 ghost use Rattle.src_gather.specs.Asked.{IsAsked};
+ghost use Rattle.src_gather.specs.Cores.{SettlesFew, ShowsCore};
 ghost use Rattle.src_gather.specs.Dues.{AnswersDue};
 ghost use Rattle.src_gather.specs.Errors.{is_mild};
 ghost use Rattle.src_gather.specs.GatherEnds.{GatherEnds, IsExact, IsNeverRefused, is_due};
+ghost use Rattle.src_gather.specs.Makers.{gather_folder};
 ghost use Rattle.src_gather.specs.Partways.{IsUnderway, StaysPartway, IsDone, IsUnopposed};
 
 use crate::gather_err::GatherErr;
@@ -33,9 +37,11 @@ pub fn gather<T: Tree>(
     requires some { 0 < jobs }
     requires most { jobs ≤ 64 }
     requires asked { IsAsked root.now from.now dest.now }
-    // over a gather that is underway: what a stop leaves, what is done at `Ok`
+    // over a gather that is underway: what a stop leaves, what is done at `Ok`, the steps that are made, how often it is stored
     ensures images { (start : TreeMap) → IsUnderway start root.now from.now dest.now (T.seen tree.old) → StaysPartway start root.now from.now dest.now (T.seen tree.old) (T.seen tree.new) }
     ensures done { (start : TreeMap) → IsUnderway start root.now from.now dest.now (T.seen tree.old) → IfOk result (λ report. IsDone start root.now from.now dest.now report (T.seen tree.new)) }
+    ensures steps { (start : TreeMap) → IsUnderway start root.now from.now dest.now (T.seen tree.old) → (c : CoreState) → ShowsCore start root.now from.now dest.now (map_now (T.seen tree.old).past) c → LeadsTo (gather_folder root.now) c (T.seen tree.old).past (T.seen tree.new).past result }
+    ensures settles { (start : TreeMap) → IsUnderway start root.now from.now dest.now (T.seen tree.old) → SettlesFew start root.now from.now dest.now jobs (T.seen tree.old).past (T.seen tree.new).past }
     ensures mild { (start : TreeMap) → IsUnderway start root.now from.now dest.now (T.seen tree.old) → IfErr result (λ e. IsTrue (is_mild e)) }
     // why there is no report
     ensures ends { IfErr result (GatherEnds root.now from.now dest.now (T.seen tree.old) (T.seen tree.new)) }

@@ -1,6 +1,7 @@
 -- Each clause is a law on what a start did.
 use Rattle.std.proofs.lemmas.Result.{IfErr-weaker}
 use Rattle.src_gather.proofs.CompleteLaws.{start-completes}
+use Rattle.src_gather.proofs.CoreLaws.{start-leads, start-settles}
 use Rattle.src_gather.proofs.EndsLaws.{ends-fault, ends-kept, ends-never, start-ends}
 use Rattle.src_gather.proofs.ExactLaws.{start-due, start-exact}
 use Rattle.src_gather.proofs.KeptLaws.{start-kept}
@@ -15,6 +16,12 @@ returns-clause-images g c = λ start u. start-stays start c.args.root.now c.args
 
 pub returns-clause-done : goal.returns-clause-done
 returns-clause-done g c = λ start u. start-done start c.args.root.now c.args.from.now c.args.dest.now c.requires.asked u.clean _ _ _ u _ c.start_gather.ensures.ran
+
+pub returns-clause-steps : goal.returns-clause-steps
+returns-clause-steps g c = λ start u core shown. start-leads start c.args.root.now c.args.from.now c.args.dest.now c.requires.asked _ _ _ u _ c.start_gather.ensures.ran core shown
+
+pub returns-clause-settles : goal.returns-clause-settles
+returns-clause-settles g c = λ start u. start-settles start c.args.root.now c.args.from.now c.args.dest.now c.requires.asked _ _ _ u _ c.start_gather.ensures.ran
 
 pub returns-clause-mild : goal.returns-clause-mild
 returns-clause-mild g c = λ start u. start-mild start c.args.root.now c.args.from.now c.args.dest.now c.requires.asked u.clean _ _ _ u _ c.start_gather.ensures.ran

@@ -1,7 +1,6 @@
 -- Both paths, and the one that is too long.
-use Rattle.std.proofs.Common.{◌∙◌, ap}
+use Rattle.std.proofs.Common.{◌∙◌}
 use Rattle.std.proofs.lemmas.Result.{err_from_is_err_and}
-use Rattle.root_paths.specs.Roots.{in_root}
 use Rattle.src_gather.specs.GatherEnds.{IsLongName as long_name}
 use Rattle.src_gather.proofs.NoteLaws.{are_short, long_copy, long_source}
 use Rattle.src_gather.proofs.noting.short_paths.Goals as goal

@@ -1,5 +1,5 @@
 -- What was gathered is planned once its checks pass, and why it isn't.
-use Rattle.std.proofs.Common.{sym, refl, ap, ◌∙◌, ◌<◌, ◌^◌, length}
+use Rattle.std.proofs.Common.{ap, ◌∙◌}
 use Rattle.std.proofs.lemmas.Result.{err_from_is_err_and}
 use Rattle.src_gather.specs.Gathering.{Gathering}
 use Rattle.src_gather.specs.GatherEnds.{OrStopped as or_stopped}

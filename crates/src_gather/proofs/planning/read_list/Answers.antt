@@ -1,9 +1,9 @@
 -- The run is done and its list is read, or why it isn't.
-use Rattle.std.proofs.Common.{◌∙◌, sym}
+use Rattle.std.proofs.Common.{◌∙◌}
 use Rattle.std.proofs.lemmas.Result.{err_from_is_err_and}
-use Rattle.root_paths.proofs.LookLaws.{looked_none, looked_then, rose_since}
+use Rattle.root_paths.proofs.LookLaws.{looked_then, rose_since}
 use Rattle.src_gather.specs.GatherEnds.{OrStopped as or_stopped}
-use Rattle.src_gather.proofs.ListLaws.{end_absent, list_ends, look_ends, text_read}
+use Rattle.src_gather.proofs.ListLaws.{list_ends, look_ends, text_read}
 use Rattle.src_gather.proofs.NoteLaws.{stopped}
 use Rattle.src_gather.proofs.planning.read_list.Goals as goal
 

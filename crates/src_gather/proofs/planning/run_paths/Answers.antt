@@ -1,5 +1,5 @@
 -- Both lie in the work folder of the run.
-use Rattle.std.proofs.Common.{◌∙◌, ap}
+use Rattle.std.proofs.Common.{◌∙◌}
 use Rattle.src_gather.proofs.ListLaws.{end_is, list_is}
 use Rattle.src_gather.proofs.planning.run_paths.Goals as goal
 
