@@ -2,7 +2,8 @@
 ghost use Rattle.std.specs.Prelude.{◌≡◌, ◌≢◌, false, IfOk, None, [], option_map, unwrap_or, map, codes};
 ghost use Rattle.clap.specs.Words.{app_of, found_of, rows_of, rule_of, first_of, all_of, kind_of};
 ghost use Rattle.clap.specs.declared.error.kind.ErrorKind.TheVariants.{OutOfMemory};
-ghost use Rattle.dbg_words.specs.Matches.{valued_arg, flag_arg, path_arg, edit_options_app, options_app, program_app, line_of_rows, is_true_text, taken_line};
+ghost use Rattle.clap.specs.Simple.{new_app, with_rule};
+ghost use Rattle.dbg_words.specs.Matches.{valued_arg, flag_arg, path_arg, without_help, edit_options_app, options_app, program_app, line_of_rows, is_true_text, taken_line};
 ghost use Rattle.dbg_words.specs.Words.{texts};
 
 use crate::line::Line;
@@ -39,40 +40,69 @@ fn paths<'a>(alloc: Global) -> Arg<'a>
     Arg::new(alloc, "path").action(ArgAction::Append)
 }
 
+/// The program with one more option that takes a value.
+fn with_valued<'a>(
+    alloc: Global,
+    command: Command<'a>,
+    name: &'a str,
+) -> Result<Command<'a>, AllocError>
+    ensures app { IfOk result (λ c. app_of c ≡ with_rule (app_of command.entry) (valued_arg name.now)) }
+{
+    command.arg(valued(alloc, name))
+}
+
+/// The program with one more flag.
+fn with_flag<'a>(
+    alloc: Global,
+    command: Command<'a>,
+    name: &'a str,
+) -> Result<Command<'a>, AllocError>
+    ensures app { IfOk result (λ c. app_of c ≡ with_rule (app_of command.entry) (flag_arg name.now)) }
+{
+    command.arg(flag(alloc, name))
+}
+
+/// The program with its paths.
+fn with_paths<'a>(alloc: Global, command: Command<'a>) -> Result<Command<'a>, AllocError>
+    ensures app { IfOk result (λ c. app_of c ≡ with_rule (app_of command.entry) path_arg) }
+{
+    command.arg(paths(alloc))
+}
+
+/// The program with no options, and with no help.
+fn bare<'a>(alloc: Global) -> Command<'a>
+    ensures app { app_of result ≡ without_help (new_app (codes "deilmuko")) }
+{
+    Command::new(alloc, "deilmuko").disable_help_flag(true)
+}
+
 /// The program with the options of an edit's paths and build-id that take a value.
 fn edit_options<'a>(alloc: Global) -> Result<Command<'a>, AllocError>
     ensures app { IfOk result (λ c. app_of c ≡ edit_options_app) }
 {
-    let command = Command::new(alloc, "deilmuko")
-        .disable_help_flag(true)
-        .arg(valued(alloc, "base-dir"))?
-        .arg(valued(alloc, "dest-dir"))?
-        .arg(valued(alloc, "seed"))?;
-    Ok(command)
+    let command = with_valued(alloc, bare(alloc), "base-dir")?;
+    let command = with_valued(alloc, command, "dest-dir")?;
+    with_valued(alloc, command, "seed")
 }
 
 /// The program with the options that take a value.
 fn options<'a>(alloc: Global) -> Result<Command<'a>, AllocError>
     ensures app { IfOk result (λ c. app_of c ≡ options_app) }
 {
-    let command = edit_options(alloc)?
-        .arg(valued(alloc, "list-file"))?
-        .arg(valued(alloc, "max-file"))?
-        .arg(valued(alloc, "jobs"))?
-        .arg(valued(alloc, "more-maps"))?;
-    Ok(command)
+    let command = with_valued(alloc, edit_options(alloc)?, "list-file")?;
+    let command = with_valued(alloc, command, "max-file")?;
+    let command = with_valued(alloc, command, "jobs")?;
+    with_valued(alloc, command, "more-maps")
 }
 
 /// The program with all its options.
 fn program<'a>(alloc: Global) -> Result<Command<'a>, AllocError>
     ensures app { IfOk result (λ c. app_of c ≡ program_app) }
 {
-    let command = options(alloc)?
-        .arg(flag(alloc, "build-id"))?
-        .arg(flag(alloc, "skip-refused"))?
-        .arg(flag(alloc, "grow-inline"))?
-        .arg(paths(alloc))?;
-    Ok(command)
+    let command = with_flag(alloc, options(alloc)?, "build-id")?;
+    let command = with_flag(alloc, command, "skip-refused")?;
+    let command = with_flag(alloc, command, "grow-inline")?;
+    with_paths(alloc, command)
 }
 
 /// The value of an option.

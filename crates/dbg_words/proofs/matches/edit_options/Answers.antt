@@ -1,13 +1,12 @@
--- The program with the first options, one added after the other.
-use Rattle.std.proofs.Common.{◌≡◌, ap, ap₂, codes, ◌∙◌}
-use Rattle.clap.specs.Simple.{app_of, app_of_fields, new_app, with_rule}
-use Rattle.dbg_words.specs.Matches.{without_help}
+-- The first options are added, one after the other.
+use Rattle.std.proofs.Common.{ap, codes, ◌∙◌}
+use Rattle.std.proofs.lemmas.Result.{IfOk-weaker}
+use Rattle.clap.specs.Simple.{App, with_rule}
+use Rattle.dbg_words.specs.Matches.{valued_arg}
 use Rattle.dbg_words.proofs.matches.edit_options.Goals as goal
 
 pub returns : goal.returns
 returns c =
-    let bare : app_of c.disable_help_flag.result ≡ without_help (new_app (codes "deilmuko")) =
-    ap app_of_fields c.disable_help_flag.ensures ∙ ap without_help c.new.ensures.app in
-    let one = c.in_ok-arg.ensures.shape c.valued.ensures.local ∙ ap₂ with_rule bare c.valued.ensures.rule in
-    let two = c.in_ok-arg-2.ensures.shape c.valued-2.ensures.local ∙ ap₂ with_rule one c.valued-2.ensures.rule in
-    record { app = c.in_ok-command.ensures.shape c.valued-3.ensures.local ∙ ap₂ with_rule two c.valued-3.ensures.rule }
+    let one = c.in_ok-command.ensures.app ∙ ap (λ (a : App). with_rule a (valued_arg (codes "base-dir"))) c.bare.ensures.app in
+    let two = c.in_ok-command-2.ensures.app ∙ ap (λ (a : App). with_rule a (valued_arg (codes "dest-dir"))) one in
+    record { app = IfOk-weaker c.with_valued-3.result _ _ (λ command made. made ∙ ap (λ (a : App). with_rule a (valued_arg (codes "seed"))) two) c.with_valued-3.ensures.app }

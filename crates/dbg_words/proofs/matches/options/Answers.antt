@@ -1,11 +1,13 @@
 -- The other options that take a value are added to the first.
-use Rattle.std.proofs.Common.{ap₂, ◌∙◌}
-use Rattle.clap.specs.Simple.{with_rule}
+use Rattle.std.proofs.Common.{ap, codes, ◌∙◌}
+use Rattle.std.proofs.lemmas.Result.{IfOk-weaker}
+use Rattle.clap.specs.Simple.{App, with_rule}
+use Rattle.dbg_words.specs.Matches.{valued_arg}
 use Rattle.dbg_words.proofs.matches.options.Goals as goal
 
 pub returns : goal.returns
 returns c =
-    let one = c.in_ok-arg.ensures.shape c.valued.ensures.local ∙ ap₂ with_rule c.in_ok-edit_options.ensures.app c.valued.ensures.rule in
-    let two = c.in_ok-arg-2.ensures.shape c.valued-2.ensures.local ∙ ap₂ with_rule one c.valued-2.ensures.rule in
-    let three = c.in_ok-arg-3.ensures.shape c.valued-3.ensures.local ∙ ap₂ with_rule two c.valued-3.ensures.rule in
-    record { app = c.in_ok-command.ensures.shape c.valued-4.ensures.local ∙ ap₂ with_rule three c.valued-4.ensures.rule }
+    let one = c.in_ok-command.ensures.app ∙ ap (λ (a : App). with_rule a (valued_arg (codes "list-file"))) c.in_ok-edit_options.ensures.app in
+    let two = c.in_ok-command-2.ensures.app ∙ ap (λ (a : App). with_rule a (valued_arg (codes "max-file"))) one in
+    let three = c.in_ok-command-3.ensures.app ∙ ap (λ (a : App). with_rule a (valued_arg (codes "jobs"))) two in
+    record { app = IfOk-weaker c.with_valued-4.result _ _ (λ command made. made ∙ ap (λ (a : App). with_rule a (valued_arg (codes "more-maps"))) three) c.with_valued-4.ensures.app }
