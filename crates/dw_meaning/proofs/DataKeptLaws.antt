@@ -3,7 +3,7 @@ use Rattle.std.proofs.Common.{true, ◌≡◌, ◌≢◌, ℕ, ◌+◌, ◌≤�
 use Rattle.std.specs.Bool.{⊤}
 use Rattle.std.proofs.lemmas.List.{length-append, append-nil}
 use Rattle.dw_base.specs.Cells.{Cell, Located, bytes_of, located_cells}
-use Rattle.dw_base.specs.DebugData.{DebugData, DataReadings, begins_by, units_in, ReadsAll, EntryPlace, place_by, entry_places, all_places, info_number, info_numbers, Lasting, Around, around_of, indexing_of, line_source, path_slots, table_of}
+use Rattle.dw_base.specs.DebugData.{DebugData, DataReadings, begins_by, units_in, ReadsAll, EntryPlace, place_by, entry_places, all_places, info_number, info_numbers, Lasting, Around, around_of, indexing_of, line_source, path_slots}
 use Rattle.dw_base.specs.Forms.{ValueKind, number_of, leb_number, signed_leb, block_of, counted, counted_leb, inline_text, text_offset, present, in_abbreviation, form_in_front, supplementary, unlisted, kind_in}
 use Rattle.dw_base.specs.LineHeaders.{header_with}
 use Rattle.dw_base.specs.LineReadings.{LineReading, ReadsTable, TablesTo, table_starts, starts_from, all_lines}
@@ -49,7 +49,6 @@ use Rattle.dw_meaning.specs.DataOutput.{DataReads, DataFits, EachWritable, table
 use Rattle.dw_meaning.proofs.IndexTextLaws.{IsApart, texts-apart, slots-move}
 use Rattle.dw_meaning.specs.NewAddends.{places_by}
 use Rattle.dw_meaning.specs.TextLineCells.{all_cells_by_texts}
-use Rattle.dw_meaning.proofs.FurtherLaws.{AsksPaths, FurtherStay, appending-asks, further-stay}
 use Rattle.dw_meaning.proofs.LineClearLaws.{EachClear}
 use Rattle.dw_meaning.proofs.LineColumnLaws.{edited_with}
 use Rattle.dw_meaning.proofs.LineHeaderLaws.{header-is}
@@ -59,7 +58,7 @@ use Rattle.dw_meaning.proofs.MacroEditLaws.{AllMacrosChanged, all-macros-can, ed
 use Rattle.dw_meaning.proofs.OffsetMoveLaws.{RolesChanged, names-can, offsets-can, roles-length, names-becomes, roles-named, offsets-reads, names-reads}
 use Rattle.dw_meaning.proofs.SlotMeaningLaws.{units-slots}
 use Rattle.dw_meaning.proofs.TextCellLaws.{text_tables-bytes}
-use Rattle.dw_meaning.proofs.TextEditLaws.{EachBelow, appending-keeps, LinesMove, TablesMove, TextsAre, behind_piece, Moves, PlainPiece, pieces-move, SlotMoves, edited-changed, roles-changed, shift_of, moved_table}
+use Rattle.dw_meaning.proofs.TextEditLaws.{EachBelow, rebuilding-keeps, LinesMove, TablesMove, TextsAre, behind_piece, Moves, PlainPiece, pieces-move, SlotMoves, edited-changed, roles-changed, shift_of, moved_table}
 use Rattle.dw_meaning.proofs.UnitMeaningLaws.{units-changed}
 use Rattle.dw_meaning.proofs.DataParts.{found_with, kept_with, stands_with}
 
@@ -347,19 +346,9 @@ both-move : (m : PathMap) (d : DebugData) (r : DataReadings) → DataMoves m d r
 unfolding table_change
 both-move m d r w = record {
   map = w.map;
-  str = record { keeps = appending-keeps m (d.found Str).bytes; small = w.str };
-  line_str = record { keeps = appending-keeps m (d.found LineStr).bytes; small = w.line_str };
+  str = record { keeps = rebuilding-keeps m (d.found Str).bytes; small = w.str };
+  line_str = record { keeps = rebuilding-keeps m (d.found LineStr).bytes; small = w.line_str };
 }
-
--- only paths ask for places, so of line tables that were read it is said by their paths what holds by all their texts
-pub table-asks : (m : PathMap) (table : TextSection) (around : Around) (r : DataReadings) → AsksPaths (table_change m table around r).plan
-unfolding table_change
-table-asks m table around r = appending-asks m (table_of around table).bytes
-
-pub places-stay : (m : PathMap) (d : DebugData) (r : DataReadings) → FurtherStay (places_by (changes_of m (around_of d r) r) d)
-places-stay m d r =
-    further-stay m ((changes_of m (around_of d r) r).new Str) ((changes_of m (around_of d r) r).new LineStr) (line_source d)
-    (table-asks m InStr (around_of d r) r) (table-asks m InLineStr (around_of d r) r)
 
 each-can : (m : PathMap) (d : DebugData) (r : DataReadings) (rs : List LineReading) → EachWritable m (changes_of m (around_of d r) r) (around_of d r) rs
     → EachCan (line_source d) m (changes_of m (around_of d r) r) rs
@@ -420,8 +409,8 @@ unfolding table_change
 tables-move m d r w = record {
   map = w.map;
   lines = lines-move m d r w;
-  str = record { keeps = appending-keeps m (d.found Str).bytes; small = w.str };
-  line_str = record { keeps = appending-keeps m (d.found LineStr).bytes; small = w.line_str };
+  str = record { keeps = rebuilding-keeps m (d.found Str).bytes; small = w.str };
+  line_str = record { keeps = rebuilding-keeps m (d.found LineStr).bytes; small = w.line_str };
 }
 
 -- the change as one of what stands around

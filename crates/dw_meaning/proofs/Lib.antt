@@ -122,7 +122,6 @@ pub mod LeavingLaws
 pub mod BareMentionLaws
 pub mod LeftNoneLaws
 pub mod LineTextLaws
-pub mod FurtherLaws
 pub mod TextCellLaws
 pub mod TextStretchLaws
 pub mod TextNoneLaws

@@ -15,7 +15,7 @@ use Rattle.dw_base.specs.Paths.{PathMap}
 use Rattle.dw_base.specs.Pieces.{Piece, EachPiece}
 use Rattle.dw_base.specs.Roles.{Role, fixed, offset, inline_path, line_start, role_of}
 use Rattle.dw_base.specs.SectionTexts.{slot_role, name_role, macro_role, mentions_with, macro_mentions, file_mentions, NameTexts}
-use Rattle.dw_base.specs.StringTables.{Mention, new_table, new_texts, appending}
+use Rattle.dw_base.specs.StringTables.{Mention, new_table, new_texts, rebuilding}
 use Rattle.dw_base.specs.TextChanges.{offset_in, mentions_by, mentions_of, all_mentions, NamesText, NamesTextBy}
 use Rattle.dw_base.specs.Texts.{same_text, ends_in}
 use Rattle.dw_base.specs.UnitStates.{UnitState}
@@ -171,5 +171,4 @@ new_table-none m table around r none texts slots names macros lines_none =
     ∙ ap (λ (ms : List Mention). ms ++ (all_texts_mentions (source_around around) table r.lines ++ (macro_mentions table around r.macros ++ mentions_with name_role table around r.names))) slots_none
     ∙ ap (λ (ms : List Mention). ms ++ (macro_mentions table around r.macros ++ mentions_with name_role table around r.names)) lines_none
     ∙ ap (λ (ms : List Mention). ms ++ mentions_with name_role table around r.names) (macros-none table around r.macros none macros) ∙ names_none in
-    ap (λ (ms : List Mention). new_table (appending m (table_of around table).bytes) (new_texts (appending m (table_of around table).bytes) m ms)) all
-    ∙ append-nil (table_of around table).bytes ∙ none
+    ap (λ (ms : List Mention). new_table rebuilding (new_texts rebuilding m ms)) all

@@ -1,6 +1,6 @@
 -- The text law, for both plans of tables of texts: where the tables change, each field of an offset names the new text of
 -- its mention, and each path that stands in its value is mapped there.
-use Rattle.std.proofs.Common.{Bool, true, false, ◌≡◌, ℕ, ◌+◌, ◌^◌, ◌<◌, ◌≤◌, List, [], ◌∷◌, ◌++◌, length, drop, get_or, ◌==◌, ◌||◌, Option, IsTrue, not, sym, ap, ◌∙◌, refl, subst, arith, if◌then◌else◌, None, Some, append_assoc}
+use Rattle.std.proofs.Common.{Bool, true, false, ◌≡◌, ℕ, ◌+◌, ◌^◌, ◌<◌, ◌≤◌, List, [], ◌∷◌, ◌++◌, length, drop, get_or, ◌==◌, ◌||◌, Option, IsTrue, sym, ap, ◌∙◌, refl, subst, arith, if◌then◌else◌, None, Some, append_assoc}
 use Rattle.std.specs.Bool.{⊤}
 use Rattle.std.proofs.lemmas.List.{length-append, drop_all}
 use Rattle.dw_base.specs.Cells.{Cell, Located, Relocation, bytes_of, first_relocation, with_bytes, offset_of}
@@ -9,13 +9,13 @@ use Rattle.dw_base.specs.Forms.{ValueKind, number_of, leb_number, signed_leb, bl
 use Rattle.dw_base.specs.InlinePaths.{mapped_inline}
 use Rattle.dw_base.specs.MappedSlots.{mapped_slots}
 use Rattle.dw_base.specs.SectionTexts.{mentions_with, edited_with}
-use Rattle.dw_base.specs.Paths.{PathMap, IsPathMap, mapped_path}
+use Rattle.dw_base.specs.Paths.{PathMap, IsPathMap}
 use Rattle.dw_base.specs.Pieces.{Piece, Chain, EachPiece}
 use Rattle.dw_base.specs.Roles.{Role, fixed, offset, inline_path, line_start, is_line_start, role_of_kind, role_of_mode, role_of, is_path_use, use_of}
-use Rattle.dw_base.specs.StringTables.{Mention, Plan, new_text, appending, rebuilding, with_mention, texts_after, place_in, new_table, new_place}
+use Rattle.dw_base.specs.StringTables.{Mention, Plan, new_text, rebuilding, with_mention, texts_after, place_in, new_table, new_place}
 use Rattle.dw_base.specs.NewOffsets.{with_offset}
 use Rattle.dw_base.specs.TextChanges.{mention_at, mentions_by, mentions_of, TableChange, TableChanges, change_of, moved_field, moved_start, edited_by, edited_all, NamesTextBy, NamesText, InlineFitsBy, InlineFits}
-use Rattle.dw_base.specs.Texts.{text, has_nul, text_in, ends_in, is_in, same_text, laid_texts}
+use Rattle.dw_base.specs.Texts.{text, has_nul, text_in, ends_in, is_in, laid_texts}
 use Rattle.dw_base.specs.UnitHeaders.{UnitBase}
 use Rattle.dw_base.specs.UnitPieces.{IsValue, FitsKind, FitsMode, unit_grammar}
 use Rattle.dw_base.specs.UnitStates.{Mode, at_header, at_code, at_values, at_chosen, stuck, UnitState}
@@ -39,7 +39,7 @@ use Rattle.dw_base.proofs.PathLaws.{has_nul-mapped_path}
 use Rattle.dw_base.proofs.PieceFrameLaws.{AllChanged}
 use Rattle.dw_base.proofs.PlainCellLaws.{IsPlain, first-plain}
 use Rattle.dw_base.proofs.TableLaws.{is_in-texts_after, is_in-with_mention}
-use Rattle.dw_base.proofs.TextLaws.{has_nul-append, text-append_nul, has_nul-text, drop-text, has_nul-text_in, same_text-true, text_in-append, ends_in-append, ends_in-inside, text_in-place_in, ends_in-place_in, place_in-lt}
+use Rattle.dw_base.proofs.TextLaws.{has_nul-append, text-append_nul, has_nul-text, drop-text, has_nul-text_in, text_in-append, ends_in-append, ends_in-inside, text_in-place_in, ends_in-place_in, place_in-lt}
 use Rattle.dw_base.proofs.UnitEditLaws.{Shift, Restarted, Rewritten, Becomes, PieceSlot, UnitsChanged, length-bytes_of, number-there}
 use Rattle.dw_base.specs.declared.debug_sections.DebugSection.TheVariants.{Str, LineStr, StrOffsets, Line}
 use Rattle.dw_base.specs.declared.texts.TextSection.{TextSection}
@@ -52,18 +52,6 @@ use Rattle.dw_meaning.proofs.DataParts.{stands_with}
 pub record KeepsTexts (plan : Plan) (m : PathMap) (table : List ℕ) : Type 0 where
   pub text : (x : Mention) → plan.asks x ≡ false → new_text m x ≡ x.text
   pub kept : (x : Mention) → plan.asks x ≡ false → plan.kept ≡ table
-
--- where old bytes are kept, a mention that asks for no place is no path, or is one that the map leaves as it is
-appending-text : (m : PathMap) (path : Bool) (t : List ℕ) → (appending m []).asks (record { path = path; text = t }) ≡ false → new_text m (record { path = path; text = t }) ≡ t
-appending-text m false t e = refl
-appending-text m true t e = same_text-true (mapped_path m t) t (not_false (same_text (mapped_path m t) t) e)
-  where
-    not_false : (b : Bool) → not b ≡ false → b ≡ true
-    not_false true e = refl
-    not_false false e = cc
-
-pub appending-keeps : (m : PathMap) (table : List ℕ) → KeepsTexts (appending m table) m table
-appending-keeps m table = record { text = λ x e. appending-text m x.path x.text e; kept = λ x e. refl }
 
 -- where a table is built anew, each mention asks for a place
 pub rebuilding-keeps : (m : PathMap) (table : List ℕ) → KeepsTexts rebuilding m table

@@ -48,7 +48,7 @@ worked_data pieces abbrevs str line_str = record {
 abbrev worked_readings : DebugData → ℕ → List (List ℕ) → DataReadings
 worked_readings d whole pieces = units_alone (record { number = 1; pieces = pieces_from d.base (before_unit 1 in_info whole 0 0) pieces } ∷ [])
 
--- a variable that shares the text of the directory keeps it, and the directory has a new place
+-- a variable that shares the text of the directory names it still, at a place of its own behind the mapped directory
 abbrev shared_pieces : List (List ℕ)
 shared_pieces =
     (22 ∷ 0 ∷ 0 ∷ 0 ∷ 4 ∷ 0 ∷ 0 ∷ 0 ∷ 0 ∷ 0 ∷ 8 ∷ [])
@@ -86,17 +86,17 @@ abbrev shared_map : PathMap
 shared_map = record { pairs = record { base = codes "/build/p"; dest = codes "/usr/src/debug/p" } ∷ [] }
 
 pub shared-output : new_bodies shared_map shared_data (worked_readings shared_data 26 shared_pieces)
-    ≡ record { number = 3; bytes = codes "/build/p/a.c\0" ++ codes "/build/p\0" ++ codes "/usr/src/debug/p/a.c\0" ++ codes "/usr/src/debug/p\0" }
+    ≡ record { number = 3; bytes = codes "/usr/src/debug/p/a.c\0" ++ codes "/usr/src/debug/p\0" ++ codes "/build/p\0" }
     ∷ record { number = 4; bytes = [] } ∷ record { number = 0; bytes = [] } ∷ record { number = 0; bytes = [] } ∷ record { number = 0; bytes = [] }
     ∷ record {
       number = 1;
       bytes = all_bytes (
           (22 ∷ 0 ∷ 0 ∷ 0 ∷ 4 ∷ 0 ∷ 0 ∷ 0 ∷ 0 ∷ 0 ∷ 8 ∷ [])
           ∷ (1 ∷ [])
-          ∷ (22 ∷ 0 ∷ 0 ∷ 0 ∷ [])
-          ∷ (43 ∷ 0 ∷ 0 ∷ 0 ∷ [])
+          ∷ (0 ∷ 0 ∷ 0 ∷ 0 ∷ [])
+          ∷ (21 ∷ 0 ∷ 0 ∷ 0 ∷ [])
           ∷ (2 ∷ [])
-          ∷ (13 ∷ 0 ∷ 0 ∷ 0 ∷ [])
+          ∷ (38 ∷ 0 ∷ 0 ∷ 0 ∷ [])
           ∷ (0 ∷ [])
           ∷ []);
     } ∷ []
@@ -104,7 +104,7 @@ unfolding new_bodies table_change unit_header initial_length_at number_at spelle
     uleb_at text_in offset_of field_of role_of lies_under matching mapped_path mapped_inline with_offset
 shared-output = refl
 
--- a path that stands in its value, mapped in its room
+-- a path that stands in its value, mapped in its room; no field names a text of the table, so none is left in it
 abbrev inline_pieces : List (List ℕ)
 inline_pieces =
     (31 ∷ 0 ∷ 0 ∷ 0 ∷ 4 ∷ 0 ∷ 0 ∷ 0 ∷ 0 ∷ 0 ∷ 8 ∷ [])
@@ -136,7 +136,7 @@ abbrev inline_map : PathMap
 inline_map = record { pairs = record { base = codes "/build/package-1.0"; dest = codes "/usr/src/debug" } ∷ [] }
 
 pub inline-output : new_bodies inline_map inline_data (worked_readings inline_data 35 inline_pieces)
-    ≡ record { number = 3; bytes = codes "/build/p/a.c\0" ++ codes "/build/p\0" }
+    ≡ record { number = 3; bytes = [] }
     ∷ record { number = 4; bytes = [] } ∷ record { number = 0; bytes = [] } ∷ record { number = 0; bytes = [] } ∷ record { number = 0; bytes = [] }
     ∷ record {
       number = 1;
@@ -208,14 +208,14 @@ abbrev wide_map : PathMap
 wide_map = record { pairs = record { base = codes "/build/p"; dest = codes "/usr/src/debug/p" } ∷ [] }
 
 pub wide-output : new_bodies wide_map wide_data (worked_readings wide_data 85 wide_pieces)
-    ≡ record { number = 3; bytes = codes "/build/p/a.c\0" ++ codes "/build/p/b.c\0" ++ codes "/usr/src/debug/p/a.c\0" ++ codes "/usr/src/debug/p/b.c\0" }
+    ≡ record { number = 3; bytes = codes "/usr/src/debug/p/a.c\0" ++ codes "/usr/src/debug/p/b.c\0" }
     ∷ record { number = 4; bytes = [] } ∷ record { number = 0; bytes = [] } ∷ record { number = 0; bytes = [] } ∷ record { number = 0; bytes = [] }
     ∷ record {
       number = 1;
       bytes = all_bytes (
           (255 ∷ 255 ∷ 255 ∷ 255 ∷ 36 ∷ 0 ∷ 0 ∷ 0 ∷ 0 ∷ 0 ∷ 0 ∷ 0 ∷ 5 ∷ 0 ∷ 1 ∷ 8 ∷ 0 ∷ 0 ∷ 0 ∷ 0 ∷ 0 ∷ 0 ∷ 0 ∷ 0 ∷ [])
           ∷ (1 ∷ [])
-          ∷ (26 ∷ 0 ∷ 0 ∷ 0 ∷ 0 ∷ 0 ∷ 0 ∷ 0 ∷ [])
+          ∷ (0 ∷ 0 ∷ 0 ∷ 0 ∷ 0 ∷ 0 ∷ 0 ∷ 0 ∷ [])
           ∷ (2 ∷ [])
           ∷ (codes "v\0")
           ∷ (3 ∷ [])
@@ -224,7 +224,7 @@ pub wide-output : new_bodies wide_map wide_data (worked_readings wide_data 85 wi
           ∷ (0 ∷ [])
           ∷ (255 ∷ 255 ∷ 255 ∷ 255 ∷ 25 ∷ 0 ∷ 0 ∷ 0 ∷ 0 ∷ 0 ∷ 0 ∷ 0 ∷ 5 ∷ 0 ∷ 1 ∷ 8 ∷ 0 ∷ 0 ∷ 0 ∷ 0 ∷ 0 ∷ 0 ∷ 0 ∷ 0 ∷ [])
           ∷ (1 ∷ [])
-          ∷ (47 ∷ 0 ∷ 0 ∷ 0 ∷ 0 ∷ 0 ∷ 0 ∷ 0 ∷ [])
+          ∷ (21 ∷ 0 ∷ 0 ∷ 0 ∷ 0 ∷ 0 ∷ 0 ∷ 0 ∷ [])
           ∷ (2 ∷ [])
           ∷ (codes "x\0")
           ∷ (0 ∷ [])
@@ -307,15 +307,15 @@ abbrev forms_map : PathMap
 forms_map = record { pairs = record { base = codes "/build/p"; dest = codes "/usr/src/debug/p" } ∷ [] }
 
 pub forms-output : new_bodies forms_map forms_data (worked_readings forms_data 149 forms_pieces)
-    ≡ record { number = 3; bytes = codes "/build/p/a.c\0" ++ codes "/build/p\0" ++ codes "/usr/src/debug/p/a.c\0" }
-    ∷ record { number = 4; bytes = codes "/build/p\0" ++ codes "a.c\0" ++ codes "/usr/src/debug/p\0" } ∷ record { number = 0; bytes = [] } ∷ record { number = 0; bytes = [] } ∷ record { number = 0; bytes = [] }
+    ≡ record { number = 3; bytes = codes "/usr/src/debug/p/a.c\0" ++ codes "/build/p\0" }
+    ∷ record { number = 4; bytes = codes "/usr/src/debug/p\0" ++ codes "a.c\0" } ∷ record { number = 0; bytes = [] } ∷ record { number = 0; bytes = [] } ∷ record { number = 0; bytes = [] }
     ∷ record {
       number = 1;
       bytes = all_bytes (
           (145 ∷ 0 ∷ 0 ∷ 0 ∷ 5 ∷ 0 ∷ 1 ∷ 8 ∷ 0 ∷ 0 ∷ 0 ∷ 0 ∷ [])
           ∷ (1 ∷ [])
-          ∷ (22 ∷ 0 ∷ 0 ∷ 0 ∷ [])
-          ∷ (13 ∷ 0 ∷ 0 ∷ 0 ∷ [])
+          ∷ (0 ∷ 0 ∷ 0 ∷ 0 ∷ [])
+          ∷ (0 ∷ 0 ∷ 0 ∷ 0 ∷ [])
           ∷ (2 ∷ [])
           ∷ (41 ∷ 17 ∷ 0 ∷ 0 ∷ 0 ∷ 0 ∷ 0 ∷ 0 ∷ [])
           ∷ (2 ∷ 0 ∷ 145 ∷ 108 ∷ [])
@@ -329,7 +329,7 @@ pub forms-output : new_bodies forms_map forms_data (worked_readings forms_data 1
           ∷ (200 ∷ [])
           ∷ (1 ∷ [])
           ∷ (255 ∷ 126 ∷ [])
-          ∷ (13 ∷ 0 ∷ 0 ∷ 0 ∷ [])
+          ∷ (21 ∷ 0 ∷ 0 ∷ 0 ∷ [])
           ∷ (185 ∷ 100 ∷ [])
           ∷ (12 ∷ 0 ∷ 0 ∷ 0 ∷ [])
           ∷ (12 ∷ [])
@@ -344,7 +344,7 @@ pub forms-output : new_bodies forms_map forms_data (worked_readings forms_data 1
           ∷ ([])
           ∷ (200 ∷ 1 ∷ [])
           ∷ (0 ∷ 1 ∷ 2 ∷ 3 ∷ 4 ∷ 5 ∷ 6 ∷ 7 ∷ 8 ∷ 9 ∷ 10 ∷ 11 ∷ 12 ∷ 13 ∷ 14 ∷ 15 ∷ [])
-          ∷ (9 ∷ 0 ∷ 0 ∷ 0 ∷ [])
+          ∷ (17 ∷ 0 ∷ 0 ∷ 0 ∷ [])
           ∷ (136 ∷ 119 ∷ 102 ∷ 85 ∷ 68 ∷ 51 ∷ 34 ∷ 17 ∷ [])
           ∷ ([])
           ∷ (3 ∷ [])

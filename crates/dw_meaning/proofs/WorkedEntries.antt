@@ -61,9 +61,9 @@ unfolding units_of unit_header initial_length_at number_at spelled between after
 small-meaning = refl
 
 pub small-output : new_bodies build_map small_data (lone_readings small_data 20 small_pieces)
-    ≡ record { number = 3; bytes = codes "/build/p/a.c\0/build/p\0/usr/src/debug/p/a.c\0/usr/src/debug/p\0" }
+    ≡ record { number = 3; bytes = codes "/usr/src/debug/p/a.c\0/usr/src/debug/p\0" }
     ∷ record { number = 0; bytes = [] } ∷ record { number = 0; bytes = [] } ∷ record { number = 0; bytes = [] } ∷ record { number = 0; bytes = [] }
-    ∷ record { number = 1; bytes = word 16 ++ half 4 ++ word 0 ++ (8 ∷ 1 ∷ []) ++ word 22 ++ word 43 } ∷ []
+    ∷ record { number = 1; bytes = word 16 ++ half 4 ++ word 0 ++ (8 ∷ 1 ∷ []) ++ word 0 ++ word 21 } ∷ []
 unfolding new_bodies table_change unit_header initial_length_at number_at spelled between after_code kind_in form_rows abbreviations_at
     uleb_at text_in offset_of field_of role_of lies_under matching mapped_path mapped_inline with_offset
 small-output = refl

@@ -77,31 +77,31 @@ paths_pieces order address name directory =
     (numbers order 4 (16 ∷ []) ++ numbers order 2 (4 ∷ []) ++ numbers order 4 (0 ∷ []) ++ (address ∷ []))
     ∷ (1 ∷ []) ∷ numbers order 4 (name ∷ []) ∷ numbers order 4 (directory ∷ []) ∷ []
 
--- the texts, and with the mapped ones behind them
+-- the texts, and the mapped ones
 abbrev pub path_texts : List ℕ
 path_texts = codes "/build/p/a.c\0/build/p\0"
 
-abbrev pub all_texts : List ℕ
-all_texts = codes "/build/p/a.c\0/build/p\0/usr/src/debug/p/a.c\0/usr/src/debug/p\0"
+abbrev pub mapped_texts : List ℕ
+mapped_texts = codes "/usr/src/debug/p/a.c\0/usr/src/debug/p\0"
 
 -- the debug data of a file, and of its output
 abbrev pub old_data : Order → ℕ → DebugData
 old_data order address = lone_data order (all_bytes (paths_pieces order address 0 13)) paths_abbrevs path_texts
 
 abbrev pub new_data : Order → ℕ → DebugData
-new_data order address = lone_data order (all_bytes (paths_pieces order address 22 43)) paths_abbrevs all_texts
+new_data order address = lone_data order (all_bytes (paths_pieces order address 0 21)) paths_abbrevs mapped_texts
 
 abbrev pub old_readings : Order → ℕ → DataReadings
 old_readings order address = lone_readings (old_data order address) 20 (paths_pieces order address 0 13)
 
 abbrev pub new_readings : Order → ℕ → DataReadings
-new_readings order address = lone_readings (new_data order address) 20 (paths_pieces order address 22 43)
+new_readings order address = lone_readings (new_data order address) 20 (paths_pieces order address 0 21)
 
 -- the new bodies
 abbrev pub paths_bodies : Order → ℕ → List Body
 paths_bodies order address =
-    record { number = 3; bytes = all_texts } ∷ record { number = 0; bytes = [] } ∷ record { number = 0; bytes = [] } ∷ record { number = 0; bytes = [] } ∷ record { number = 0; bytes = [] }
-    ∷ record { number = 1; bytes = all_bytes (paths_pieces order address 22 43) } ∷ []
+    record { number = 3; bytes = mapped_texts } ∷ record { number = 0; bytes = [] } ∷ record { number = 0; bytes = [] } ∷ record { number = 0; bytes = [] } ∷ record { number = 0; bytes = [] }
+    ∷ record { number = 1; bytes = all_bytes (paths_pieces order address 0 21) } ∷ []
 
 -- what the units mean
 abbrev pub path_at : ℕ → List ℕ → AttributeMeaning
@@ -154,7 +154,7 @@ pub one-new_reads : DataReads (new_data Little 8) (new_readings Little 8)
 unfolding unit_header initial_length_at number_at spelled between after_code kind_in form_rows abbreviations_at uleb_at text_in ends_in offset_of
     field_of role_of value_of
 one-new_reads = record {
-  units = (refl, record { chain = chain-sound _ _ (paths_pieces Little 8 22 43) paths-table refl; cells = refl }, tt);
+  units = (refl, record { chain = chain-sound _ _ (paths_pieces Little 8 0 21) paths-table refl; cells = refl }, tt);
   offsets = none-offsets Little;
   lines = refl;
   macros = tt;
@@ -192,7 +192,7 @@ pub big-new_reads : DataReads (new_data Big 4) (new_readings Big 4)
 unfolding unit_header initial_length_at number_at spelled between after_code kind_in form_rows abbreviations_at uleb_at text_in ends_in offset_of
     field_of role_of value_of
 big-new_reads = record {
-  units = (refl, record { chain = chain-sound _ _ (paths_pieces Big 4 22 43) paths-table refl; cells = refl }, tt);
+  units = (refl, record { chain = chain-sound _ _ (paths_pieces Big 4 0 21) paths-table refl; cells = refl }, tt);
   offsets = none-offsets Big;
   lines = refl;
   macros = tt;
@@ -218,10 +218,10 @@ one_unit =
 -- its output
 abbrev pub one_unit_out : List ℕ
 one_unit_out =
-    file_header 2 208 5 4 ++ unit 16 0 (1 ∷ []) (22 ∷ 43 ∷ []) ++ paths_abbrevs
-    ++ codes "/build/p/a.c\0/build/p\0/usr/src/debug/p/a.c\0/usr/src/debug/p\0"
-    ++ codes "\0.debug_info\0.debug_abbrev\0.debug_str\0.shstrtab\0" ++ replicate 6 0 ++ section_header 0 0 0 0 0 0
-    ++ section_header 1 1 0 64 20 1 ++ section_header 13 1 0 84 10 1 ++ section_header 27 1 0 94 60 1 ++ section_header 38 3 0 154 48 1
+    file_header 2 184 5 4 ++ unit 16 0 (1 ∷ []) (0 ∷ 21 ∷ []) ++ paths_abbrevs
+    ++ codes "/usr/src/debug/p/a.c\0/usr/src/debug/p\0"
+    ++ codes "\0.debug_info\0.debug_abbrev\0.debug_str\0.shstrtab\0" ++ replicate 4 0 ++ section_header 0 0 0 0 0 0
+    ++ section_header 1 1 0 64 20 1 ++ section_header 13 1 0 84 10 1 ++ section_header 27 1 0 94 38 1 ++ section_header 38 3 0 132 48 1
 
 -- their debug data are these, and can be read
 pub one_unit-data : file_data one_unit ≡ old_data Little 8
@@ -325,12 +325,12 @@ of_32_bits =
 abbrev pub of_32_bits_out : List ℕ
 of_32_bits_out =
     (127 ∷ []) ++ codes "ELF" ++ (1 ∷ 2 ∷ 1 ∷ []) ++ replicate 9 0 ++ numbers Big 2 (2 ∷ 20 ∷ [])
-    ++ numbers Big 4 (1 ∷ 0 ∷ 0 ∷ 192 ∷ 0 ∷ []) ++ numbers Big 2 (52 ∷ 0 ∷ 0 ∷ 40 ∷ 5 ∷ 4 ∷ []) ++ numbers Big 4 (16 ∷ [])
-    ++ numbers Big 2 (4 ∷ []) ++ numbers Big 4 (0 ∷ []) ++ (4 ∷ 1 ∷ []) ++ numbers Big 4 (22 ∷ 43 ∷ [])
-    ++ paths_abbrevs ++ codes "/build/p/a.c\0/build/p\0/usr/src/debug/p/a.c\0/usr/src/debug/p\0"
-    ++ codes "\0.debug_info\0.debug_abbrev\0.debug_str\0.shstrtab\0" ++ replicate 2 0 ++ replicate 40 0
+    ++ numbers Big 4 (1 ∷ 0 ∷ 0 ∷ 168 ∷ 0 ∷ []) ++ numbers Big 2 (52 ∷ 0 ∷ 0 ∷ 40 ∷ 5 ∷ 4 ∷ []) ++ numbers Big 4 (16 ∷ [])
+    ++ numbers Big 2 (4 ∷ []) ++ numbers Big 4 (0 ∷ []) ++ (4 ∷ 1 ∷ []) ++ numbers Big 4 (0 ∷ 21 ∷ [])
+    ++ paths_abbrevs ++ codes "/usr/src/debug/p/a.c\0/usr/src/debug/p\0"
+    ++ codes "\0.debug_info\0.debug_abbrev\0.debug_str\0.shstrtab\0" ++ replicate 40 0
     ++ numbers Big 4 (1 ∷ 1 ∷ 0 ∷ 0 ∷ 52 ∷ 20 ∷ 0 ∷ 0 ∷ 1 ∷ 0 ∷ []) ++ numbers Big 4 (13 ∷ 1 ∷ 0 ∷ 0 ∷ 72 ∷ 10 ∷ 0 ∷ 0 ∷ 1 ∷ 0 ∷ [])
-    ++ numbers Big 4 (27 ∷ 1 ∷ 0 ∷ 0 ∷ 82 ∷ 60 ∷ 0 ∷ 0 ∷ 1 ∷ 0 ∷ []) ++ numbers Big 4 (38 ∷ 3 ∷ 0 ∷ 0 ∷ 142 ∷ 48 ∷ 0 ∷ 0 ∷ 1 ∷ 0 ∷ [])
+    ++ numbers Big 4 (27 ∷ 1 ∷ 0 ∷ 0 ∷ 82 ∷ 38 ∷ 0 ∷ 0 ∷ 1 ∷ 0 ∷ []) ++ numbers Big 4 (38 ∷ 3 ∷ 0 ∷ 0 ∷ 120 ∷ 48 ∷ 0 ∷ 0 ∷ 1 ∷ 0 ∷ [])
 
 -- their debug data are these, and can be read
 pub of_32_bits-data : file_data of_32_bits ≡ old_data Big 4

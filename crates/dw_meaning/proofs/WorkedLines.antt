@@ -50,18 +50,18 @@ old_table size front dir =
     ++ address_set ++ (33 ∷ 33 ∷ 0 ∷ 1 ∷ 1 ∷ [])
 
 -- and one of version 5, whose paths stand in `.debug_line_str`
-abbrev pub new_table5 : ℕ → List ℕ
-new_table5 dir =
-    word 60 ++ half 5 ++ (8 ∷ 0 ∷ []) ++ word 37 ++ line_front ++ (1 ∷ 1 ∷ 31 ∷ 1 ∷ []) ++ word dir ++ (2 ∷ 1 ∷ 31 ∷ 2 ∷ 11 ∷ 1 ∷ []) ++ word 9
+abbrev pub new_table5 : ℕ → ℕ → List ℕ
+new_table5 dir file =
+    word 60 ++ half 5 ++ (8 ∷ 0 ∷ []) ++ word 37 ++ line_front ++ (1 ∷ 1 ∷ 31 ∷ 1 ∷ []) ++ word dir ++ (2 ∷ 1 ∷ 31 ∷ 2 ∷ 11 ∷ 1 ∷ []) ++ word file
     ++ (0 ∷ []) ++ address_set ++ (33 ∷ 0 ∷ 1 ∷ 1 ∷ [])
 
 abbrev pub two_tables : List ℕ
-two_tables = old_table 63 41 (codes "/build/p/inc") ++ new_table5 0
+two_tables = old_table 63 41 (codes "/build/p/inc") ++ new_table5 0 9
 
 -- a unit that names the second of them
-abbrev pub line_pieces : ℕ → ℕ → List (List ℕ)
-line_pieces dir start =
-    (word 21 ++ half 5 ++ (1 ∷ 8 ∷ []) ++ word 0) ∷ (1 ∷ []) ∷ word 9 ∷ word dir ∷ word start ∷ []
+abbrev pub line_pieces : ℕ → ℕ → ℕ → List (List ℕ)
+line_pieces name dir start =
+    (word 21 ++ half 5 ++ (1 ∷ 8 ∷ []) ++ word 0) ∷ (1 ∷ []) ∷ word name ∷ word dir ∷ word start ∷ []
 
 abbrev line_abbrevs : List ℕ
 line_abbrevs = 1 ∷ 17 ∷ 0 ∷ 3 ∷ 31 ∷ 27 ∷ 31 ∷ 16 ∷ 23 ∷ 0 ∷ 0 ∷ 0 ∷ []
@@ -69,7 +69,7 @@ line_abbrevs = 1 ∷ 17 ∷ 0 ∷ 3 ∷ 31 ∷ 27 ∷ 31 ∷ 16 ∷ 23 ∷ 0 ∷
 abbrev pub lines_data : DebugData
 lines_data = record {
   base = record { order = Little; abbrevs = record { number = 2; bytes = line_abbrevs } };
-  found = found_with (record { number = 1; kind = in_info; contents = plain_cells (all_bytes (line_pieces 0 67)) } ∷ []) (record { number = 0; bytes = [] }) (record { number = 3; bytes = codes "/build/p\0u0.c\0" }) no_section (record { number = 4; contents = plain_cells two_tables }) [] no_section;
+  found = found_with (record { number = 1; kind = in_info; contents = plain_cells (all_bytes (line_pieces 9 0 67)) } ∷ []) (record { number = 0; bytes = [] }) (record { number = 3; bytes = codes "/build/p\0u0.c\0" }) no_section (record { number = 4; contents = plain_cells two_tables }) [] no_section;
 }
 
 -- the numbers of a header that was read
@@ -94,7 +94,7 @@ header_or None = record {
 
 abbrev pub lines_readings : DataReadings
 lines_readings = record {
-  units = record { number = 1; pieces = pieces_from lines_data.base (before_unit 1 in_info 25 0 0) (line_pieces 0 67) } ∷ [];
+  units = record { number = 1; pieces = pieces_from lines_data.base (before_unit 1 in_info 25 0 0) (line_pieces 9 0 67) } ∷ [];
   offsets = [];
   lines =
       record {
@@ -131,11 +131,12 @@ unfolding units_of unit_header initial_length_at number_at spelled between after
     line_header header_in header_of_version header_at flags_place length_place header_of_length is_header header_with has_standard_operands
 lines-units = refl
 
--- each new path has its place, in the header of its table or in the table of texts, and the second table starts behind the longer first
+-- each path has its place, in the header of its table or in the table of texts, where the unit's name comes first, and the second table starts
+-- behind the longer first
 pub lines-output : new_bodies lines_map lines_data lines_readings
-    ≡ record { number = 0; bytes = [] } ∷ record { number = 3; bytes = codes "/build/p\0u0.c\0/usr/src/debug/p\0" } ∷ record { number = 0; bytes = [] }
-    ∷ record { number = 4; bytes = old_table 71 49 (codes "/usr/src/debug/p/inc") ++ new_table5 14 } ∷ record { number = 0; bytes = [] }
-    ∷ record { number = 1; bytes = all_bytes (line_pieces 14 75) } ∷ []
+    ≡ record { number = 0; bytes = [] } ∷ record { number = 3; bytes = codes "u0.c\0/usr/src/debug/p\0" } ∷ record { number = 0; bytes = [] }
+    ∷ record { number = 4; bytes = old_table 71 49 (codes "/usr/src/debug/p/inc") ++ new_table5 5 0 } ∷ record { number = 0; bytes = [] }
+    ∷ record { number = 1; bytes = all_bytes (line_pieces 0 5 75) } ∷ []
 unfolding new_bodies table_change unit_header initial_length_at number_at spelled between after_code kind_in form_rows abbreviations_at
     uleb_at text_in offset_of field_of role_of lies_under matching mapped_path mapped_inline with_offset line_header header_by_texts table_by_texts
     format_at spec_at is_column column_at offset_column named_text line_field partly_at entry_at entries_at value_at value_of ends_in

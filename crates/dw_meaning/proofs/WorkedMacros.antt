@@ -60,8 +60,8 @@ macros_from s (p ∷ ps) =
     record { state = s; cells = plain_cells p } ∷ macros_from (macros_at (s.place + length p) (mode_behind s.mode p)) ps
 
 -- a unit that names the second table, and as its macros the unit that starts at a place
-abbrev unit_pieces : ℕ → ℕ → ℕ → List (List ℕ)
-unit_pieces dir start macros = (word 25 ++ half 5 ++ (1 ∷ 8 ∷ []) ++ word 0) ∷ (1 ∷ []) ∷ word 9 ∷ word dir ∷ word start ∷ word macros ∷ []
+abbrev unit_pieces : ℕ → ℕ → ℕ → ℕ → List (List ℕ)
+unit_pieces name dir start macros = (word 25 ++ half 5 ++ (1 ∷ 8 ∷ []) ++ word 0) ∷ (1 ∷ []) ∷ word name ∷ word dir ∷ word start ∷ word macros ∷ []
 
 -- the attribute that says it has this form
 abbrev unit_abbrevs : ℕ → List ℕ
@@ -70,12 +70,12 @@ unit_abbrevs form = 1 ∷ 17 ∷ 0 ∷ 3 ∷ 31 ∷ 27 ∷ 31 ∷ 16 ∷ 23 ∷ 
 abbrev macros_data : ℕ → ℕ → List (List ℕ) → DebugData
 macros_data form macros units = record {
   base = record { order = Little; abbrevs = record { number = 2; bytes = unit_abbrevs form } };
-  found = found_with (record { number = 1; kind = in_info; contents = plain_cells (all_bytes (unit_pieces 0 67 macros)) } ∷ []) (record { number = 6; bytes = codes "/build/p/u0.c\0/build/p\0" }) (lines_data.found LineStr) (lines_data.found StrOffsets) (lines_data.found Line) (record { number = 5; contents = plain_cells (all_bytes units) } ∷ []) (lines_data.found Names);
+  found = found_with (record { number = 1; kind = in_info; contents = plain_cells (all_bytes (unit_pieces 9 0 67 macros)) } ∷ []) (record { number = 6; bytes = codes "/build/p/u0.c\0/build/p\0" }) (lines_data.found LineStr) (lines_data.found StrOffsets) (lines_data.found Line) (record { number = 5; contents = plain_cells (all_bytes units) } ∷ []) (lines_data.found Names);
 }
 
 abbrev macros_readings : ℕ → ℕ → List (List ℕ) → DataReadings
 macros_readings form macros units = record {
-  units = record { number = 1; pieces = pieces_from (macros_data form macros units).base (before_unit 1 in_info 29 0 0) (unit_pieces 0 67 macros) } ∷ [];
+  units = record { number = 1; pieces = pieces_from (macros_data form macros units).base (before_unit 1 in_info 29 0 0) (unit_pieces 9 0 67 macros) } ∷ [];
   offsets = [];
   lines = lines_readings.lines;
   macros = record { number = 5; pieces = macros_from (macros_at 0 at_unit) units } ∷ [];
@@ -158,12 +158,12 @@ unfolding units_of unit_header initial_length_at number_at spelled between after
     line_header header_in header_of_version header_at flags_place length_place header_of_length is_header header_with has_standard_operands
 macros-units = refl
 
--- the start of the second table follows it, and nothing else of macro units changes
+-- the start of the second table follows it, and the offset of a definition its text
 pub macros-output : new_bodies lines_map sound_data sound_readings
-    ≡ record { number = 6; bytes = codes "/build/p/u0.c\0/build/p\0" } ∷ record { number = 3; bytes = codes "/build/p\0u0.c\0/usr/src/debug/p\0" }
+    ≡ record { number = 6; bytes = codes "/build/p\0" } ∷ record { number = 3; bytes = codes "u0.c\0/usr/src/debug/p\0" }
     ∷ record { number = 0; bytes = [] }
-    ∷ record { number = 4; bytes = old_table 71 49 (codes "/usr/src/debug/p/inc") ++ new_table5 14 } ∷ record { number = 0; bytes = [] }
-    ∷ record { number = 5; bytes = all_bytes (macro_bytes 75 14 0) } ∷ record { number = 1; bytes = all_bytes (unit_pieces 14 75 18) } ∷ []
+    ∷ record { number = 4; bytes = old_table 71 49 (codes "/usr/src/debug/p/inc") ++ new_table5 5 0 } ∷ record { number = 0; bytes = [] }
+    ∷ record { number = 5; bytes = all_bytes (macro_bytes 75 0 0) } ∷ record { number = 1; bytes = all_bytes (unit_pieces 0 5 75 18) } ∷ []
 unfolding new_bodies table_change unit_header initial_length_at number_at spelled between after_code kind_in form_rows abbreviations_at
     uleb_at text_in ends_in offset_of field_of role_of lies_under matching mapped_path mapped_inline with_offset line_header header_by_texts table_by_texts
     format_at spec_at is_column column_at offset_column named_text line_field partly_at entry_at entries_at value_at value_of
@@ -179,7 +179,7 @@ value_of_macros r place = record { state = record (before_unit 1 in_info 29 0 0)
 
 abbrev unit_list : ℕ → ℕ → List (Piece UnitState)
 unit_list form macros =
-    pieces_from (macros_data form macros (macro_bytes 67 14 0)).base (before_unit 1 in_info 29 0 0) (unit_pieces 0 67 macros)
+    pieces_from (macros_data form macros (macro_bytes 67 14 0)).base (before_unit 1 in_info 29 0 0) (unit_pieces 9 0 67 macros)
 
 abbrev last_piece : ℕ → ℕ → Piece UnitState
 last_piece form macros = get_or (unit_list form macros) 5 (value_of_macros (macros_readings form macros (macro_bytes 67 14 0)) 0)

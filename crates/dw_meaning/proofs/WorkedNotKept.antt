@@ -28,7 +28,7 @@ use Rattle.dw_meaning.specs.DataOutput.{DataReads}
 use Rattle.dw_meaning.specs.FileMeanings.{MeaningKept, Means, file_data}
 use Rattle.dw_meaning.proofs.PlainFiles.{elf_test, file-reads, meaning-is, names_test}
 use Rattle.dw_meaning.proofs.PlainUnits.{chain-sound}
-use Rattle.dw_meaning.proofs.WorkedFiles.{all_texts, mapped_paths, one_unit, one_unit-means, one_unit_out, path_at, paths-table, paths_meaning, paths_pieces, unnamed}
+use Rattle.dw_meaning.proofs.WorkedFiles.{mapped_paths, mapped_texts, one_unit, one_unit-means, one_unit_out, path_at, paths-table, paths_meaning, paths_pieces, unnamed}
 use Rattle.dw_meaning.proofs.WorkedNotes.{with_id, with_id_out}
 use Rattle.dw_meaning.proofs.WorkedParts.{changed, worked_map}
 use Rattle.dw_meaning.proofs.WorkedSections.{data_in, notes_with, readings_in, units_in, with_id-means, with_id-new_reads, with_id-units, with_id_meaning}
@@ -72,22 +72,22 @@ unfolding lies_under matching mapped_path
 one_unit-not_kept h =
     not_kept one_unit one_unit (paths_meaning 8) (paths_meaning 8) (λ x. units_sum x.units) one_unit-means one_unit-means refl h
 
--- the output with the directory as it was
-abbrev unmapped_directory : List ℕ
-unmapped_directory = changed 80 (13 ∷ []) one_unit_out
+-- the output with the directory at the place of the name
+abbrev other_directory : List ℕ
+other_directory = changed 80 (0 ∷ []) one_unit_out
 
-unmapped_directory-data : file_data unmapped_directory ≡ data_in 1 22 13 all_texts
+other_directory-data : file_data other_directory ≡ data_in 1 0 0 mapped_texts
 unfolding spelled e_type e_phnum e_phoff e_phentsize e_shoff e_shentsize e_shnum e_shstrndx class_of order_of nth_section section_at section_count
     name_index name_table section_name contents_of contents_at text_in ends_in debug_section is_listed view_of view_section section_after
     section_named section_bytes debug_data located unit_sections macro_sections padding
     relocations_of relocation_section relocates relocates_read view_relocations
-unmapped_directory-data = refl
+other_directory-data = refl
 
-unmapped_directory-reads : DataReads (data_in 1 22 13 all_texts) (readings_in 1 22 13 all_texts)
+other_directory-reads : DataReads (data_in 1 0 0 mapped_texts) (readings_in 1 0 0 mapped_texts)
 unfolding unit_header initial_length_at number_at spelled between after_code kind_in form_rows abbreviations_at uleb_at text_in ends_in offset_of
     field_of role_of value_of
-unmapped_directory-reads = record {
-  units = (refl, record { chain = chain-sound _ _ (paths_pieces Little 8 22 13) paths-table refl; cells = refl }, tt);
+other_directory-reads = record {
+  units = (refl, record { chain = chain-sound _ _ (paths_pieces Little 8 0 0) paths-table refl; cells = refl }, tt);
   offsets = none-offsets Little;
   lines = refl;
   macros = tt;
@@ -102,52 +102,52 @@ unmapped_directory-reads = record {
   forms = ((refl, (refl, (refl, (refl, tt)))), tt);
 }
 
-abbrev unmapped_directory_attributes : List AttributeMeaning
-unmapped_directory_attributes = path_at 3 (codes "/usr/src/debug/p/a.c") ∷ path_at 27 (codes "/build/p") ∷ []
+abbrev other_directory_attributes : List AttributeMeaning
+other_directory_attributes = path_at 3 (codes "/usr/src/debug/p/a.c") ∷ path_at 27 (codes "/usr/src/debug/p/a.c") ∷ []
 
-unmapped_directory-units : units_of (data_in 1 22 13 all_texts) (readings_in 1 22 13 all_texts) ≡ units_in 1 unmapped_directory_attributes
+other_directory-units : units_of (data_in 1 0 0 mapped_texts) (readings_in 1 0 0 mapped_texts) ≡ units_in 1 other_directory_attributes
 unfolding units_of unit_header initial_length_at number_at spelled between after_code kind_in form_rows abbreviations_at uleb_at text_in offset_of field_of
-unmapped_directory-units = refl
+other_directory-units = refl
 
-unmapped_directory-others : other_sections (without_id (view_of unmapped_directory).id (view_of unmapped_directory).sections) ≡ unnamed
+other_directory-others : other_sections (without_id (view_of other_directory).id (view_of other_directory).sections) ≡ unnamed
 unfolding spelled e_type e_phnum e_phoff e_phentsize e_shoff e_shentsize e_shnum e_shstrndx class_of order_of nth_section section_at section_count
     name_index name_table section_name contents_of contents_at text_in ends_in debug_section view_of view_section build_id_of is_id_section id_in
     is_id_note descriptor_at padding
     relocations_of relocation_section relocates relocates_read
-unmapped_directory-others = refl
+other_directory-others = refl
 
-unmapped_directory-means : Means unmapped_directory (record { units = units_in 1 unmapped_directory_attributes; slots = []; lines = []; macros = []; names = []; others = bytes_named unnamed })
+other_directory-means : Means other_directory (record { units = units_in 1 other_directory_attributes; slots = []; lines = []; macros = []; names = []; others = bytes_named unnamed })
 unfolding spelled e_type e_phnum e_phoff e_phentsize e_shoff e_shentsize e_shnum e_shstrndx class_of order_of nth_section section_at section_count
     name_index name_table section_name contents_of contents_at text_in ends_in debug_section is_listed elf_test names_test segments_of nth_segment segment_at sections_of padding
-unmapped_directory-means =
-    means-made unmapped_directory (readings_in 1 22 13 all_texts)
-    (record { units = units_in 1 unmapped_directory_attributes; slots = []; lines = []; macros = []; names = []; others = bytes_named unnamed })
-    (file-reads unmapped_directory (data_in 1 22 13 all_texts) (readings_in 1 22 13 all_texts) unmapped_directory-data refl refl refl unmapped_directory-reads)
-    (meaning-is unmapped_directory (data_in 1 22 13 all_texts) (readings_in 1 22 13 all_texts) (units_in 1 unmapped_directory_attributes) unnamed unmapped_directory-data unmapped_directory-units unmapped_directory-others refl refl refl refl)
+other_directory-means =
+    means-made other_directory (readings_in 1 0 0 mapped_texts)
+    (record { units = units_in 1 other_directory_attributes; slots = []; lines = []; macros = []; names = []; others = bytes_named unnamed })
+    (file-reads other_directory (data_in 1 0 0 mapped_texts) (readings_in 1 0 0 mapped_texts) other_directory-data refl refl refl other_directory-reads)
+    (meaning-is other_directory (data_in 1 0 0 mapped_texts) (readings_in 1 0 0 mapped_texts) (units_in 1 other_directory_attributes) unnamed other_directory-data other_directory-units other_directory-others refl refl refl refl)
 
-pub unmapped_directory-not_kept : MeaningKept worked_map one_unit unmapped_directory → ⊥
+pub other_directory-not_kept : MeaningKept worked_map one_unit other_directory → ⊥
 unfolding lies_under matching mapped_path
-unmapped_directory-not_kept h = not_kept one_unit unmapped_directory (paths_meaning 8) _ (λ x. units_sum x.units) one_unit-means unmapped_directory-means refl h
+other_directory-not_kept h = not_kept one_unit other_directory (paths_meaning 8) _ (λ x. units_sum x.units) one_unit-means other_directory-means refl h
 
 abbrev other_texts : List ℕ
-other_texts = codes "/build/p/a.c\0/build/p\0/usr/src/debug/p/b.c\0/usr/src/debug/p\0"
+other_texts = codes "/usr/src/debug/p/b.c\0/usr/src/debug/p\0"
 
 -- and with another letter in the mapped name
 abbrev other_name : List ℕ
-other_name = changed 133 (98 ∷ []) one_unit_out
+other_name = changed 111 (98 ∷ []) one_unit_out
 
-other_name-data : file_data other_name ≡ data_in 1 22 43 other_texts
+other_name-data : file_data other_name ≡ data_in 1 0 21 other_texts
 unfolding spelled e_type e_phnum e_phoff e_phentsize e_shoff e_shentsize e_shnum e_shstrndx class_of order_of nth_section section_at section_count
     name_index name_table section_name contents_of contents_at text_in ends_in debug_section is_listed view_of view_section section_after
     section_named section_bytes debug_data located unit_sections macro_sections padding
     relocations_of relocation_section relocates relocates_read view_relocations
 other_name-data = refl
 
-other_name-reads : DataReads (data_in 1 22 43 other_texts) (readings_in 1 22 43 other_texts)
+other_name-reads : DataReads (data_in 1 0 21 other_texts) (readings_in 1 0 21 other_texts)
 unfolding unit_header initial_length_at number_at spelled between after_code kind_in form_rows abbreviations_at uleb_at text_in ends_in offset_of
     field_of role_of value_of
 other_name-reads = record {
-  units = (refl, record { chain = chain-sound _ _ (paths_pieces Little 8 22 43) paths-table refl; cells = refl }, tt);
+  units = (refl, record { chain = chain-sound _ _ (paths_pieces Little 8 0 21) paths-table refl; cells = refl }, tt);
   offsets = none-offsets Little;
   lines = refl;
   macros = tt;
@@ -165,7 +165,7 @@ other_name-reads = record {
 abbrev other_name_attributes : List AttributeMeaning
 other_name_attributes = path_at 3 (codes "/usr/src/debug/p/b.c") ∷ path_at 27 (codes "/usr/src/debug/p") ∷ []
 
-other_name-units : units_of (data_in 1 22 43 other_texts) (readings_in 1 22 43 other_texts) ≡ units_in 1 other_name_attributes
+other_name-units : units_of (data_in 1 0 21 other_texts) (readings_in 1 0 21 other_texts) ≡ units_in 1 other_name_attributes
 unfolding units_of unit_header initial_length_at number_at spelled between after_code kind_in form_rows abbreviations_at uleb_at text_in offset_of field_of
 other_name-units = refl
 
@@ -180,10 +180,10 @@ other_name-means : Means other_name (record { units = units_in 1 other_name_attr
 unfolding spelled e_type e_phnum e_phoff e_phentsize e_shoff e_shentsize e_shnum e_shstrndx class_of order_of nth_section section_at section_count
     name_index name_table section_name contents_of contents_at text_in ends_in debug_section is_listed elf_test names_test segments_of nth_segment segment_at sections_of padding
 other_name-means =
-    means-made other_name (readings_in 1 22 43 other_texts)
+    means-made other_name (readings_in 1 0 21 other_texts)
     (record { units = units_in 1 other_name_attributes; slots = []; lines = []; macros = []; names = []; others = bytes_named unnamed })
-    (file-reads other_name (data_in 1 22 43 other_texts) (readings_in 1 22 43 other_texts) other_name-data refl refl refl other_name-reads)
-    (meaning-is other_name (data_in 1 22 43 other_texts) (readings_in 1 22 43 other_texts) (units_in 1 other_name_attributes) unnamed other_name-data other_name-units other_name-others refl refl refl refl)
+    (file-reads other_name (data_in 1 0 21 other_texts) (readings_in 1 0 21 other_texts) other_name-data refl refl refl other_name-reads)
+    (meaning-is other_name (data_in 1 0 21 other_texts) (readings_in 1 0 21 other_texts) (units_in 1 other_name_attributes) unnamed other_name-data other_name-units other_name-others refl refl refl refl)
 
 pub other_name-not_kept : MeaningKept worked_map one_unit other_name → ⊥
 unfolding lies_under matching mapped_path
@@ -191,14 +191,14 @@ other_name-not_kept h = not_kept one_unit other_name (paths_meaning 8) _ (λ x. 
 
 -- another letter in a section that isn't read
 abbrev other_comment : List ℕ
-other_comment = changed 304 (100 ∷ []) with_id_out
+other_comment = changed 280 (100 ∷ []) with_id_out
 
 abbrev other_named : List NamedBytes
 other_named =
     record { name = []; bytes = [] } ∷ record { name = codes ".note.gnu.build-id"; bytes = notes_with (replicate 8 0) }
     ∷ record { name = codes ".comment"; bytes = codes "dc 1\0" } ∷ record { name = codes ".comment"; bytes = codes "ld 2\0" } ∷ []
 
-other_comment-data : file_data other_comment ≡ data_in 2 22 43 all_texts
+other_comment-data : file_data other_comment ≡ data_in 2 0 21 mapped_texts
 unfolding spelled e_type e_phnum e_phoff e_phentsize e_shoff e_shentsize e_shnum e_shstrndx class_of order_of nth_section section_at section_count
     name_index name_table section_name contents_of contents_at text_in ends_in debug_section is_listed view_of view_section section_after
     section_named section_bytes debug_data located unit_sections macro_sections padding
@@ -216,10 +216,10 @@ other_comment-means : Means other_comment (record { units = units_in 2 mapped_pa
 unfolding spelled e_type e_phnum e_phoff e_phentsize e_shoff e_shentsize e_shnum e_shstrndx class_of order_of nth_section section_at section_count
     name_index name_table section_name contents_of contents_at text_in ends_in debug_section is_listed elf_test names_test segments_of nth_segment segment_at sections_of padding
 other_comment-means =
-    means-made other_comment (readings_in 2 22 43 all_texts)
+    means-made other_comment (readings_in 2 0 21 mapped_texts)
     (record { units = units_in 2 mapped_paths; slots = []; lines = []; macros = []; names = []; others = bytes_named other_named })
-    (file-reads other_comment (data_in 2 22 43 all_texts) (readings_in 2 22 43 all_texts) other_comment-data refl refl refl with_id-new_reads)
-    (meaning-is other_comment (data_in 2 22 43 all_texts) (readings_in 2 22 43 all_texts) (units_in 2 mapped_paths) other_named other_comment-data with_id-units.1 other_comment-others refl refl refl refl)
+    (file-reads other_comment (data_in 2 0 21 mapped_texts) (readings_in 2 0 21 mapped_texts) other_comment-data refl refl refl with_id-new_reads)
+    (meaning-is other_comment (data_in 2 0 21 mapped_texts) (readings_in 2 0 21 mapped_texts) (units_in 2 mapped_paths) other_named other_comment-data with_id-units.1 other_comment-others refl refl refl refl)
 
 pub other_comment-not_kept : MeaningKept worked_map with_id other_comment → ⊥
 other_comment-not_kept h =

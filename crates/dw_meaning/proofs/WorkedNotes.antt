@@ -96,14 +96,14 @@ with_id =
 -- its output
 abbrev pub with_id_out : List ℕ
 with_id_out =
-    file_header 2 336 10 5 ++ (5 ∷ 6 ∷ 7 ∷ 0 ∷ []) ++ unit 16 0 (1 ∷ []) (22 ∷ 43 ∷ [])
-    ++ (1 ∷ 17 ∷ 0 ∷ 3 ∷ 14 ∷ 27 ∷ 14 ∷ 0 ∷ 0 ∷ 0 ∷ []) ++ codes "/build/p/a.c\0/build/p\0/usr/src/debug/p/a.c\0/usr/src/debug/p\0"
-    ++ codes "\0.debug_info\0.debug_abbrev\0.debug_str\0.shstrtab\0.note.gnu.build-id\0.comment\0.gnu_debuglink\0.rodata\0" ++ replicate 3 0
+    file_header 2 312 10 5 ++ (5 ∷ 6 ∷ 7 ∷ 0 ∷ []) ++ unit 16 0 (1 ∷ []) (0 ∷ 21 ∷ [])
+    ++ (1 ∷ 17 ∷ 0 ∷ 3 ∷ 14 ∷ 27 ∷ 14 ∷ 0 ∷ 0 ∷ 0 ∷ []) ++ codes "/usr/src/debug/p/a.c\0/usr/src/debug/p\0"
+    ++ codes "\0.debug_info\0.debug_abbrev\0.debug_str\0.shstrtab\0.note.gnu.build-id\0.comment\0.gnu_debuglink\0.rodata\0" ++ 0 ∷ []
     ++ note Little 4 1 1 gnu (7 ∷ 0 ∷ 0 ∷ 0 ∷ []) ++ note Little 4 8 3 gnu (17 ∷ 34 ∷ 51 ∷ 68 ∷ 85 ∷ 102 ∷ 119 ∷ 136 ∷ [])
     ++ codes "cc 1\0" ++ replicate 3 0 ++ codes "a.debug\0" ++ (1 ∷ 2 ∷ 3 ∷ 4 ∷ []) ++ codes "ld 2\0" ++ replicate 7 0
     ++ section_header 0 0 0 0 0 0 ++ section_header 91 1 2 64 4 4 ++ section_header 1 1 0 68 20 1 ++ section_header 13 1 0 88 10 1
-    ++ section_header 27 1 0 98 60 1 ++ section_header 38 3 0 158 99 1 ++ section_header 48 7 0 260 44 4 ++ section_header 67 1 0 304 5 1
-    ++ section_header 76 1 0 312 12 4 ++ section_header 67 1 0 324 5 1
+    ++ section_header 27 1 0 98 38 1 ++ section_header 38 3 0 136 99 1 ++ section_header 48 7 0 236 44 4 ++ section_header 67 1 0 280 5 1
+    ++ section_header 76 1 0 288 12 4 ++ section_header 67 1 0 300 5 1
 
 -- a descriptor in the section of a number
 abbrev pub id_at : ℕ → ℕ → ℕ → Option BuildId

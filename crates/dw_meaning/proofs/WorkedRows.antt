@@ -369,10 +369,10 @@ output-refused = (
 )
   where
     other_offset : body_in (paths_bodies Little 8) (contents_of all_stays) 1 ≡ contents_of all_stays 1 → ⊥
-    other_offset e = let no : 22 ≡ 0 = ap (λ (xs : List ℕ). slice_index xs 12) e in absurd (eqb-false 22 0 refl no)
+    other_offset e = let no : 21 ≡ 13 = ap (λ (xs : List ℕ). slice_index xs 16) e in absurd (eqb-false 21 13 refl no)
 
     longer : body_in (paths_bodies Little 8) (contents_of all_stays) 3 ≡ contents_of all_stays 3 → ⊥
-    longer e = let no : 60 ≡ 22 = ap length e in absurd (eqb-false 60 22 refl no)
+    longer e = let no : 38 ≡ 22 = ap length e in absurd (eqb-false 38 22 refl no)
 
 -- of the shared object: a section that is loaded begins in the file header; and one that isn't lies across the end of a segment
 abbrev in_front : List ℕ

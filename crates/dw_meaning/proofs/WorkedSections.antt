@@ -31,7 +31,7 @@ use Rattle.dw_meaning.specs.DataOutput.{Body, DataReads, body_in, new_bodies, ta
 use Rattle.dw_meaning.specs.FileMeanings.{FileReads, IsOutput, MeaningKept, Means, file_data}
 use Rattle.dw_meaning.proofs.PlainFiles.{elf_test, file-reads, kept-by, meaning-is, names_test, output-is}
 use Rattle.dw_meaning.proofs.PlainUnits.{chain-sound, pieces_from}
-use Rattle.dw_meaning.proofs.WorkedFiles.{all_texts, mapped_paths, path_texts, paths, paths-table, paths_abbrevs, paths_pieces, unit_of, unnamed}
+use Rattle.dw_meaning.proofs.WorkedFiles.{mapped_paths, mapped_texts, path_texts, paths, paths-table, paths_abbrevs, paths_pieces, unit_of, unnamed}
 use Rattle.dw_meaning.proofs.WorkedNotes.{gnu, note, untyped, with_id, with_id_out}
 use Rattle.dw_meaning.proofs.WorkedParts.{all_bytes, changed, numbers, section_header, unit, worked_map}
 use Rattle.dw_base.specs.RelocationSectionFails.{relocates_read}
@@ -54,14 +54,14 @@ readings_in n name directory str =
 
 abbrev pub bodies_in : ℕ → List Body
 bodies_in n =
-    record { number = suc (suc n); bytes = all_texts } ∷ record { number = 0; bytes = [] } ∷ record { number = 0; bytes = [] } ∷ record { number = 0; bytes = [] } ∷ record { number = 0; bytes = [] }
-    ∷ record { number = n; bytes = all_bytes (paths_pieces Little 8 22 43) } ∷ []
+    record { number = suc (suc n); bytes = mapped_texts } ∷ record { number = 0; bytes = [] } ∷ record { number = 0; bytes = [] } ∷ record { number = 0; bytes = [] } ∷ record { number = 0; bytes = [] }
+    ∷ record { number = n; bytes = all_bytes (paths_pieces Little 8 0 21) } ∷ []
 
 abbrev pub units_in : ℕ → List AttributeMeaning → List UnitMeaning
 units_in n attributes = record (unit_of 8 (entry 17 attributes no_entries no_entries)) { section = n } ∷ []
 
 -- the file with notes and comments
-pub with_id-data : (file_data with_id ≡ data_in 2 0 13 path_texts) × (file_data with_id_out ≡ data_in 2 22 43 all_texts)
+pub with_id-data : (file_data with_id ≡ data_in 2 0 13 path_texts) × (file_data with_id_out ≡ data_in 2 0 21 mapped_texts)
 unfolding spelled e_type e_phnum e_phoff e_phentsize e_shoff e_shentsize e_shnum e_shstrndx class_of order_of nth_section section_at section_count
     name_index name_table section_name contents_of contents_at text_in ends_in debug_section is_listed view_of view_section section_after
     section_named section_bytes debug_data located unit_sections macro_sections padding
@@ -87,11 +87,11 @@ with_id-old_reads = record {
   forms = ((refl, (refl, (refl, (refl, tt)))), tt);
 }
 
-pub with_id-new_reads : DataReads (data_in 2 22 43 all_texts) (readings_in 2 22 43 all_texts)
+pub with_id-new_reads : DataReads (data_in 2 0 21 mapped_texts) (readings_in 2 0 21 mapped_texts)
 unfolding unit_header initial_length_at number_at spelled between after_code kind_in form_rows abbreviations_at uleb_at text_in ends_in offset_of
     field_of role_of value_of
 with_id-new_reads = record {
-  units = (refl, record { chain = chain-sound _ _ (paths_pieces Little 8 22 43) paths-table refl; cells = refl }, tt);
+  units = (refl, record { chain = chain-sound _ _ (paths_pieces Little 8 0 21) paths-table refl; cells = refl }, tt);
   offsets = none-offsets Little;
   lines = refl;
   macros = tt;
@@ -111,10 +111,10 @@ unfolding spelled e_type e_phnum e_phoff e_phentsize e_shoff e_shentsize e_shnum
     name_index name_table section_name contents_of contents_at text_in ends_in debug_section is_listed elf_test names_test segments_of nth_segment segment_at sections_of padding
 with_id-reads = file-reads with_id (data_in 2 0 13 path_texts) (readings_in 2 0 13 path_texts) with_id-data.0 refl refl refl with_id-old_reads
 
-pub with_id_out-reads : FileReads with_id_out (readings_in 2 22 43 all_texts)
+pub with_id_out-reads : FileReads with_id_out (readings_in 2 0 21 mapped_texts)
 unfolding spelled e_type e_phnum e_phoff e_phentsize e_shoff e_shentsize e_shnum e_shstrndx class_of order_of nth_section section_at section_count
     name_index name_table section_name contents_of contents_at text_in ends_in debug_section is_listed elf_test names_test segments_of nth_segment segment_at sections_of padding
-with_id_out-reads = file-reads with_id_out (data_in 2 22 43 all_texts) (readings_in 2 22 43 all_texts) with_id-data.1 refl refl refl with_id-new_reads
+with_id_out-reads = file-reads with_id_out (data_in 2 0 21 mapped_texts) (readings_in 2 0 21 mapped_texts) with_id-data.1 refl refl refl with_id-new_reads
 
 with_id-bodies : new_bodies worked_map (data_in 2 0 13 path_texts) (readings_in 2 0 13 path_texts) ≡ bodies_in 2
 unfolding new_bodies table_change unit_header initial_length_at number_at spelled between after_code kind_in form_rows abbreviations_at
@@ -140,7 +140,7 @@ with_id-output = record {
   is = sym (output-is worked_map with_id (data_in 2 0 13 path_texts) (readings_in 2 0 13 path_texts) (bodies_in 2) with_id-kind with_id-data.0 with_id-bodies ∙ with_id-written);
 }
 
-pub with_id-units : (units_of (data_in 2 0 13 path_texts) (readings_in 2 0 13 path_texts) ≡ units_in 2 paths) × (units_of (data_in 2 22 43 all_texts) (readings_in 2 22 43 all_texts) ≡ units_in 2 mapped_paths)
+pub with_id-units : (units_of (data_in 2 0 13 path_texts) (readings_in 2 0 13 path_texts) ≡ units_in 2 paths) × (units_of (data_in 2 0 21 mapped_texts) (readings_in 2 0 21 mapped_texts) ≡ units_in 2 mapped_paths)
 unfolding units_of unit_header initial_length_at number_at spelled between after_code kind_in form_rows abbreviations_at uleb_at text_in offset_of field_of
 with_id-units = (refl, refl)
 
@@ -177,15 +177,15 @@ with_id-means =
 pub with_id_out-means : Means with_id_out (mapped worked_map with_id_meaning)
 unfolding lies_under matching mapped_path
 with_id_out-means =
-    means-made with_id_out (readings_in 2 22 43 all_texts) (mapped worked_map with_id_meaning) with_id_out-reads
-    (meaning-is with_id_out (data_in 2 22 43 all_texts) (readings_in 2 22 43 all_texts) (units_in 2 mapped_paths) with_id_named with_id-data.1 with_id-units.1 with_id-others.1 refl refl refl refl)
+    means-made with_id_out (readings_in 2 0 21 mapped_texts) (mapped worked_map with_id_meaning) with_id_out-reads
+    (meaning-is with_id_out (data_in 2 0 21 mapped_texts) (readings_in 2 0 21 mapped_texts) (units_in 2 mapped_paths) with_id_named with_id-data.1 with_id-units.1 with_id-others.1 refl refl refl refl)
 
 pub with_id-kept : MeaningKept worked_map with_id with_id_out
 with_id-kept = kept-by worked_map with_id with_id_out with_id_meaning with_id-means with_id_out-means
 
 -- so the output means the same with another build-id
 abbrev pub other_id_out : List ℕ
-other_id_out = changed 296 (1 ∷ 2 ∷ 3 ∷ 4 ∷ 5 ∷ 6 ∷ 7 ∷ 8 ∷ []) with_id_out
+other_id_out = changed 272 (1 ∷ 2 ∷ 3 ∷ 4 ∷ 5 ∷ 6 ∷ 7 ∷ 8 ∷ []) with_id_out
 
 pub other_id-others : other_sections (without_id (view_of other_id_out).id (view_of other_id_out).sections) ≡ with_id_named
 unfolding spelled e_type e_phnum e_phoff e_phentsize e_shoff e_shentsize e_shnum e_shstrndx class_of order_of nth_section section_at section_count
@@ -221,17 +221,17 @@ with_a_segment =
 abbrev pub with_a_segment_out : List ℕ
 with_a_segment_out =
     (127 ∷ []) ++ codes "ELF" ++ (2 ∷ 1 ∷ 1 ∷ []) ++ replicate 9 0 ++ numbers Little 2 (3 ∷ 62 ∷ []) ++ numbers Little 4 (1 ∷ [])
-    ++ numbers Little 8 (4194424 ∷ 64 ∷ 288 ∷ []) ++ numbers Little 4 (0 ∷ []) ++ numbers Little 2 (64 ∷ 56 ∷ 1 ∷ 64 ∷ 7 ∷ 6 ∷ [])
+    ++ numbers Little 8 (4194424 ∷ 64 ∷ 264 ∷ []) ++ numbers Little 4 (0 ∷ []) ++ numbers Little 2 (64 ∷ 56 ∷ 1 ∷ 64 ∷ 7 ∷ 6 ∷ [])
     ++ numbers Little 4 (1 ∷ 5 ∷ []) ++ numbers Little 8 (0 ∷ 4194304 ∷ 4194304 ∷ 136 ∷ 136 ∷ 4096 ∷ [])
-    ++ (1 ∷ 2 ∷ 3 ∷ 4 ∷ 5 ∷ 6 ∷ 7 ∷ 8 ∷ 9 ∷ 10 ∷ 11 ∷ 12 ∷ 13 ∷ 14 ∷ 15 ∷ 16 ∷ []) ++ unit 16 0 (1 ∷ []) (22 ∷ 43 ∷ [])
-    ++ paths_abbrevs ++ codes "/build/p/a.c\0/build/p\0/usr/src/debug/p/a.c\0/usr/src/debug/p\0"
-    ++ codes "\0.text\0.bss\0.debug_info\0.debug_abbrev\0.debug_str\0.shstrtab\0" ++ replicate 3 0 ++ section_header 0 0 0 0 0 0
+    ++ (1 ∷ 2 ∷ 3 ∷ 4 ∷ 5 ∷ 6 ∷ 7 ∷ 8 ∷ 9 ∷ 10 ∷ 11 ∷ 12 ∷ 13 ∷ 14 ∷ 15 ∷ 16 ∷ []) ++ unit 16 0 (1 ∷ []) (0 ∷ 21 ∷ [])
+    ++ paths_abbrevs ++ codes "/usr/src/debug/p/a.c\0/usr/src/debug/p\0"
+    ++ codes "\0.text\0.bss\0.debug_info\0.debug_abbrev\0.debug_str\0.shstrtab\0" ++ replicate 1 0 ++ section_header 0 0 0 0 0 0
     ++ numbers Little 4 (1 ∷ 1 ∷ []) ++ numbers Little 8 (6 ∷ 4194424 ∷ 120 ∷ 16 ∷ []) ++ numbers Little 4 (0 ∷ 0 ∷ [])
     ++ numbers Little 8 (4 ∷ 0 ∷ []) ++ numbers Little 4 (7 ∷ 8 ∷ []) ++ numbers Little 8 (3 ∷ 4198400 ∷ 136 ∷ 64 ∷ [])
     ++ numbers Little 4 (0 ∷ 0 ∷ []) ++ numbers Little 8 (32 ∷ 0 ∷ []) ++ section_header 12 1 0 136 20 4 ++ section_header 24 1 0 156 10 1
-    ++ section_header 38 1 0 166 60 1 ++ section_header 49 3 0 226 59 1
+    ++ section_header 38 1 0 166 38 1 ++ section_header 49 3 0 204 59 1
 
-pub with_a_segment-data : (file_data with_a_segment ≡ data_in 3 0 13 path_texts) × (file_data with_a_segment_out ≡ data_in 3 22 43 all_texts)
+pub with_a_segment-data : (file_data with_a_segment ≡ data_in 3 0 13 path_texts) × (file_data with_a_segment_out ≡ data_in 3 0 21 mapped_texts)
 unfolding spelled e_type e_phnum e_phoff e_phentsize e_shoff e_shentsize e_shnum e_shstrndx class_of order_of nth_section section_at section_count
     name_index name_table section_name contents_of contents_at text_in ends_in debug_section is_listed view_of view_section section_after
     section_named section_bytes debug_data located unit_sections macro_sections padding
@@ -257,11 +257,11 @@ with_a_segment-old_reads = record {
   forms = ((refl, (refl, (refl, (refl, tt)))), tt);
 }
 
-with_a_segment-new_reads : DataReads (data_in 3 22 43 all_texts) (readings_in 3 22 43 all_texts)
+with_a_segment-new_reads : DataReads (data_in 3 0 21 mapped_texts) (readings_in 3 0 21 mapped_texts)
 unfolding unit_header initial_length_at number_at spelled between after_code kind_in form_rows abbreviations_at uleb_at text_in ends_in offset_of
     field_of role_of value_of
 with_a_segment-new_reads = record {
-  units = (refl, record { chain = chain-sound _ _ (paths_pieces Little 8 22 43) paths-table refl; cells = refl }, tt);
+  units = (refl, record { chain = chain-sound _ _ (paths_pieces Little 8 0 21) paths-table refl; cells = refl }, tt);
   offsets = none-offsets Little;
   lines = refl;
   macros = tt;
@@ -281,10 +281,10 @@ unfolding spelled e_type e_phnum e_phoff e_phentsize e_shoff e_shentsize e_shnum
     name_index name_table section_name contents_of contents_at text_in ends_in debug_section is_listed elf_test names_test segments_of nth_segment segment_at sections_of padding
 with_a_segment-reads = file-reads with_a_segment (data_in 3 0 13 path_texts) (readings_in 3 0 13 path_texts) with_a_segment-data.0 refl refl refl with_a_segment-old_reads
 
-pub with_a_segment_out-reads : FileReads with_a_segment_out (readings_in 3 22 43 all_texts)
+pub with_a_segment_out-reads : FileReads with_a_segment_out (readings_in 3 0 21 mapped_texts)
 unfolding spelled e_type e_phnum e_phoff e_phentsize e_shoff e_shentsize e_shnum e_shstrndx class_of order_of nth_section section_at section_count
     name_index name_table section_name contents_of contents_at text_in ends_in debug_section is_listed elf_test names_test segments_of nth_segment segment_at sections_of padding
-with_a_segment_out-reads = file-reads with_a_segment_out (data_in 3 22 43 all_texts) (readings_in 3 22 43 all_texts) with_a_segment-data.1 refl refl refl with_a_segment-new_reads
+with_a_segment_out-reads = file-reads with_a_segment_out (data_in 3 0 21 mapped_texts) (readings_in 3 0 21 mapped_texts) with_a_segment-data.1 refl refl refl with_a_segment-new_reads
 
 with_a_segment-bodies : new_bodies worked_map (data_in 3 0 13 path_texts) (readings_in 3 0 13 path_texts) ≡ bodies_in 3
 unfolding new_bodies table_change unit_header initial_length_at number_at spelled between after_code kind_in form_rows abbreviations_at
@@ -310,7 +310,7 @@ with_a_segment-output = record {
   is = sym (output-is worked_map with_a_segment (data_in 3 0 13 path_texts) (readings_in 3 0 13 path_texts) (bodies_in 3) with_a_segment-kind with_a_segment-data.0 with_a_segment-bodies ∙ with_a_segment-written);
 }
 
-pub with_a_segment-units : (units_of (data_in 3 0 13 path_texts) (readings_in 3 0 13 path_texts) ≡ units_in 3 paths) × (units_of (data_in 3 22 43 all_texts) (readings_in 3 22 43 all_texts) ≡ units_in 3 mapped_paths)
+pub with_a_segment-units : (units_of (data_in 3 0 13 path_texts) (readings_in 3 0 13 path_texts) ≡ units_in 3 paths) × (units_of (data_in 3 0 21 mapped_texts) (readings_in 3 0 21 mapped_texts) ≡ units_in 3 mapped_paths)
 unfolding units_of unit_header initial_length_at number_at spelled between after_code kind_in form_rows abbreviations_at uleb_at text_in offset_of field_of
 with_a_segment-units = (refl, refl)
 
@@ -335,8 +335,8 @@ with_a_segment-means =
 pub with_a_segment_out-means : Means with_a_segment_out (mapped worked_map with_a_segment_meaning)
 unfolding lies_under matching mapped_path
 with_a_segment_out-means =
-    means-made with_a_segment_out (readings_in 3 22 43 all_texts) (mapped worked_map with_a_segment_meaning) with_a_segment_out-reads
-    (meaning-is with_a_segment_out (data_in 3 22 43 all_texts) (readings_in 3 22 43 all_texts) (units_in 3 mapped_paths) unnamed with_a_segment-data.1 with_a_segment-units.1 with_a_segment-others.1 refl refl refl refl)
+    means-made with_a_segment_out (readings_in 3 0 21 mapped_texts) (mapped worked_map with_a_segment_meaning) with_a_segment_out-reads
+    (meaning-is with_a_segment_out (data_in 3 0 21 mapped_texts) (readings_in 3 0 21 mapped_texts) (units_in 3 mapped_paths) unnamed with_a_segment-data.1 with_a_segment-units.1 with_a_segment-others.1 refl refl refl refl)
 
 pub with_a_segment-kept : MeaningKept worked_map with_a_segment with_a_segment_out
 with_a_segment-kept = kept-by worked_map with_a_segment with_a_segment_out with_a_segment_meaning with_a_segment-means with_a_segment_out-means

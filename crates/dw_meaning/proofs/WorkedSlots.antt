@@ -87,14 +87,14 @@ two_slots m n = (word 12 ++ half 5 ++ half 0) ∷ word m ∷ word n ∷ []
 abbrev name_front : List ℕ
 name_front = word 46 ++ half 5 ++ half 0 ++ word 1 ++ word 0 ++ word 0 ++ word 0 ++ word 1 ++ word 1 ++ word 0 ++ word 0
 
-abbrev name_table : List (List ℕ)
-name_table = name_front ∷ word 0 ∷ (word 0 ++ (0 ∷ 0 ∷ [])) ∷ []
+abbrev name_table : ℕ → List (List ℕ)
+name_table n = name_front ∷ word n ∷ (word 0 ++ (0 ∷ 0 ∷ [])) ∷ []
 
 abbrev own_data : DebugData
-own_data = slot_data (slot_units 8 1) (two_slots 0 0) name_table
+own_data = slot_data (slot_units 8 1) (two_slots 0 0) (name_table 0)
 
 abbrev own_readings : DataReadings
-own_readings = slot_readings own_data (slot_units 8 1) (two_slots 0 0) name_table
+own_readings = slot_readings own_data (slot_units 8 1) (two_slots 0 0) (name_table 0)
 
 abbrev slot_map : PathMap
 slot_map = record { pairs = record { base = codes "/build/p"; dest = codes "/usr/src/debug/p" } ∷ [] }
@@ -128,10 +128,10 @@ pub own-names : name_parts Little (own_data.found Str) own_readings.names
 unfolding initial_length_at number_at spelled text_in offset_of field_of name_counts before_strings
 own-names = refl
 
--- slot 0 has a new place, and slot 1, the name and the units stay
+-- slot 0 names the mapped text, slot 1 and the name the one that both named, and the units stay
 pub own-output : new_bodies slot_map own_data own_readings
-    ≡ record { number = 3; bytes = codes "/build/p\0/usr/src/debug/p\0" } ∷ record { number = 0; bytes = [] }
-    ∷ record { number = 4; bytes = all_bytes (two_slots 9 0) } ∷ record { number = 0; bytes = [] } ∷ record { number = 5; bytes = all_bytes name_table }
+    ≡ record { number = 3; bytes = codes "/usr/src/debug/p\0/build/p\0" } ∷ record { number = 0; bytes = [] }
+    ∷ record { number = 4; bytes = all_bytes (two_slots 0 17) } ∷ record { number = 0; bytes = [] } ∷ record { number = 5; bytes = all_bytes (name_table 17) }
     ∷ record { number = 1; bytes = all_bytes (slot_units 8 1) } ∷ []
 unfolding new_bodies table_change unit_header initial_length_at number_at spelled between after_code kind_in form_rows abbreviations_at
     uleb_at text_in offset_of field_of role_of lies_under matching mapped_path mapped_inline with_offset before_slot slot_of name_counts before_strings
@@ -200,7 +200,7 @@ unfolding units_of unit_header initial_length_at number_at spelled between after
     offset_of field_of address_of before_slot slot_of
 wide-units = refl
 
--- the slot of the first contribution stays
+-- no path names the slot of the first contribution, whose text comes first
 pub wide-output : new_bodies slot_map wide_data wide_readings
     ≡ record { number = 3; bytes = codes "/build/p\0/usr/src/debug/p\0" } ∷ record { number = 0; bytes = [] }
     ∷ record { number = 4; bytes = all_bytes (wide_slots 9) } ∷ record { number = 0; bytes = [] } ∷ record { number = 0; bytes = [] }

@@ -1,8 +1,8 @@
--- The debug data that an edit writes: each field of a path's text names the mapped text, that of a slot too, each path that stands in
--- its value is mapped there, and all else stays; and when debug data can be read and mapped.
+-- The debug data that an edit writes: each field of a text names it in a table that is built anew, a path's field the mapped text, that of a slot
+-- too, each path that stands in its value is mapped there, and all else stays; and when debug data can be read and mapped.
 use Rattle.std.specs.Prelude.{ℕ, ◌==◌, if◌then◌else◌, List, [], ◌∷◌, ◌++◌, ⊤}
 use Rattle.dw_base.specs.Cells.{Cell, Located, bytes_of}
-use Rattle.dw_base.specs.DebugData.{DebugData, DataReadings, Around, around_of, indexing_of, line_source, path_slots, source_around, table_of, ReadsAll}
+use Rattle.dw_base.specs.DebugData.{DebugData, DataReadings, Around, around_of, indexing_of, line_source, path_slots, source_around, ReadsAll}
 use Rattle.dw_base.specs.IndexFails.{SlotFits}
 use Rattle.dw_base.specs.TextLineChanges.{tables_by_texts, text_place}
 use Rattle.dw_base.specs.LineReadings.{LineReading, AreTables, all_lines, table_read}
@@ -15,7 +15,7 @@ use Rattle.dw_base.specs.Paths.{PathMap}
 use Rattle.dw_base.specs.Pieces.{Piece, EachPiece, joined}
 use Rattle.dw_base.specs.Readings.{Reading, Readings, EachReading}
 use Rattle.dw_base.specs.SectionTexts.{slot_role, name_role, macro_role, file_mentions, edited_with, edited_macros, NameTexts}
-use Rattle.dw_base.specs.StringTables.{Plan, appending, new_texts, new_table}
+use Rattle.dw_base.specs.StringTables.{rebuilding, new_texts, new_table}
 use Rattle.dw_base.specs.TableStarts.{HasStartForm, NamesMacro, NamesImport}
 use Rattle.dw_base.specs.TextChanges.{Changed, TableChange, TableChanges, edited_all, NamesTextBy, NamesText, InlineFits}
 use Rattle.dw_base.specs.TextIndexes.{EachUse, NamesSlot, index_uses}
@@ -42,11 +42,9 @@ pub record DataReads (d : DebugData) (r : DataReadings) : Type 0 where
   pub macro_values : EachReading (NamesMacro (around_of d r).lasting) r.units
   pub imports : EachMacro (NamesImport (around_of d r).lasting) r.macros
 
--- what becomes of a table: old bytes are kept, and mapped texts that differ get a place behind them
+-- what becomes of a table: it is built from the texts that fields name after mapping, each once, in order of first mention
 unfoldable pub table_change : PathMap → TextSection → Around → DataReadings → TableChange
-table_change m table around r =
-    let plan : Plan = appending m (table_of around table).bytes in
-    record { plan = plan; texts = new_texts plan m (file_mentions table around r) }
+table_change m table around r = record { plan = rebuilding; texts = new_texts rebuilding m (file_mentions table around r) }
 
 -- the new line tables
 abbrev pub new_lines : PathMap → Around → DataReadings → List (List ℕ)
