@@ -44,7 +44,7 @@ pub use dw_base::{Fault, FilePlace, Kind, LineText, Refusal, TextPlace, Width};
 pub use elf_relocs::Run;
 pub use fields::HeaderFields;
 pub use moves::NewFieldOffset;
-pub use new_texts::NewTexts;
+pub use new_texts::{NewTexts, TextPlaces};
 pub use table::LineTable;
 pub use view_tables::line_tables;
 pub use written::WrittenTable;

@@ -1,6 +1,6 @@
 -- Why there are no new bodies: a table of texts or the line tables would be too long, a line table can't be written, or an addend can't make an
 -- offset.
-use Rattle.std.proofs.Common.{Bool, ◌≡◌, ◌≢◌, ◌⊎◌, inl, inr, ℕ, ◌<◌, List, [], ◌++◌, length, Option, Some, None, refl, sym, ap, ◌∙◌, subst, arith}
+use Rattle.std.proofs.Common.{Bool, ◌≡◌, ◌≢◌, ◌⊎◌, inl, inr, ℕ, ◌<◌, List, [], length, Option, Some, None, refl, sym, ap, ◌∙◌, subst, arith}
 use Rattle.dw_base.specs.DebugData.{around_of, line_source}
 use Rattle.dw_base.specs.DebugSections.{name_of}
 use Rattle.dw_base.specs.FileViews.{View, section_named, view_of}
@@ -13,7 +13,7 @@ use Rattle.dw_base.specs.Refusals.{Blames, at}
 use Rattle.dw_base.specs.StringTables.{TextTable}
 use Rattle.dw_base.specs.Texts.{laid_texts}
 use Rattle.dw_base.specs.ViewData.{debug_data}
-use Rattle.dw_base.specs.declared.debug_sections.DebugSection.TheVariants.{Str, LineStr, Line}
+use Rattle.dw_base.specs.declared.debug_sections.DebugSection.TheVariants.{Line}
 use Rattle.dw_base.specs.declared.fault.Fault.{Fault}
 use Rattle.dw_base.specs.declared.fault.Fault.TheVariants.{NoMemory, Refused}
 use Rattle.dw_base.specs.declared.fault.Kind.TheVariants.{TooLarge}
@@ -52,12 +52,12 @@ long-row m v InStr us ts r f (long_table there over) =
     let texts_are : (table_change m InStr (around_of (debug_data v) f.readings) f.readings).texts ≡ all_texts_at m v InStr [] (all_of us) =
     table-texts m v f.readings ts InStr f.reads.units f.reads.offsets f.reads.lines f.reads.macros f.reads.names f.tables ∙ ap (λ (x : Fields). all_texts_at m v InStr [] (all_of x)) (sym f.is) in
     long_table_of InStr f.readings f.reads (paths-fit m v us ts f) there
-    (subst (λ (xs : List (List ℕ)). output_limit < length (((debug_data v).found Str).bytes ++ laid_texts xs)) (sym texts_are) over)
+    (subst (λ (xs : List (List ℕ)). output_limit < length (laid_texts xs)) (sym texts_are) over)
 long-row m v InLineStr us ts r f (long_table there over) =
     let texts_are : (table_change m InLineStr (around_of (debug_data v) f.readings) f.readings).texts ≡ all_texts_at m v InLineStr [] (all_of us) =
     table-texts m v f.readings ts InLineStr f.reads.units f.reads.offsets f.reads.lines f.reads.macros f.reads.names f.tables ∙ ap (λ (x : Fields). all_texts_at m v InLineStr [] (all_of x)) (sym f.is) in
     long_table_of InLineStr f.readings f.reads (paths-fit m v us ts f) there
-    (subst (λ (xs : List (List ℕ)). output_limit < length (((debug_data v).found LineStr).bytes ++ laid_texts xs)) (sym texts_are) over)
+    (subst (λ (xs : List (List ℕ)). output_limit < length (laid_texts xs)) (sym texts_are) over)
 
 pub tables-fault : (m : PathMap) (v : View) (us : Fields) (ts : List LineTable) (f : Fault) → PathsFound m v us ts → Blames (TablesRefuse m v (all_of us)) f
     → Blames (BodiesRefuse m (debug_data v)) f

@@ -29,6 +29,7 @@ use Rattle.dw_base.specs.LayoutFails.LayoutFails.{section, large}
 use Rattle.dw_base.specs.LayoutFails.SectionStays.{changed}
 use Rattle.dw_base.specs.LayoutFails.TooLong.{long}
 use Rattle.dw_base.specs.LayoutReads.{ReadsBack}
+use Rattle.dw_meaning.specs.Leavings.{NoLeavings}
 use Rattle.dw_meaning.specs.Loaded.{LoadedKept}
 use Rattle.dw_base.specs.TextLineChanges.{text_place}
 use Rattle.dw_base.specs.LineReadings.{all_lines, table_read}
@@ -54,6 +55,7 @@ use Rattle.dw_meaning.proofs.EditRowLaws.{edit-excludes}
 use Rattle.dw_meaning.proofs.FileBackLaws.{build_id-back, is_read_name}
 use Rattle.dw_meaning.proofs.FileKeptLaws.{CanMap, body-line, body-lines, body-str, file-back, line-place, lines-number, plain-body, read-section, tables-apart, tables-place}
 use Rattle.dw_meaning.proofs.FileMeaningLaws.{file-meaning}
+use Rattle.dw_meaning.proofs.LeftNoneLaws.{no-leavings}
 use Rattle.dw_base.proofs.LayoutLaws.{fixed_end-within}
 use Rattle.dw_base.proofs.ReadsBackLaws.{reads_back-same, with_bodies-same}
 use Rattle.dw_base.proofs.SectionLaws.{length-contents}
@@ -387,6 +389,12 @@ pub made_meaning : (m : PathMap) (b : List ℕ) (bodies : List Body) (out : List
     → LayoutFits b (body_with b bodies) → out ≡ with_bodies b (body_with b bodies) → ReadsBack b (body_with b bodies) out → MeaningKept m b out
 made_meaning m b bodies out map j d fits made back =
     file-meaning m b d.readings out (can_map m b bodies map j d) (back_made m b bodies out map j d back) (small_out b (body_with b bodies) out fits made)
+
+-- nothing is left in its tables of texts
+pub made_leavings : (m : PathMap) (b : List ℕ) (bodies : List Body) (out : List ℕ) → IsPathMap m → IsChecked b → FileBodiesMade m b bodies
+    → LayoutFits b (body_with b bodies) → out ≡ with_bodies b (body_with b bodies) → ReadsBack b (body_with b bodies) out → NoLeavings (file_data out)
+made_leavings m b bodies out map j d fits made back =
+    no-leavings m b d.readings out (can_map m b bodies map j d) (back_made m b bodies out map j d back) (small_out b (body_with b bodies) out fits made)
 
 pub made_loaded : (m : PathMap) (b : List ℕ) (bodies : List Body) (out : List ℕ) → IsPathMap m → IsChecked b → FileBodiesMade m b bodies
     → LayoutFits b (body_with b bodies) → ReadsBack b (body_with b bodies) out → LoadedKept b out

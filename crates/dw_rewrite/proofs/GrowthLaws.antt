@@ -1,8 +1,8 @@
 -- A table of texts grows by the paths of sections, one after another.
-use Rattle.std.proofs.Common.{Bool, ◌≡◌, ◌≢◌, inl, inr, ℕ, zero, suc, ◌+◌, ◌≤◌, ◌<◌, List, [], ◌∷◌, ◌++◌, length, get_or, drop, Option, Some, None, refl, sym, ap, ◌∙◌, subst, arith}
+use Rattle.std.proofs.Common.{Bool, ◌≡◌, ◌≢◌, inl, inr, ℕ, zero, suc, ◌+◌, ◌≤◌, ◌<◌, List, [], ◌∷◌, length, get_or, drop, Option, Some, None, refl, sym, ap, ◌∙◌, subst, arith}
 use Rattle.std.proofs.Math.Seq.{drop-cons}
 use Rattle.std.proofs.lemmas.Bool.{cases_lt}
-use Rattle.std.proofs.lemmas.List.{length-append, drop_all}
+use Rattle.std.proofs.lemmas.List.{drop_all}
 use Rattle.dw_base.specs.Cells.{Located}
 use Rattle.dw_base.specs.DebugSections.{name_of}
 use Rattle.dw_base.specs.FileViews.{View, section_bytes, section_named, view_cells}
@@ -10,7 +10,7 @@ use Rattle.dw_base.specs.Layout.{output_limit}
 use Rattle.dw_base.specs.LayoutFails.{TooLong, long}
 use Rattle.dw_base.specs.Paths.{PathMap}
 use Rattle.dw_base.specs.Refusals.{Blames}
-use Rattle.dw_base.specs.StringTables.{TextTable, appending, table_bytes}
+use Rattle.dw_base.specs.StringTables.{TextTable, rebuilding, table_bytes}
 use Rattle.dw_base.specs.Texts.{laid_texts}
 use Rattle.dw_base.specs.ViewData.{debug_data, located, located_at}
 use Rattle.dw_base.specs.declared.debug_sections.DebugSection.{DebugSection}
@@ -136,25 +136,24 @@ pub ruleset section_rules = (offsets-there)
 
 -- what is known of a table by a section's source is known of it
 pub source-knows : (m : PathMap) (v : View) (table : TextSection) (n : ℕ) (s : FieldSource) (ts : List (List ℕ)) (known : Bool → ℕ → Option ℕ) → s ≡ source_in v n table
-    → Knows (plan_in m v table) m (texts_of v table).bytes ts known → Knows (appending m s.table.bytes) m s.table.bytes ts known
-source-knows m v table n s ts known is h = subst (λ (x : FieldSource). Knows (appending m x.table.bytes) m x.table.bytes ts known) (sym is) h
+    → Knows rebuilding m (texts_of v table).bytes ts known → Knows rebuilding m s.table.bytes ts known
+source-knows m v table n s ts known is h = subst (λ (x : FieldSource). Knows rebuilding m x.table.bytes ts known) (sym is) h
 
--- it has grown by the paths of the section
+-- it has grown by the texts of the section
 pub section-grown : (m : PathMap) (v : View) (table : TextSection) (u : SectionFields) (n : ℕ) (s : FieldSource) (fields : List OffsetField) (old new : TextTable) (was known : Bool → ℕ → Option ℕ)
-    → n ≡ u.number → s ≡ source_in v n table → fields ≡ fields_of table u → new.kept ≡ s.table.bytes → length (table_bytes new) ≤ output_limit
-    → new.texts ≡ texts_at (appending m s.table.bytes) m s old.texts fields → Knows (appending m s.table.bytes) m s.table.bytes new.texts known
-    → AreNoted (appending m s.table.bytes) s fields (length fields) known → Remembers was known → GrownBy m v table u old new was known
+    → n ≡ u.number → s ≡ source_in v n table → fields ≡ fields_of table u → new.kept ≡ [] → length (table_bytes new) ≤ output_limit
+    → new.texts ≡ texts_at rebuilding m s old.texts fields → Knows rebuilding m s.table.bytes new.texts known
+    → AreNoted rebuilding s fields (length fields) known → Remembers was known → GrownBy m v table u old new was known
 section-grown m v table u n s fields old new was known number is are kept small texts knows noted remembers =
     let own : s ≡ source_in v u.number table = is ∙ ap (λ (k : ℕ). source_in v k table) number in
     record {
       grown = record {
-        kept = kept ∙ ap (λ (x : FieldSource). x.table.bytes) own;
+        kept = kept;
         small = small;
-        knows = subst (λ (x : FieldSource). Knows (appending m x.table.bytes) m x.table.bytes new.texts known) own knows;
+        knows = subst (λ (x : FieldSource). Knows rebuilding m x.table.bytes new.texts known) own knows;
       };
-      texts = texts ∙ ap (λ (x : FieldSource). texts_at (appending m x.table.bytes) m x old.texts fields) own
-          ∙ ap (texts_at (plan_in m v table) m (source_in v u.number table) old.texts) are;
-      noted = moved (λ (x : FieldSource) (fs : List OffsetField). AreNoted (appending m x.table.bytes) x fs (length fs) known) s (source_in v u.number table) fields (fields_of table u) own are noted;
+      texts = texts ∙ ap (λ (x : FieldSource). texts_at rebuilding m x old.texts fields) own ∙ ap (texts_at rebuilding m (source_in v u.number table) old.texts) are;
+      noted = moved (λ (x : FieldSource) (fs : List OffsetField). AreNoted rebuilding x fs (length fs) known) s (source_in v u.number table) fields (fields_of table u) own are noted;
       remembers = remembers;
     }
 
@@ -164,7 +163,7 @@ long-there m v t us placed over zero_ =
     let none : (texts_of v t).bytes ≡ [] = no-number v t zero_ in
     let texts : all_texts_at m v t [] us ≡ [] = no-texts m v t [] us none (each-offsets v us placed) in
     let same : table_bytes (table_with v t (all_texts_at m v t [] us)) ≡ [] =
-    ap (λ (ts : List (List ℕ)). (texts_of v t).bytes ++ laid_texts ts) texts ∙ ap (λ (b : List ℕ). b ++ laid_texts []) none in
+    ap laid_texts texts in
     omega (arith, over, ap length same)
 
 -- the row of a table that is too long
@@ -257,7 +256,7 @@ pub longer-refused : (m : PathMap) (v : View) (table : TextSection) (some all : 
     → Blames (TooLong (length (table_bytes (table_with v table some)))) f → Blames (TooLong (length (table_bytes (table_with v table all)))) f
 longer-refused m v table some all NoMemory longer b = tt
 longer-refused m v table some all (Refused _) longer (long over) =
-    long (omega (arith, longer, over, length-append (texts_of v table).bytes (laid_texts some), length-append (texts_of v table).bytes (laid_texts all)))
+    long (omega (arith, longer, over))
 
 pub pass-refused : (m : PathMap) (v : View) (table : TextSection) (us : List SectionFields) (front : List (List ℕ)) (first : Bool → ℕ → Option ℕ) (pool : TextTable) (known : Bool → ℕ → Option ℕ) (i : ℕ)
     (u : SectionFields) (f : Fault) → i < length us → u ≡ get_or us i u → TablePass m v table us front first pool known i

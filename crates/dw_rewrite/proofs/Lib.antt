@@ -1,5 +1,4 @@
 pub mod Rows
-pub mod ChangedTextLaws
 pub mod SourceLaws
 pub mod NewOffsetLaws
 pub mod ChangedLaws

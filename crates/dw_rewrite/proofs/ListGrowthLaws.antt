@@ -1,22 +1,19 @@
 -- A table of texts grows by the paths of all sections, kind by kind.
-use Rattle.std.proofs.Common.{Bool, true, false, ◌≡◌, ℕ, ◌<◌, ◌≤◌, List, [], ◌∷◌, ◌++◌, length, Option, Some, None, refl, sym, ap, ◌∙◌, subst, append_assoc, append-nil}
+use Rattle.std.proofs.Common.{Bool, ◌≡◌, ℕ, ◌<◌, ◌≤◌, List, [], ◌∷◌, ◌++◌, length, Option, Some, None, refl, sym, ap, ◌∙◌, subst, append_assoc, append-nil, arith}
 use Rattle.dw_base.specs.FileViews.{View}
-use Rattle.dw_base.specs.Layout.{output_limit}
 use Rattle.dw_base.specs.LayoutFails.{TooLong}
 use Rattle.dw_base.specs.Paths.{PathMap}
 use Rattle.dw_base.specs.Refusals.{Blames}
-use Rattle.dw_base.specs.StringTables.{Plan, TextTable, table_bytes}
+use Rattle.dw_base.specs.StringTables.{TextTable, rebuilding, table_bytes}
 use Rattle.dw_base.specs.Texts.{laid_texts}
 use Rattle.dw_base.specs.declared.fault.Fault.{Fault}
 use Rattle.dw_base.specs.declared.texts.TextSection.{TextSection}
-use Rattle.dw_base.specs.declared.texts.TextSection.TheVariants.{InStr, InLineStr}
 use Rattle.dw_find.specs.AllFields.{Fields, all_of}
 use Rattle.dw_find.specs.SectionFields.{SectionFields}
-use Rattle.dw_find.specs.ViewFields.{AllHaveOffsets, offsets_in}
+use Rattle.dw_find.specs.ViewFields.{AllHaveOffsets}
 use Rattle.dw_find.proofs.PlaceValueLaws.{EachOf, each-append, each-get}
-use Rattle.dw_lines.specs.NewTexts.{path_known}
-use Rattle.dw_rewrite.specs.Changes.{KnownPlace, Knows, Remembers}
-use Rattle.dw_rewrite.specs.NewTables.{Growing, GrownByAll, IsSectionNoted, TableMade, all_texts_at, plan_in, table_with, texts_of}
+use Rattle.dw_rewrite.specs.Changes.{Knows, Remembers}
+use Rattle.dw_rewrite.specs.NewTables.{Growing, GrownByAll, IsSectionNoted, TableMade, all_texts_at, table_with, texts_of}
 use Rattle.dw_rewrite.proofs.ChangedLaws.{remembers_on}
 use Rattle.dw_rewrite.proofs.GrowthLaws.{length-all_texts, longer-refused, noted-later}
 use Rattle.dw_rewrite.proofs.NewBodyLaws.{all_texts-append, noted-each}
@@ -168,36 +165,26 @@ of-names v us xs is h = subst (AllHaveOffsets v) (sym is) (offsets-parts v us.ma
 pub ruleset list_rules = (of-units, of-slots, of-lines, of-macros, of-names)
 
 -- a table to which nothing was added yet
-knows-none : (plan : Plan) (m : PathMap) (table : List ℕ) (ts : List (List ℕ)) (known : ℕ → Option ℕ) → ((o : ℕ) → known o ≡ None) → Knows plan m table ts (path_known known)
-knows-none plan m table ts known none = record { each = by_path }
-  where
-    by_path : (path : Bool) (offset place : ℕ) → path_known known path offset ≡ Some place → KnownPlace plan m table ts path offset place
-    by_path true offset place e = let no : None ≡ Some place = sym (none offset) ∙ e in absurd cc
-    by_path false offset place e = absurd cc
+knows-none : (m : PathMap) (table : List ℕ) (known : Bool → ℕ → Option ℕ) → ((path : Bool) (o : ℕ) → known path o ≡ None) → Knows rebuilding m table [] known
+knows-none m table known none = record {
+  each = λ (path : Bool) (offset place : ℕ) e. (let no : None ≡ Some place = sym (none path offset) ∙ e in absurd cc);
+}
 
-texts-same : (v : View) (table : TextSection) → (offsets_in v table).bytes ≡ (texts_of v table).bytes
-texts-same v InStr = refl
-texts-same v InLineStr = refl
-
-pub growing-none : (m : PathMap) (v : View) (table : TextSection) (pool : TextTable) (known : ℕ → Option ℕ) (bytes : List ℕ) → bytes ≡ (offsets_in v table).bytes
-    → pool ≡ record { kept = bytes; texts = [] } → length bytes ≤ output_limit → ((o : ℕ) → known o ≡ None) → Growing m v table pool (path_known known)
-growing-none m v table pool known bytes is p small none =
-    subst (λ (x : TextTable). Growing m v table x (path_known known)) (sym p) (record {
-      kept = is ∙ texts-same v table;
-      small = subst (λ (xs : List ℕ). length xs ≤ output_limit) (sym (append-nil bytes)) small;
-      knows = knows-none (plan_in m v table) m (texts_of v table).bytes [] known none;
-    })
+pub growing-none : (m : PathMap) (v : View) (table : TextSection) (pool : TextTable) (known : Bool → ℕ → Option ℕ) → pool ≡ record { kept = []; texts = [] }
+    → ((path : Bool) (o : ℕ) → known path o ≡ None) → Growing m v table pool known
+growing-none m v table pool known p none =
+    subst (λ (x : TextTable). Growing m v table x known) (sym p) (record { kept = refl; small = omega arith; knows = knows-none m (texts_of v table).bytes known none })
 
 -- so a table that has grown by all is made; one that would be too long
-pub made-grown : (m : PathMap) (v : View) (table : TextSection) (us : List SectionFields) (old pool : TextTable) (bytes : List ℕ) (was known : Bool → ℕ → Option ℕ)
-    → old ≡ record { kept = bytes; texts = [] } → GrownByAll m v table us old pool was known → TableMade m v table us pool known
-made-grown m v table us old pool bytes was known is g = record {
+pub made-grown : (m : PathMap) (v : View) (table : TextSection) (us : List SectionFields) (old pool : TextTable) (was known : Bool → ℕ → Option ℕ)
+    → old ≡ record { kept = []; texts = [] } → GrownByAll m v table us old pool was known → TableMade m v table us pool known
+made-grown m v table us old pool was known is g = record {
   grown = g.grown;
   texts = g.texts ∙ ap (λ (x : TextTable). all_texts_at m v table x.texts us) is;
   noted = g.noted;
 }
 
-pub made-refused : (m : PathMap) (v : View) (table : TextSection) (us : List SectionFields) (old : TextTable) (bytes : List ℕ) (f : Fault) → old ≡ record { kept = bytes; texts = [] }
+pub made-refused : (m : PathMap) (v : View) (table : TextSection) (us : List SectionFields) (old : TextTable) (f : Fault) → old ≡ record { kept = []; texts = [] }
     → Blames (TooLong (length (table_bytes (table_with v table (all_texts_at m v table old.texts us))))) f
     → Blames (TooLong (length (table_bytes (table_with v table (all_texts_at m v table [] us))))) f
-made-refused m v table us old bytes f is b = subst (λ (x : TextTable). Blames (TooLong (length (table_bytes (table_with v table (all_texts_at m v table x.texts us))))) f) is b
+made-refused m v table us old f is b = subst (λ (x : TextTable). Blames (TooLong (length (table_bytes (table_with v table (all_texts_at m v table x.texts us))))) f) is b

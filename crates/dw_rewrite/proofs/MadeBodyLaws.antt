@@ -217,10 +217,10 @@ made-is m v us ts ps pl ks kl bs ns f s l w =
     ∙ parts-are slots line_is names macros units in
     ap (λ (x : List ℕ). record { number = ((debug_data v).found Str).number; bytes = x } ∷ table_body_of v InLineStr pl ∷ pushed_bodies m v ks kl kt lines us)
     (table-bytes m v InStr us ts ps ks f s)
-    ∙ ap (λ (x : List ℕ). record { number = ((debug_data v).found Str).number; bytes = ((debug_data v).found Str).bytes ++ laid_texts text_s }
+    ∙ ap (λ (x : List ℕ). record { number = ((debug_data v).found Str).number; bytes = laid_texts text_s }
     ∷ record { number = ((debug_data v).found LineStr).number; bytes = x } ∷ pushed_bodies m v ks kl kt lines us) (table-bytes m v InLineStr us ts pl kl f l)
-    ∙ ap (λ (xs : List Body). record { number = ((debug_data v).found Str).number; bytes = ((debug_data v).found Str).bytes ++ laid_texts text_s }
-    ∷ record { number = ((debug_data v).found LineStr).number; bytes = ((debug_data v).found LineStr).bytes ++ laid_texts text_l } ∷ xs) rest
+    ∙ ap (λ (xs : List Body). record { number = ((debug_data v).found Str).number; bytes = laid_texts text_s }
+    ∷ record { number = ((debug_data v).found LineStr).number; bytes = laid_texts text_l } ∷ xs) rest
 
 pub all-offsets : (m : PathMap) (v : View) (us : Fields) (ts : List LineTable) → PathsFound m v us ts → AllHaveOffsets v (all_of us)
 all-offsets m v us ts f = f.offsets

@@ -7,12 +7,12 @@ use Rattle.dw_base.specs.SectionTexts.{edited_with, mentions_with, slot_role}
 use Rattle.dw_base.specs.declared.debug_sections.DebugSection.TheVariants.{Info, Str, LineStr, StrOffsets, Line}
 use Rattle.dw_base.proofs.ViewCellLaws.{bytes_of-view_cells}
 use Rattle.dw_meaning.specs.DataOutput.{Body, cells_body, table_change, changes_of, offsets_after, unit_body, unit_bodies}
-use Rattle.dw_base.specs.DebugData.{DebugData, DataReadings, Around, around_of, path_slots, table_of, units_in, ReadsAll}
+use Rattle.dw_base.specs.DebugData.{DebugData, DataReadings, Around, around_of, path_slots, units_in, ReadsAll}
 use Rattle.dw_base.specs.Readings.{Reading, Readings, EachReading}
 use Rattle.dw_base.specs.FileViews.{View, section_bytes, section_named, view_cells}
 use Rattle.dw_base.specs.Paths.{PathMap}
 use Rattle.dw_base.specs.Pieces.{Piece, joined, EachPiece}
-use Rattle.dw_base.specs.StringTables.{Mention, Plan, TextTable, appending, with_mention, texts_after}
+use Rattle.dw_base.specs.StringTables.{Mention, Plan, TextTable, with_mention, texts_after}
 use Rattle.dw_base.specs.TextChanges.{mentions_of, all_mentions, edited_all, InlineFits}
 use Rattle.dw_base.specs.UnitHeaders.{UnitSection}
 use Rattle.dw_base.specs.UnitPieces.{ReadsUnits}
@@ -54,10 +54,6 @@ pub same-source : (v : View) (rs : DataReadings) (section : ℕ) (table : TextSe
 unfolding debug_data
 same-source v rs section InStr = refl
 same-source v rs section InLineStr = refl
-
-pub same-plan : (m : PathMap) (v : View) (rs : DataReadings) (table : TextSection) → plan_in m v table ≡ appending m (table_of (around_of (debug_data v) rs) table).bytes
-same-plan m v rs InStr = refl
-same-plan m v rs InLineStr = refl
 
 same-fields : (table : TextSection) (r : Reading) → piece_fields table r.pieces ≡ fields_of table (paths_in r)
 same-fields InStr r = refl

@@ -1,9 +1,9 @@
 -- The new place of what lies at an old place of a section, of a path or of another text.
-use Rattle.std.proofs.Common.{Bool, true, false, ◌≡◌, ◌≢◌, ℕ, Option, None, refl, sym, ap, ◌∙◌}
+use Rattle.std.proofs.Common.{Bool, false, ◌≡◌, ◌≢◌, ℕ, Option, refl, sym, ap, ◌∙◌}
 use Rattle.dw_base.specs.declared.debug_sections.DebugSection.{DebugSection}
 use Rattle.dw_base.specs.declared.debug_sections.DebugSection.TheVariants.{Info, Types, Abbrev, Str, LineStr, StrOffsets, Line, Macro, Names}
 use Rattle.dw_lines.specs.NewTexts.{texts_known}
-use Rattle.dw_rewrite.specs.NewPlaces.{AllPlaces, HasNone, places_known}
+use Rattle.dw_rewrite.specs.NewPlaces.{AllPlaces, places_known}
 use Rattle.dw_rewrite.specs.NewStarts.{known_starts}
 
 -- that of a line table, and of a text
@@ -26,15 +26,3 @@ pub text-place : (p : AllPlaces) (s : DebugSection) (path : Bool) (old : ℕ) (o
 text-place p s path old o other e = e ∙ text-known p s path old other
 
 pub ruleset get_rules = (line-place, text-place)
-
--- no text that isn't a path has one
-pub has-none : (s : DebugSection) (path : Bool) → path ≡ false → s ≢ Line → HasNone s path
-has-none s true is other = absurd cc
-has-none s false is other = record { none = λ p old. sym (text-known p s false old other) }
-
-pub ruleset none_rules = (has-none)
-
-pub none-place : (p : AllPlaces) (s : DebugSection) (path : Bool) (old : ℕ) → HasNone s path → None ≡ places_known p s path old
-none-place p s path old h = sym (h.none p old)
-
-pub ruleset place_rules = (none-place)

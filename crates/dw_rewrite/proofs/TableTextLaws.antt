@@ -12,8 +12,8 @@ use Rattle.dw_base.specs.MacroReadings.{ReadsAllMacros}
 use Rattle.dw_base.specs.NamePieces.{ReadsNames}
 use Rattle.dw_base.specs.OffsetPieces.{ReadsOffsets}
 use Rattle.dw_base.specs.Paths.{PathMap}
-use Rattle.dw_base.specs.SectionTexts.{file_mentions, macro_mentions, mentions_with, name_role, slot_role}
-use Rattle.dw_base.specs.StringTables.{Mention, Plan, TextTable, texts_after, table_bytes}
+use Rattle.dw_base.specs.SectionTexts.{macro_mentions, mentions_with, name_role, slot_role}
+use Rattle.dw_base.specs.StringTables.{Mention, TextTable, texts_after, table_bytes}
 use Rattle.dw_base.specs.TextChanges.{all_mentions}
 use Rattle.dw_base.specs.Texts.{laid_texts}
 use Rattle.dw_base.specs.ViewData.{debug_data}
@@ -36,7 +36,7 @@ use Rattle.dw_find.specs.SectionFields.{SectionFields, paths_of}
 use Rattle.dw_find.specs.ViewLines.{lines_by, lines_of_view, lines_with, table_fields}
 use Rattle.dw_rewrite.proofs.LineMentionLaws.{IsWhole, line_texts, lines-texts}
 use Rattle.dw_rewrite.proofs.MacroWrittenLaws.{macros-told}
-use Rattle.dw_rewrite.proofs.NewBodyLaws.{all_texts-append, readings-texts, same-plan, slots-texts, texts_after-append}
+use Rattle.dw_rewrite.proofs.NewBodyLaws.{all_texts-append, readings-texts, slots-texts, texts_after-append}
 use Rattle.dw_rewrite.proofs.NameWrittenLaws.{names-told}
 use Rattle.dw_find.proofs.FoundUnitLaws.{cells-some, view-apart}
 
@@ -104,8 +104,7 @@ table-texts m v rs ts table reads offsets lines macros names is =
     let units : List (List ℕ) = all_texts_at m v table [] (paths_of rs.units) in
     let slots : List (List ℕ) = all_texts_at m v table (all_texts_at m v table [] (paths_of rs.units)) (slots_read v rs) in
     let lined : List (List ℕ) = all_texts_at m v table slots (lines_of_view v (tables_read (line_source (debug_data v)) rs.lines)) in
-    ap (λ (p : Plan). texts_after p m [] (file_mentions table (around_of (debug_data v) rs) rs)) (sym (same-plan m v rs table))
-    ∙ texts_after-append (plan_in m v table) m [] us (ss ++ (ls ++ (ms ++ ns)))
+    texts_after-append (plan_in m v table) m [] us (ss ++ (ls ++ (ms ++ ns)))
     ∙ ap (λ (xs : List (List ℕ)). texts_after (plan_in m v table) m xs (ss ++ (ls ++ (ms ++ ns))))
     (readings-texts m v rs table [] [] ((debug_data v).found Info) 0 rs.units refl reads)
     ∙ texts_after-append (plan_in m v table) m units ss (ls ++ (ms ++ ns))
@@ -126,7 +125,6 @@ made-table m v table us ts pool known f t =
 
 pub table-bytes : (m : PathMap) (v : View) (table : TextSection) (us : Fields) (ts : List LineTable) (pool : TextTable) (known : Bool → ℕ → Option ℕ) (f : PathsFound m v us ts)
     → TableMade m v table (all_of us) pool known
-    → table_bytes pool ≡ (texts_of v table).bytes ++ laid_texts (table_change m table (around_of (debug_data v) f.readings) f.readings).texts
+    → table_bytes pool ≡ laid_texts (table_change m table (around_of (debug_data v) f.readings) f.readings).texts
 table-bytes m v table us ts pool known f t =
-    ap (λ (k : List ℕ). k ++ laid_texts pool.texts) t.grown.kept
-    ∙ ap (λ (xs : List (List ℕ)). (texts_of v table).bytes ++ laid_texts xs) (made-table m v table us ts pool known f t)
+    ap (λ (k : List ℕ). k ++ laid_texts pool.texts) t.grown.kept ∙ ap laid_texts (made-table m v table us ts pool known f t)

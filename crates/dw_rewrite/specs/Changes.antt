@@ -1,5 +1,5 @@
 -- What becomes of the bytes of a unit section and of a table of texts, by the fields that hold the offsets of texts into it.
-use Rattle.std.specs.Prelude.{Bool, true, ◌≡◌, ◌≢◌, ◌⊎◌, ℕ, ◌+◌, ◌<◌, ◌≤◌, List, length, get_or, [], ◌∷◌, if◌then◌else◌, Option, Some, None, is_some, ◌++◌, ⊤, take, drop}
+use Rattle.std.specs.Prelude.{Bool, true, ◌≡◌, ◌⊎◌, ℕ, ◌+◌, ◌<◌, ◌≤◌, List, length, get_or, [], ◌∷◌, if◌then◌else◌, Option, Some, None, is_some, ◌++◌, ⊤, take, drop}
 use Rattle.dw_base.specs.Cells.{Cell, Located, bytes_of, cells_at, offset_of}
 use Rattle.dw_base.specs.DebugData.{start_number}
 use Rattle.dw_base.specs.NewOffsets.{with_offset}
@@ -80,11 +80,6 @@ pub record IsNoted (plan : Plan) (table : List ℕ) (known : Bool → ℕ → Op
 -- what was known is known
 pub record Remembers (old new : Bool → ℕ → Option ℕ) : Type 0 where
   pub each : (path : Bool) (offset : ℕ) → is_some (old path offset) ≡ true → is_some (new path offset) ≡ true
-
--- one place more is known
-pub record Adds (old new : ℕ → Option ℕ) (offset place : ℕ) : Type 0 where
-  pub here : new offset ≡ Some place
-  pub others : (other : ℕ) → other ≢ offset → new other ≡ old other
 
 -- the place of a text in a table that it was added to
 abbrev pub place_after : TextTable → List ℕ → ℕ

@@ -1,6 +1,6 @@
 -- The new places of what fields hold offsets of, by the section of debug data that it is in: of texts, and of line tables (DWARF 5, 7.5.5, classes string
 -- and lineptr).
-use Rattle.std.specs.Prelude.{Bool, ◌≡◌, ℕ, Option, None}
+use Rattle.std.specs.Prelude.{Bool, ℕ, Option}
 use Rattle.dw_base.specs.declared.debug_sections.DebugSection.{DebugSection}
 use Rattle.dw_base.specs.declared.debug_sections.DebugSection.TheVariants.{Line}
 use Rattle.dw_lines.specs.NewTexts.{KnownTexts, texts_known}
@@ -15,7 +15,3 @@ pub record AllPlaces : Type 0 where
 abbrev pub places_known : AllPlaces → DebugSection → Bool → ℕ → Option ℕ
 places_known p Line = known_starts p.starts
 places_known p s = texts_known p.texts s
-
--- none is known in a section, of paths or of other texts
-pub record HasNone (s : DebugSection) (path : Bool) : Type 0 where
-  pub none : (p : AllPlaces) (old : ℕ) → places_known p s path old ≡ None

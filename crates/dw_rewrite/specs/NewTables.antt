@@ -7,7 +7,7 @@ use Rattle.dw_base.specs.FileViews.{View, view_cells}
 use Rattle.dw_base.specs.Layout.{output_limit}
 use Rattle.dw_base.specs.Paths.{PathMap}
 use Rattle.dw_base.specs.Refusals.{at}
-use Rattle.dw_base.specs.StringTables.{Plan, TextTable, appending, table_bytes}
+use Rattle.dw_base.specs.StringTables.{Plan, TextTable, rebuilding, table_bytes}
 use Rattle.dw_base.specs.TextChanges.{TableChange}
 use Rattle.dw_base.specs.ViewData.{debug_data, located}
 use Rattle.dw_base.specs.declared.debug_sections.DebugSection.{DebugSection}
@@ -27,8 +27,9 @@ use Rattle.dw_find.specs.ViewFields.{fields_of, info_of, table_number, texts_in}
 abbrev pub texts_of : View → TextSection → Located
 texts_of v table = texts_in (debug_data v) table
 
+-- each is built anew
 abbrev pub plan_in : PathMap → View → TextSection → Plan
-plan_in m v table = appending m (texts_of v table).bytes
+plan_in m v table = rebuilding
 
 -- where the fields of the section of a number hold offsets into a table of texts, and into the line tables
 abbrev pub source_in : View → ℕ → TextSection → FieldSource
@@ -62,9 +63,9 @@ IsSectionNoted m v table u known = AreNoted (plan_in m v table) (source_in v u.n
 pub record AllNoted (m : PathMap) (v : View) (table : TextSection) (us : List SectionFields) (count : ℕ) (known : Bool → ℕ → Option ℕ) : Type 0 where
   pub each : (k : ℕ) (d : SectionFields) → k < count → k < length us → IsSectionNoted m v table (get_or us k d) known
 
--- a table that grows, with the new places of paths that are known
+-- a table that is built anew, with the new places of texts that are known
 pub record Growing (m : PathMap) (v : View) (table : TextSection) (pool : TextTable) (known : Bool → ℕ → Option ℕ) : Type 0 where
-  pub kept : pool.kept ≡ (texts_of v table).bytes
+  pub kept : pool.kept ≡ []
   pub small : length (table_bytes pool) ≤ output_limit
   pub knows : Knows (plan_in m v table) m (texts_of v table).bytes pool.texts known
 
@@ -88,9 +89,9 @@ pub record TableMade (m : PathMap) (v : View) (table : TextSection) (us : List S
   pub texts : pool.texts ≡ all_texts_at m v table [] us
   pub noted : AllNoted m v table us (length us) known
 
--- the table with these texts behind its old bytes
+-- the table of these texts
 abbrev pub table_with : View → TextSection → List (List ℕ) → TextTable
-table_with v table ts = record { kept = (texts_of v table).bytes; texts = ts }
+table_with v table ts = record { kept = []; texts = ts }
 
 -- what becomes of a table
 abbrev pub change_in : PathMap → View → TextSection → List (List ℕ) → TableChange

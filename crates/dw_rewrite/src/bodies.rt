@@ -14,7 +14,7 @@ ghost use Rattle.dw_base.specs.RelocationRows.{moving_sections};
 ghost use Rattle.dw_base.specs.RelocationSectionFails.{RelocationSectionsRead};
 ghost use Rattle.dw_base.specs.ViewData.{debug_data};
 ghost use Rattle.dw_base.specs.declared.debug_sections.DebugSection.TheVariants.{Str, LineStr, Line};
-ghost use Rattle.dw_base.specs.declared.fault.Fault.TheVariants.{NoMemory};
+ghost use Rattle.dw_base.specs.declared.fault.Fault.TheVariants.{NoMemory as no_memory};
 ghost use Rattle.dw_base.specs.declared.texts.TextSection.TheVariants.{InLineStr, InStr};
 ghost use Rattle.dw_lines.specs.NewTexts.{texts_known};
 ghost use Rattle.dw_lines.specs.ViewTables.{TablesFound};
@@ -38,15 +38,15 @@ use crate::new_sections::{Body, new_sections};
 use crate::records::push_standing;
 use crate::starts::NewStarts;
 use crate::tables::{NewTables, new_tables};
-use dw_base::{DebugSection, Fault, Kind, OUTPUT_LIMIT, Refusal, TextSection};
+use dw_base::{DebugSection, Fault, Kind, NoMemory, OUTPUT_LIMIT, Refusal, TextSection};
 use dw_find::{Fields, SectionFields, starts_of, table_number};
 use dw_lines::{LineTable, NewTexts};
 use dw_paths::Maps;
-use dw_strings::Pool;
+use dw_strings::LentPool;
 use dw_view::{RelocationSources, View};
 use elf_file::ElfFile;
 use elf_layout::NewBody;
-use std::alloc::{AllocError, Global};
+use std::alloc::Global;
 
 /// The sections with new bytes: the tables of texts, string offsets, line tables and name tables, then the sections
 /// of macro units and the unit sections, each in the order of their numbers, and those that hold relocations of them.
@@ -122,19 +122,19 @@ fn limited_lines(
 fn table_bodies<'v>(
     alloc: Global,
     view: &View,
-    pool: Pool,
-    line_pool: Pool,
-) -> Result<Vec<Body<'v>>, AllocError>
-    ensures bodies { IfOk result (λ b. b.items ≡ table_body_of view.now InStr pool ∷ table_body_of view.now InLineStr line_pool ∷ []) }
+    pool: LentPool,
+    line_pool: LentPool,
+) -> Result<Vec<Body<'v>>, NoMemory>
+    ensures bodies { IfOk result (λ b. b.items ≡ table_body_of view.now InStr pool.entry ∷ table_body_of view.now InLineStr line_pool.entry ∷ []) }
 {
     let mut bodies = Vec::new(alloc);
     bodies.push(Body {
         section: table_number(view, TextSection::InStr),
-        bytes: NewBody::whole(pool.into_bytes()),
+        bytes: NewBody::whole(pool.into_bytes(alloc)?),
     })?;
     bodies.push(Body {
         section: table_number(view, TextSection::InLineStr),
-        bytes: NewBody::whole(line_pool.into_bytes()),
+        bytes: NewBody::whole(line_pool.into_bytes(alloc)?),
     })?;
     Ok(bodies)
 }
@@ -185,7 +185,7 @@ fn push_bodies<'a>(
     requires places { AllHavePlaces view.now (standing paths.now) }
     requires rooms { AllRoomsFit maps.now view.now (standing paths.now) }
     ensures bodies { OnOk result (bodies.new.items ≡ bodies.old.items ++ pushed_bodies maps.now view.now (places_known new_places.now Str) (places_known new_places.now LineStr) (places_known new_places.now Line) lines.entry paths.now) }
-    ensures only { IfErr result (λ f. f ≡ NoMemory) }
+    ensures only { IfErr result (λ f. f ≡ no_memory) }
 {
     push_one(alloc, elf, view, maps, new_places, paths.slots(), bodies)?;
     bodies.push(lines)?;
@@ -244,7 +244,7 @@ fn push_one<'a>(
     requires places { AllHavePlaces view.now found.now }
     requires rooms { AllRoomsFit maps.now view.now found.now }
     ensures body { OnOk result (bodies.new.items ≡ bodies.old.items ++ one_body (bodies_known maps.now view.now (places_known new_places.now Str) (places_known new_places.now LineStr) (places_known new_places.now Line) found.now)) }
-    ensures only { IfErr result (λ f. f ≡ NoMemory) }
+    ensures only { IfErr result (λ f. f ≡ no_memory) }
 {
     if found.is_empty() {
         bodies.push(Body {

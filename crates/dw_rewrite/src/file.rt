@@ -7,7 +7,8 @@ ghost use Rattle.dw_lines.specs.ViewTables.{TablesFound};
 ghost use Rattle.dw_meaning.specs.EditRows.{EditFails, IsAccepted};
 ghost use Rattle.dw_base.specs.Elf.{section_count};
 ghost use Rattle.dw_base.specs.ElfFails.{ElfReads, SegmentsRead};
-ghost use Rattle.dw_meaning.specs.FileMeanings.{IsOutput, MeaningKept};
+ghost use Rattle.dw_meaning.specs.FileMeanings.{IsOutput, MeaningKept, file_data};
+ghost use Rattle.dw_meaning.specs.Leavings.{NoLeavings};
 ghost use Rattle.dw_base.specs.FileViews.{view_of};
 ghost use Rattle.dw_base.specs.Layout.{output_limit, with_bodies};
 ghost use Rattle.dw_base.specs.LayoutFails.{LayoutFails, LayoutFits};
@@ -43,10 +44,10 @@ pub struct Rewritten<'a> {
     pub tables: Vec<LineTable>,
 }
 
-/// The file with each source path mapped: each field of a path's text names the mapped text, which stands behind the
-/// old bytes of its table where it differs; each path that stands in its value is mapped there; and the file is laid
-/// out anew. Beside it stand the line tables that were read for that. Refused only by a condition that holds in the file, at
-/// its place; where none holds, it is rewritten, or there was not enough memory.
+/// The file with each source path mapped: each table of texts is built anew, of the texts that fields name after mapping;
+/// each path that stands in its value is mapped there; and the file is laid out anew. Beside it stand the line tables
+/// that were read for that. Refused only by a condition that holds in the file, at its place; where none holds, it is
+/// rewritten, or there was not enough memory.
 #[tactic(auto, using(crate::proofs::ExitLaws::rewrite_rules))]
 pub fn rewrite<'a>(alloc: Global, bytes: &'a [u8], maps: &Maps) -> Result<Rewritten<'a>, Fault>
     requires small { length bytes.now ≤ output_limit }
@@ -57,6 +58,9 @@ pub fn rewrite<'a>(alloc: Global, bytes: &'a [u8], maps: &Maps) -> Result<Rewrit
     // What it means is what the file means, with each source path mapped, and what is loaded of it is as it was.
     ensures meaning { IfOk result (λ out. MeaningKept maps.now bytes.now out.file) }
     ensures loaded { IfOk result (λ out. LoadedKept bytes.now out.file) }
+
+    // No text is left in it that none of its fields names.
+    ensures leavings { IfOk result (λ out. NoLeavings (file_data out.file)) }
 
     // The line tables are those of the file as it was.
     ensures tables { IfOk result (λ out. TablesFound (view_of bytes.now) out.tables.items) }
@@ -78,6 +82,7 @@ fn rewrite_elf<'a>(alloc: Global, elf: &ElfFile<'a>, maps: &Maps) -> Result<Rewr
     ensures only { IfOk result (λ out. (o : List ℕ) → IsOutput maps.now elf.now.bytes.now o → o ≡ out.file) }
     ensures meaning { IfOk result (λ out. MeaningKept maps.now elf.now.bytes.now out.file) }
     ensures loaded { IfOk result (λ out. LoadedKept elf.now.bytes.now out.file) }
+    ensures leavings { IfOk result (λ out. NoLeavings (file_data out.file)) }
     ensures tables { IfOk result (λ out. TablesFound (view_of elf.now.bytes.now) out.tables.items) }
     ensures refused { IfErr result (Blames (EditFails maps.now elf.now.bytes.now)) }
 {
@@ -104,6 +109,7 @@ fn rewrite_checked<'a>(
     ensures only { IfOk result (λ out. (o : List ℕ) → IsOutput maps.now elf.now.bytes.now o → o ≡ out.file) }
     ensures meaning { IfOk result (λ out. MeaningKept maps.now elf.now.bytes.now out.file) }
     ensures loaded { IfOk result (λ out. LoadedKept elf.now.bytes.now out.file) }
+    ensures leavings { IfOk result (λ out. NoLeavings (file_data out.file)) }
     ensures tables { IfOk result (λ out. TablesFound (view_of elf.now.bytes.now) out.tables.items) }
     ensures refused { IfErr result (Blames (EditFails maps.now elf.now.bytes.now)) }
 {

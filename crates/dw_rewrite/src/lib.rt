@@ -22,7 +22,6 @@
 
 mod bodies;
 mod change;
-mod changed_texts;
 mod file;
 mod inline;
 mod line_records;

@@ -2,14 +2,14 @@
 use Rattle.std.proofs.Common.{◌≡◌, ℕ, ◌+◌, ◌*◌, ◌≤◌, List, [], ◌∷◌, ◌++◌, length, refl, ap, ◌∙◌, arith}
 use Rattle.std.proofs.lemmas.List.{append-nil, length-append}
 use Rattle.dw_base.specs.Cells.{bytes_of, plain_cells}
-use Rattle.dw_base.specs.DebugData.{Around, DebugData, source_around, table_of}
+use Rattle.dw_base.specs.DebugData.{Around, DebugData, source_around}
 use Rattle.dw_base.specs.Elf.{contents_of}
 use Rattle.dw_base.specs.LineReadings.{all_lines}
 use Rattle.dw_base.specs.Paths.{IsPathMap, PathMap}
 use Rattle.dw_base.specs.Pieces.{Piece, joined}
 use Rattle.dw_base.specs.Roles.{role_of}
 use Rattle.dw_base.specs.SectionTexts.{file_mentions}
-use Rattle.dw_base.specs.StringTables.{Mention, appending, new_table, new_texts}
+use Rattle.dw_base.specs.StringTables.{Mention, new_table, new_texts, rebuilding}
 use Rattle.dw_base.specs.TextChanges.{TableChange, TableChanges, edited_all, edited_by, mentions_of}
 use Rattle.dw_base.specs.UnitStates.{UnitState}
 use Rattle.dw_base.specs.declared.debug_sections.DebugSection.TheVariants.{Line}
@@ -20,7 +20,7 @@ use Rattle.dw_meaning.proofs.RelocatedBodyLaws.{file_body-loaded}
 use Rattle.dw_meaning.proofs.SectionKeptLaws.{edited-size}
 use Rattle.dbg_gen.specs.Asked.{AreFew}
 use Rattle.dbg_gen.specs.GeneratedTexts.{texts_of}
-use Rattle.dbg_gen.proofs.SizeLaws.{length-texts_of, length-units_of}
+use Rattle.dbg_gen.proofs.SizeLaws.{length-units_of}
 use Rattle.dw_base.specs.declared.texts.TextSection.TheVariants.{InLineStr, InStr}
 use Rattle.gen_laws.proofs.AroundLaws.{counted_around, counted_data, stands-around}
 use Rattle.gen_laws.proofs.DataReadLaws.{counted_readings}
@@ -76,11 +76,10 @@ unfolding table_change
 length-new_str m counts units fit small few =
     let around = counted_around counts units in
     let whole = length (plain_cells (info_of counts units)) in
-    let table = length-new_table (appending m (table_of around InStr).bytes) m (file_mentions InStr around (counted_readings counts units)) fit in
+    let table = length-new_table rebuilding m (file_mentions InStr around (counted_readings counts units)) fit in
     let room = units-room around (texts_of counts units) counts units whole (stands-around counts units small few) small few in
     let same = ap mentions_room (str-mentions counts units) in
-    let old = length-texts_of counts units small few in
-    omega (arith, table, room, same, old)
+    omega (arith, table, room, same)
 
 -- the other table has nothing
 abbrev pub new_line_str : PathMap → List ℕ → ℕ → List ℕ
@@ -97,7 +96,7 @@ other-mentions counts units =
 
 none-new : (m : PathMap) (counts : List ℕ) (units : ℕ) → new_line_str m counts units ≡ []
 unfolding table_change
-none-new m counts units = ap (λ (ms : List Mention). new_table (appending m []) (new_texts (appending m []) m ms)) (other-mentions counts units)
+none-new m counts units = ap (λ (ms : List Mention). new_table rebuilding (new_texts rebuilding m ms)) (other-mentions counts units)
 
 -- the line tables
 abbrev pub new_line : PathMap → List ℕ → ℕ → List ℕ

@@ -2,12 +2,11 @@
 
 use crate::files::{Piece, Row, file_of};
 use dw_base::Order;
-use dw_lines::{Fault, FilePlace, LineTable, NewTexts, TextPlace, Width, WrittenTable};
+use dw_lines::{Fault, FilePlace, LineTable, NewTexts, TextPlace, TextPlaces, Width, WrittenTable};
 use dw_paths::Maps;
 use dw_view::View;
 use elf_file::ElfFile;
 use std::alloc::{AllocError, Global};
-use std::collections::HashMap;
 use std::process::Abort;
 use std::test::Fail;
 
@@ -86,10 +85,10 @@ fn text(section: u32, at: u64, len: u64, field: u64) -> TextPlace {
 }
 
 /// The new places that are known.
-fn known(alloc: Global, places: &[(u64, u64)]) -> Result<HashMap<u64, u64>, AllocError> {
-    let mut known = HashMap::new(alloc);
+fn known(alloc: Global, places: &[(u64, u64)]) -> Result<TextPlaces, AllocError> {
+    let mut known = TextPlaces::new(alloc);
     for (old, new) in places {
-        known.insert(*old, *new)?;
+        known.add(true, *old, *new)?;
     }
     Ok(known)
 }

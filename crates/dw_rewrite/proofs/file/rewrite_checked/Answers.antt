@@ -1,8 +1,8 @@
--- There is one output, its meaning is kept, and what is loaded of it; a layout that is refused has a row.
+-- There is one output, its meaning is kept, and what is loaded of it, and no text is left; a layout that is refused has a row.
 use Rattle.std.proofs.Common.{subst}
 use Rattle.std.proofs.lemmas.Result.{err_from_is_err_and}
 use Rattle.dw_base.specs.Paths.{IsPathMap}
-use Rattle.dw_rewrite.proofs.ExitLaws.{made_accepted, made_loaded, made_meaning, made_output, made_stand, one_output, refused_written}
+use Rattle.dw_rewrite.proofs.ExitLaws.{made_accepted, made_leavings, made_loaded, made_meaning, made_output, made_stand, one_output, refused_written}
 use Rattle.dw_rewrite.proofs.file.rewrite_checked.Goals as goal
 
 pub returns-in_err-tables-clause-refused : goal.returns-in_err-tables-clause-refused
@@ -49,3 +49,8 @@ pub returns-clause-loaded : goal.returns-clause-loaded
 returns-clause-loaded c =
     made_loaded c.args.maps.now c.args.elf.now.bytes.now c.in_ok-bodies.bodies.items c.in_ok-file.file (subst IsPathMap c.maps.view_is c.maps.invariant)
     c.requires.checked c.in_ok-bodies.ensures.made c.in_ok-file.ensures.fits c.in_ok-file.ensures.back
+
+pub returns-clause-leavings : goal.returns-clause-leavings
+returns-clause-leavings c =
+    made_leavings c.args.maps.now c.args.elf.now.bytes.now c.in_ok-bodies.bodies.items c.in_ok-file.file (subst IsPathMap c.maps.view_is c.maps.invariant)
+    c.requires.checked c.in_ok-bodies.ensures.made c.in_ok-file.ensures.fits c.in_ok-file.ensures.file c.in_ok-file.ensures.back
