@@ -17,7 +17,7 @@ const SECTION_NAMES: &str = "\0.debug_info\0.debug_abbrev\0.debug_str\0.shstrtab
 /// The texts of the worked file.
 const BUILD_PATHS: &str = "/build/p/a.c\0/build/p\0";
 
-/// The texts that are added to them.
+/// The texts that take their place.
 const INSTALL_PATHS: &str = "/usr/src/debug/p/a.c\0/usr/src/debug/p\0";
 
 /// The file header of a 64-bit little-endian executable for x86-64, with five section headers from
@@ -68,16 +68,15 @@ pub(crate) fn built_file(alloc: Global) -> Result<Vec<u8>, AllocError> {
     Ok(file)
 }
 
-/// The same file with its paths mapped, of 528 bytes: the texts are added, and what follows them is moved.
+/// The same file with its paths mapped, of 504 bytes: the texts are built anew, and what follows them is moved.
 pub(crate) fn installed_file(alloc: Global) -> Result<Vec<u8>, AllocError> {
-    let mut file = Vec::from_slice(alloc, &file_header(208))?;
-    file.extend_from_slice(&unit(22, 43))?;
+    let mut file = Vec::from_slice(alloc, &file_header(184))?;
+    file.extend_from_slice(&unit(0, 21))?;
     file.extend_from_slice(&ABBREVIATIONS)?;
-    file.extend_from_slice(BUILD_PATHS.as_bytes())?;
     file.extend_from_slice(INSTALL_PATHS.as_bytes())?;
     file.extend_from_slice(SECTION_NAMES.as_bytes())?;
-    file.extend_from_slice(&[0; 6])?;
-    file.extend_from_slice(section_headers(alloc, 60, 154)?.as_slice())?;
+    file.extend_from_slice(&[0; 4])?;
+    file.extend_from_slice(section_headers(alloc, 38, 132)?.as_slice())?;
     Ok(file)
 }
 
