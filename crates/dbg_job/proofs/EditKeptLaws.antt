@@ -1,23 +1,26 @@
--- What an edited file keeps, by all options: its meaning, what is loaded of it, its sections, and that nothing is wrong with its build-id.
+-- What an edited file keeps, by all options: its meaning, what is loaded of it, its sections, that no text is left in it, and that nothing is wrong with its
+-- build-id.
 use Rattle.std.proofs.Common.{Bool, true, false, ◌≡◌, ℕ, ◌≤◌, List, length, refl, sym, ap, ◌∙◌, subst, arith}
 use Rattle.dw_base.specs.Layout.{output_limit}
 use Rattle.dw_base.specs.Paths.{PathMap}
-use Rattle.dw_meaning.specs.FileMeanings.{MeaningKept}
+use Rattle.dw_meaning.specs.FileMeanings.{MeaningKept, file_data}
+use Rattle.dw_meaning.specs.Leavings.{NoLeavings}
 use Rattle.dw_meaning.specs.Loaded.{LoadedKept}
 use Rattle.job_types.specs.Settings.{Settings}
 use Rattle.dbg_job.specs.EditedFiles.{IsEditOf, IsMapped}
 use Rattle.dbg_job.specs.NewIds.{IdFits, with_new_id}
 use Rattle.dbg_job.specs.SameSections.{SameSections}
-use Rattle.dbg_job.proofs.EditedLaws.{anew-finished, anew-fits, anew-loaded, anew-means, anew-sections, mapped-is, plain-finished}
+use Rattle.dbg_job.proofs.EditedLaws.{anew-finished, anew-fits, anew-leavings, anew-loaded, anew-means, anew-sections, mapped-is, plain-finished}
 use Rattle.dbg_job.proofs.FixedEndLaws.{output-sections}
 use Rattle.dbg_job.proofs.IdKeptLaws.{output-id}
-use Rattle.dbg_job.proofs.MappedKeptLaws.{mapped-loaded, mapped-means}
+use Rattle.dbg_job.proofs.MappedKeptLaws.{mapped-leavings, mapped-loaded, mapped-means}
 use Rattle.dbg_job.proofs.NewIdLaws.{new-long}
 use Rattle.dbg_job.proofs.OutputLaws.{output-small}
 
 pub record IsKept (m : PathMap) (b file : List ℕ) : Type 0 where
   pub meaning : MeaningKept m b file
   pub loaded : LoadedKept b file
+  pub leavings : NoLeavings (file_data file)
   pub sections : SameSections b file
   pub small : length file ≤ output_limit
   pub fits : IdFits b → IdFits file
@@ -26,6 +29,7 @@ mapped-kept : (m : PathMap) (b out : List ℕ) → IsMapped m b out → IsKept m
 mapped-kept m b out w = record {
   meaning = mapped-means m b out w;
   loaded = mapped-loaded m b out w;
+  leavings = mapped-leavings m b out w;
   sections = output-sections m b out w;
   small = output-small m b out w;
   fits = output-id m b out w;
@@ -38,6 +42,7 @@ anew-kept m seed b out file w fits kept is =
     record {
       meaning = anew-means m b out seed file w fits kept.meaning is long;
       loaded = anew-loaded m b out seed file w fits kept.meaning kept.loaded is long;
+      leavings = anew-leavings m b out seed file w fits kept.meaning kept.leavings is long;
       sections = anew-sections m b out seed file w fits kept.meaning is long;
       small = omega (arith, long, kept.small);
       fits = λ _. anew-fits m b out seed file w fits kept.meaning is long;

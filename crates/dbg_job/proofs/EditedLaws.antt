@@ -11,7 +11,8 @@ use Rattle.dw_base.specs.declared.fault.Refusal.{Refusal}
 use Rattle.dw_meaning.specs.EditRows.{EditFails, IsAccepted}
 use Rattle.dw_meaning.specs.EditRows.EditFails.{file}
 use Rattle.dw_meaning.specs.FileFails.FileFails.{elf as elf_row}
-use Rattle.dw_meaning.specs.FileMeanings.{IsOutput, MeaningKept}
+use Rattle.dw_meaning.specs.FileMeanings.{IsOutput, MeaningKept, file_data}
+use Rattle.dw_meaning.specs.Leavings.{NoLeavings}
 use Rattle.dw_meaning.specs.Loaded.{LoadedKept}
 use Rattle.dw_meaning.proofs.EditRowLaws.{edit-excludes}
 use Rattle.build_ident.specs.IdFails.{IdFails}
@@ -23,7 +24,7 @@ use Rattle.dbg_job.specs.NewIds.{IdFits, with_new_id}
 use Rattle.dbg_job.specs.SameSections.{SameSections}
 use Rattle.dbg_job.proofs.FixedEndLaws.{new-sections}
 use Rattle.dbg_job.proofs.IdKeptLaws.{output-id}
-use Rattle.dbg_job.proofs.NewIdLaws.{fits-new, loaded-kept, meaning-new, new-id}
+use Rattle.dbg_job.proofs.NewIdLaws.{fits-new, leavings-new, loaded-kept, meaning-new, new-id}
 use Rattle.dbg_job.proofs.OutputLaws.{output-small}
 
 -- ### The output
@@ -62,6 +63,11 @@ pub anew-loaded : (m : PathMap) (b out seed new : List ℕ) → IsMapped m b out
     → length new ≡ length out → LoadedKept b new
 anew-loaded m b out seed new w fits kept loaded is long =
     loaded-kept b out new (new-id m b out seed new w kept.new.reads.elf (output-id m b out w fits) is long) loaded
+
+pub anew-leavings : (m : PathMap) (b out seed new : List ℕ) → IsMapped m b out → IdFits b → MeaningKept m b out → NoLeavings (file_data out)
+    → new ≡ with_new_id seed out → length new ≡ length out → NoLeavings (file_data new)
+anew-leavings m b out seed new w fits kept none is long =
+    leavings-new out new (new-id m b out seed new w kept.new.reads.elf (output-id m b out w fits) is long) none
 
 pub anew-fits : (m : PathMap) (b out seed new : List ℕ) → IsMapped m b out → IdFits b → MeaningKept m b out → new ≡ with_new_id seed out → length new ≡ length out
     → IdFits new

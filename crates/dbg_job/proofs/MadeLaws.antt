@@ -50,7 +50,7 @@ split-kept m b name file names kept parts =
     let reads : ElfReads file = kept.meaning.new.reads.elf in
     let front = front-kept_by file name (stripped_file file name) reads refl in
     split-keeps m b name file (stripped_file file name) (debug_file file) (id_bytes file) names
-    (outcome.Split (stripped_file file name) (debug_file file) (id_bytes file) names) kept.meaning kept.loaded
+    (outcome.Split (stripped_file file name) (debug_file file) (id_bytes file) names) kept.meaning kept.loaded kept.leavings
     (means-back file name (debug_file file) (stripped_file file name) kept.small reads parts.bytes parts.unrefused refl refl)
     (reads-back file name (debug_file file) (stripped_file file name) kept.small reads parts.bytes parts.unrefused front refl refl)
     (paired-back file name (debug_file file) (stripped_file file name) kept.small reads parts.bytes parts.unrefused refl refl)
@@ -58,7 +58,7 @@ split-kept m b name file names kept parts =
 
 pub made-keeps : (s : Settings) (b name : List ℕ) (o : Outcome) → IsMade s b name o → OutcomeKeeps s.maps b name o
 made-keeps s b name _ (made_left why) = keeps_left
-made-keeps s b name _ (made_edited {file = file} taken free is sources) = let kept = edit-kept s b file is in keeps_edited kept.meaning kept.loaded
+made-keeps s b name _ (made_edited {file = file} taken free is sources) = let kept = edit-kept s b file is in keeps_edited kept.meaning kept.loaded kept.leavings
 made-keeps s b name _ (made_split {file = file} {names = names} taken loaded fits is parts sources) =
     split-kept s.maps b name file names (edit-kept s b file is) parts
 

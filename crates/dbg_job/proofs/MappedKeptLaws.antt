@@ -13,6 +13,7 @@ use Rattle.dw_base.specs.Paths.{PathMap}
 use Rattle.dw_base.proofs.ReadsAgainLaws.{reads_back}
 use Rattle.dw_meaning.specs.DataOutput.{Body, DataReads, new_bodies}
 use Rattle.dw_meaning.specs.FileMeanings.{MeaningKept, file_body, file_data, output_of}
+use Rattle.dw_meaning.specs.Leavings.{NoLeavings}
 use Rattle.dw_meaning.specs.Loaded.{LoadedKept}
 use Rattle.dw_meaning.specs.RelocatedBodies.{new_cells}
 use Rattle.dw_meaning.proofs.DataOneLaws.{data-one}
@@ -20,6 +21,7 @@ use Rattle.dw_meaning.proofs.FileBackLaws.{build_id-back}
 use Rattle.dw_meaning.proofs.FileKeptLaws.{CanMap, file-back}
 use Rattle.dw_meaning.proofs.FileMeaningLaws.{file-meaning}
 use Rattle.dw_meaning.proofs.LayoutRowLaws.{layout_excludes}
+use Rattle.dw_meaning.proofs.LeftNoneLaws.{no-leavings}
 use Rattle.dw_meaning.proofs.LoadedLaws.{loaded-kept, relocatable-kept}
 use Rattle.dw_rewrite.specs.Bodies.{held_bodies, moved_numbers}
 use Rattle.dw_rewrite.specs.Rewritten.{AllStand, Stands, bytes_given, bytes_or, is_of}
@@ -84,7 +86,11 @@ mapped-back m b out w =
 pub mapped-means : (m : PathMap) (b out : List ℕ) → IsMapped m b out → MeaningKept m b out
 mapped-means m b out w = file-meaning m b w.accepted.readings out (can-map m b out w) (mapped-back m b out w) (output-small m b out w)
 
--- and what is loaded of it
+-- no text is left in it that none of its fields names,
+pub mapped-leavings : (m : PathMap) (b out : List ℕ) → IsMapped m b out → NoLeavings (file_data out)
+mapped-leavings m b out w = no-leavings m b w.accepted.readings out (can-map m b out w) (mapped-back m b out w) (output-small m b out w)
+
+-- and what is loaded of it stays
 pub mapped-loaded : (m : PathMap) (b out : List ℕ) → IsMapped m b out → LoadedKept b out
 mapped-loaded m b out w = by_kind (is_loaded_kind b) refl
   where

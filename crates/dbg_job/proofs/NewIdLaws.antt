@@ -12,7 +12,8 @@ use Rattle.dw_base.specs.Notes.{Descriptor, id_in, zeroed}
 use Rattle.dw_base.specs.Paths.{PathMap}
 use Rattle.dw_base.specs.ViewData.{mapped}
 use Rattle.dw_base.specs.declared.records.Section.{Section}
-use Rattle.dw_meaning.specs.FileMeanings.{MeaningKept}
+use Rattle.dw_meaning.specs.FileMeanings.{MeaningKept, file_data}
+use Rattle.dw_meaning.specs.Leavings.{NoLeavings}
 use Rattle.dw_meaning.specs.Loaded.{LoadedKept}
 use Rattle.dw_meaning.proofs.DataOneLaws.{means-one}
 use Rattle.build_ident.specs.IdFails.{IsId, IsOwn, id_place, id_section, overlap, shares}
@@ -24,7 +25,7 @@ use Rattle.dbg_job.proofs.IdKeptLaws.{IdLies, IsLaid, id-lies, kind-same, laid-i
 use Rattle.dbg_job.proofs.IdPlaceLaws.{id-is, no-id}
 use Rattle.dbg_job.proofs.OtherIdLaws.{DiffersAt, IdApart, OtherId, Outside, class-new, count-new, phnum-new, phoff-new, section-new}
 use Rattle.dbg_job.proofs.OtherIdLoadedLaws.{loaded-new}
-use Rattle.dbg_job.proofs.OtherIdMeaningLaws.{id-new, means-same}
+use Rattle.dbg_job.proofs.OtherIdMeaningLaws.{data-same, id-new, means-same}
 use Rattle.dbg_job.specs.EditedFiles.{IsMapped}
 use Rattle.dbg_job.proofs.OutputLaws.{output-back}
 use Rattle.dbg_job.proofs.PlaceLaws.{before-headers}
@@ -202,6 +203,11 @@ meaning-new m b out new (other i d apart differs) kept = record {
 pub loaded-kept : (b out new : List ℕ) → NewId out new → LoadedKept b out → LoadedKept b new
 loaded-kept b out new (same is) kept = subst (LoadedKept b) (sym is) kept
 loaded-kept b out new (other i d apart differs) kept = record { same = loaded-new out new i d apart differs ∙ kept.same }
+
+-- no text is left in it that none of its fields names, where none was
+pub leavings-new : (out new : List ℕ) → NewId out new → NoLeavings (file_data out) → NoLeavings (file_data new)
+leavings-new out new (same is) none = subst (λ (b : List ℕ). NoLeavings (file_data b)) (sym is) none
+leavings-new out new (other i d apart differs) none = subst NoLeavings (sym (data-same out new i d apart differs)) none
 
 -- and nothing is wrong with it
 own-new : (b new : List ℕ) (i : ℕ) (d : Descriptor) → IdApart b i d → OtherId b new i d → IsOwn new i d

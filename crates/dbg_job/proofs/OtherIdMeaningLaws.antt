@@ -196,7 +196,7 @@ others-same b new i d w s =
 order-same : (b new : List ℕ) (i : ℕ) (d : Descriptor) → IdApart b i d → OtherId b new i d → (view_of new).order ≡ (view_of b).order
 order-same b new i d w s = view-order new ∙ order-new b new i d w s ∙ sym (view-order b)
 
-data-same : (b new : List ℕ) (i : ℕ) (d : Descriptor) → IdApart b i d → OtherId b new i d → file_data new ≡ file_data b
+pub data-same : (b new : List ℕ) (i : ℕ) (d : Descriptor) → IdApart b i d → OtherId b new i d → file_data new ≡ file_data b
 data-same b new i d w s = data-alike (view_of new) (view_of b) (order-same b new i d w s) (sections-alike b new i d w s)
 
 -- ### Its relocations can be read as they could

@@ -22,6 +22,7 @@ use Rattle.dw_base.specs.declared.fault.Refusal.{Refusal}
 use Rattle.dw_base.specs.declared.shared.Order.TheVariants.{Little}
 use Rattle.dw_base.proofs.ElfLaws.{ehdr_size-least, elf_excludes}
 use Rattle.dw_meaning.specs.FileMeanings.{MeaningKept, file_body, file_data}
+use Rattle.dw_meaning.specs.Leavings.{NoLeavings}
 use Rattle.dw_meaning.specs.Loaded.{LoadedKept}
 use Rattle.dw_meaning.specs.RelocationFails.{RelocationsReadIn}
 use Rattle.dw_view.specs.PairViews.{pair_view}
@@ -117,14 +118,16 @@ pair-relocations file debug stripped one reads =
     subst (λ (d : DebugData). RelocationsReadIn d (moving_sections (pair_view debug stripped))) (sym one.same_data)
     (subst (λ (ns : List ℕ). RelocationsReadIn (file_data file) ns) (sym one.same_moving) reads)
 
-pair-keeps : (m : PathMap) (b file debug stripped : List ℕ) → MeaningKept m b file → MeansAsOne file debug stripped → PairKeeps m b debug stripped
-pair-keeps m b file debug stripped kept one = record {
+pair-keeps : (m : PathMap) (b file debug stripped : List ℕ) → MeaningKept m b file → NoLeavings (file_data file) → MeansAsOne file debug stripped
+    → PairKeeps m b debug stripped
+pair-keeps m b file debug stripped kept none one = record {
   meaning = kept.meaning;
   old = kept.old;
   new = one.means (mapped m kept.meaning) kept.new;
   relocations = pair-relocations file debug stripped one kept.new.reads.relocations.on_data;
   old_one = kept.old_one;
   new_one = λ x is. one.one (mapped m kept.meaning) x kept.new is;
+  leavings = subst NoLeavings (sym one.same_data) none;
 }
 
 -- what was edited can be read for its sections
@@ -133,9 +136,9 @@ view-reads m b file kept = record { sections = kept.new.reads.names; relocations
 
 -- the two files of a pair
 pub split-keeps : (m : PathMap) (b name file stripped debug : List ℕ) (id : Option (List ℕ)) (names : List (List ℕ)) (o : Outcome) → MeaningKept m b file → LoadedKept b file
-    → MeansAsOne file debug stripped → ReadApart file debug stripped → (has_nul name ≡ false → IsPaired stripped debug name) → LoadedKept file stripped
+    → NoLeavings (file_data file) → MeansAsOne file debug stripped → ReadApart file debug stripped → (has_nul name ≡ false → IsPaired stripped debug name) → LoadedKept file stripped
     → o ≡ outcome.Split stripped debug id names → OutcomeKeeps m b name o
-split-keeps m b name file stripped debug id names o kept loaded one read paired here made =
+split-keeps m b name file stripped debug id names o kept loaded none one read paired here made =
     subst (OutcomeKeeps m b name) (sym made)
-    (keeps_split (pair-keeps m b file debug stripped kept one) (read.debug_reads (view-reads m b file kept)) (read.stripped_reads (view-reads m b file kept))
+    (keeps_split (pair-keeps m b file debug stripped kept none one) (read.debug_reads (view-reads m b file kept)) (read.stripped_reads (view-reads m b file kept))
     (record { same = here.same ∙ loaded.same }) paired)

@@ -11,6 +11,7 @@ use Rattle.dw_base.specs.ViewData.{Meaning, debug_data, mapped}
 use Rattle.dw_base.specs.ViewFails.{ViewReads}
 use Rattle.dw_base.specs.declared.fault.Refusal.{Refusal}
 use Rattle.dw_meaning.specs.FileMeanings.{Means, MeaningKept, file_data, ViewMeans}
+use Rattle.dw_meaning.specs.Leavings.{NoLeavings}
 use Rattle.dw_meaning.specs.Loaded.{LoadedKept}
 use Rattle.dw_meaning.specs.RelocationFails.{RelocationsReadIn}
 use Rattle.dw_sources.specs.Sources.{AreSources}
@@ -96,7 +97,7 @@ pub record IsIdBytes (id : List ℕ) : Type 0 where
 -- ### What is kept
 
 -- what a stripped file and its debug file mean together is what the file `b` means, with the map applied, and no relocation stands on their
--- debug data that may not. Each of the two means one thing: whatever can be read in it says the same.
+-- debug data that may not. Each of the two means one thing: whatever can be read in it says the same. No text is left in them that no field names.
 pub record PairKeeps (m : PathMap) (b debug stripped : List ℕ) : Type 0 where
   pub meaning : Meaning
   pub old : Means b meaning
@@ -104,11 +105,13 @@ pub record PairKeeps (m : PathMap) (b debug stripped : List ℕ) : Type 0 where
   pub relocations : RelocationsReadIn (debug_data (pair_view debug stripped)) (moving_sections (pair_view debug stripped))
   pub old_one : (x : Meaning) → Means b x → x ≡ meaning
   pub new_one : (x : Meaning) → ViewMeans (pair_view debug stripped) x → x ≡ mapped m meaning
+  pub leavings : NoLeavings (debug_data (pair_view debug stripped))
 
--- the outputs mean what the file means, with each source path mapped once, and what is loaded of it is as it was; two can be read each for its
+-- the outputs mean what the file means, with each source path mapped once, what is loaded of it is as it was, and no text is left; two can be read each for its
 -- sections, and the relocations of these, and are a pair by the name of the debug file, where that has no NUL
 pub data OutcomeKeeps (m : PathMap) (b name : List ℕ) : Outcome → Type 0 where
   left : {why : LeftWhy} → OutcomeKeeps m b name (outcome.Left why)
-  edited : {file : List ℕ} {names : List (List ℕ)} → MeaningKept m b file → LoadedKept b file → OutcomeKeeps m b name (outcome.Edited file names)
+  edited : {file : List ℕ} {names : List (List ℕ)} → MeaningKept m b file → LoadedKept b file → NoLeavings (file_data file)
+      → OutcomeKeeps m b name (outcome.Edited file names)
   split : {stripped debug : List ℕ} {id : Option (List ℕ)} {names : List (List ℕ)} → PairKeeps m b debug stripped → ViewReads debug → ViewReads stripped → LoadedKept b stripped
       → (has_nul name ≡ false → IsPaired stripped debug name) → OutcomeKeeps m b name (outcome.Split stripped debug id names)

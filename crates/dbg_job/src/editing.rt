@@ -9,7 +9,8 @@ ghost use Rattle.dw_base.specs.Refusals.{Blames};
 ghost use Rattle.dw_base.specs.declared.fault.Refusal.{Refusal};
 ghost use Rattle.dw_lines.specs.ViewTables.{TablesFound};
 ghost use Rattle.dw_meaning.specs.EditRows.{EditFails};
-ghost use Rattle.dw_meaning.specs.FileMeanings.{IsOutput, MeaningKept};
+ghost use Rattle.dw_meaning.specs.FileMeanings.{IsOutput, MeaningKept, file_data};
+ghost use Rattle.dw_meaning.specs.Leavings.{NoLeavings};
 ghost use Rattle.dw_meaning.specs.Loaded.{LoadedKept};
 ghost use Rattle.dbg_job.specs.EditedFiles.{EditedFails, IdRefuses, IsAnew, IsEditOf, IsEditable, IsEdited, IsMapped};
 ghost use Rattle.dbg_job.specs.SameSections.{SameSections};
@@ -31,6 +32,7 @@ fn mapped_file<'a>(alloc: Global, bytes: &'a [u8], maps: &Maps) -> Result<Rewrit
     ensures only { IfOk result (λ out. (o : List ℕ) → IsOutput maps.now bytes.now o → o ≡ out.file) }
     ensures meaning { IfOk result (λ out. MeaningKept maps.now bytes.now out.file) }
     ensures loaded { IfOk result (λ out. LoadedKept bytes.now out.file) }
+    ensures leavings { IfOk result (λ out. NoLeavings (file_data out.file)) }
     ensures tables { IfOk result (λ out. TablesFound (view_of bytes.now) out.tables.items) }
     ensures refused { IfErr result (Blames (EditFails maps.now bytes.now)) }
 {
@@ -65,6 +67,7 @@ fn mapped_anew<'a>(
     ensures edited { IfOk result (λ new. IsAnew maps.now seed.now bytes.now new.file) }
     ensures meaning { IfOk result (λ new. MeaningKept maps.now bytes.now new.file) }
     ensures loaded { IfOk result (λ new. LoadedKept bytes.now new.file) }
+    ensures leavings { IfOk result (λ new. NoLeavings (file_data new.file)) }
     ensures fits { IfOk result (λ new. IdFits new.file) }
     ensures sections { IfOk result (λ new. SameSections bytes.now new.file) }
     ensures tables { IfOk result (λ new. TablesFound (view_of bytes.now) new.tables.items) }
@@ -90,6 +93,7 @@ fn edited_plain<'a>(
     ensures only { IfOk result (λ out. (o : List ℕ) → IsEdited options.now bytes.now o → o ≡ out.file) }
     ensures meaning { IfOk result (λ out. MeaningKept options.now.maps bytes.now out.file) }
     ensures loaded { IfOk result (λ out. LoadedKept bytes.now out.file) }
+    ensures leavings { IfOk result (λ out. NoLeavings (file_data out.file)) }
     ensures small { IfOk result (λ out. length out.file ≤ output_limit) }
     ensures fits { IfOk result (λ out. IdFits bytes.now → IdFits out.file) }
     ensures sections { IfOk result (λ out. SameSections bytes.now out.file) }
@@ -116,6 +120,7 @@ fn edited_anew<'a>(
     ensures only { IfOk result (λ out. (o : List ℕ) → IsEdited options.now bytes.now o → o ≡ out.file) }
     ensures meaning { IfOk result (λ out. MeaningKept options.now.maps bytes.now out.file) }
     ensures loaded { IfOk result (λ out. LoadedKept bytes.now out.file) }
+    ensures leavings { IfOk result (λ out. NoLeavings (file_data out.file)) }
     ensures small { IfOk result (λ out. length out.file ≤ output_limit) }
     ensures fits { IfOk result (λ out. IdFits bytes.now → IdFits out.file) }
     ensures sections { IfOk result (λ out. SameSections bytes.now out.file) }
@@ -134,8 +139,8 @@ fn edited_anew<'a>(
 /// build-id gets none. Refused only by a condition that holds in the file, at its place: by those of a rewriting,
 /// and, where build-ids are made anew, as `BuildId` at (the section of the note, 0) where the note doesn't fit, its
 /// id has not 2 to 20 bytes, or these bytes belong to something else too. Where none holds, it is edited, or there
-/// was not enough memory. What it means is what the file means, with each source path mapped, and what is loaded of
-/// it is as it was. It isn't too long to be read, nothing is wrong with its build-id where nothing is wrong with that
+/// was not enough memory. What it means is what the file means, with each source path mapped, what is loaded of it is
+/// as it was, and no text is left in it that none of its fields names. It isn't too long to be read, nothing is wrong with its build-id where nothing is wrong with that
 /// of the file, and it has the file's sections, but for place, size and contents. Beside it stand the line tables of
 /// the file as it was, which were read for it. It comes in pieces, of which the file lends those that stay.
 pub fn edited<'a>(alloc: Global, bytes: &'a [u8], options: &Options) -> Result<Rewritten<'a>, Fault>
@@ -145,6 +150,7 @@ pub fn edited<'a>(alloc: Global, bytes: &'a [u8], options: &Options) -> Result<R
     ensures only { IfOk result (λ out. (o : List ℕ) → IsEdited options.now bytes.now o → o ≡ out.file) }
     ensures meaning { IfOk result (λ out. MeaningKept options.now.maps bytes.now out.file) }
     ensures loaded { IfOk result (λ out. LoadedKept bytes.now out.file) }
+    ensures leavings { IfOk result (λ out. NoLeavings (file_data out.file)) }
     ensures small { IfOk result (λ out. length out.file ≤ output_limit) }
     ensures fits { IfOk result (λ out. IdFits bytes.now → IdFits out.file) }
     ensures sections { IfOk result (λ out. SameSections bytes.now out.file) }

@@ -9,8 +9,9 @@ use Rattle.std.specs.declared.cmp.Ordering.{Ordering}
 use Rattle.std.specs.declared.cmp.Ordering.TheVariants.{Less, Equal, Greater}
 use Rattle.std.specs.FinMap as fin
 use Rattle.std.proofs.lemmas.Cmp.{eq_by_cmp_equiv}
+use Rattle.dw_meaning.specs.Leavings.{NoLeavings}
 use Rattle.dw_meaning.specs.Loaded.{LoadedKept}
-use Rattle.dw_meaning.specs.FileMeanings.{MeaningKept}
+use Rattle.dw_meaning.specs.FileMeanings.{MeaningKept, file_data}
 use Rattle.dw_base.specs.Paths.{PathMap}
 use Rattle.job_types.specs.Modes.{not_executable}
 use Rattle.job_types.specs.Settings.{Settings, most_file}
@@ -29,7 +30,7 @@ use Rattle.file_tree.specs.Trees.{TreeMap, found_of, is_below, stands_at, with_n
 use Rattle.dbg_words.specs.declared.command.Command.{Command}
 use Rattle.dbg_words.specs.declared.command.Command.TheVariants.{Edit, Split, Run, Show, Unstrip, Gather}
 use Rattle.dbg_run.proofs.BuiltLaws.{listed_apart, parts_apart}
-use Rattle.dbg_run.proofs.RootKeptLaws.{root_loads, root_means}
+use Rattle.dbg_run.proofs.RootKeptLaws.{root_leaves, root_loads, root_means}
 use Rattle.dbg_run.specs.Built.{built}
 use Rattle.dbg_run.specs.Edits.{EditDone, ListedDone, OfFiles, Keeps, list_mode}
 use Rattle.dbg_run.specs.Edits.Keeps.{both}
@@ -37,7 +38,7 @@ use Rattle.dbg_run.specs.Shows.{base_name}
 use Rattle.dbg_run.specs.Splits.{OfParts, Parts, SplitDone}
 use Rattle.dbg_run.specs.Unstrips.{OfRejoined, UnstripDone}
 use Rattle.dbg_run.specs.Splits.Parts.{all}
-use Rattle.dbg_run.specs.Runs.{Done, KeepsMeaning, KeepsLoaded}
+use Rattle.dbg_run.specs.Runs.{Done, KeepsMeaning, KeepsLoaded, LeavesNothing}
 
 -- a path that was put holds what was put there
 get_put : (t : TreeMap) (path : List ℕ) (n : Node) → fin.get (with_node path n t) path ≡ Some n
@@ -89,10 +90,13 @@ of_files P input output s limit old new d holds = record {
 }
 
 meaning_kept : (m : PathMap) (b out : List ℕ) → Keeps m b out → MeaningKept m b out
-meaning_kept m b out (both meaning loaded) = meaning
+meaning_kept m b out (both meaning loaded none) = meaning
 
 loaded_kept : (m : PathMap) (b out : List ℕ) → Keeps m b out → LoadedKept b out
-loaded_kept m b out (both meaning loaded) = loaded
+loaded_kept m b out (both meaning loaded none) = loaded
+
+none_left : (m : PathMap) (b out : List ℕ) → Keeps m b out → NoLeavings (file_data out)
+none_left m b out (both meaning loaded none) = none
 
 tied : (a b : List ℕ) → slice_cmp nat_cmp a b ≡ Equal → a ≡ b
 tied a b e = slice_cmp-IsAntisymmetric nat_cmp-IsAntisymmetric a b e
@@ -227,8 +231,23 @@ loaded_by (Some (Run root o jobs)) old new heard said apart d = root_loads root 
 loaded_by (Some (Gather root from dest jobs)) old new heard said apart d = tt
 loaded_by c old new heard said apart d = d
 
+leaves_by : (c : Option Command) (old new : Seen) (heard said : Heard) → OutputsApart c → Done c old new heard said → LeavesNothing c old new
+leaves_by (Some (Edit input output o None)) old new heard said apart d =
+    of_files (λ b file. NoLeavings (file_data file)) input output o o.max_file old new d.0 (none_left o.maps d.0.b d.0.out d.0.keeps)
+leaves_by (Some (Edit input output o (Some list))) old new heard said apart d =
+    of_listed (λ b file. NoLeavings (file_data file)) input output list o o.max_file old new apart d.0 (none_left o.maps d.0.b d.0.out d.0.keeps)
+leaves_by (Some (Split input stripped debug)) old new heard said apart d = tt
+leaves_by (Some (Show file debug)) old new heard said apart d = tt
+leaves_by (Some (Unstrip stripped debug output)) old new heard said apart d = tt
+leaves_by (Some (Run root o jobs)) old new heard said apart d = root_leaves root o old new heard said d
+leaves_by (Some (Gather root from dest jobs)) old new heard said apart d = tt
+leaves_by c old new heard said apart d = tt
+
 pub keeps_meaning : (words : List (List ℕ)) (old new : Seen) (heard said : Heard) → Done (built words) old new heard said → KeepsMeaning (built words) old new
 keeps_meaning words old new heard said d = meaning_by (built words) old new heard said (outputs_apart words (built words) refl) d
 
 pub keeps_loaded : (words : List (List ℕ)) (old new : Seen) (heard said : Heard) → Done (built words) old new heard said → KeepsLoaded (built words) old new
 keeps_loaded words old new heard said d = loaded_by (built words) old new heard said (outputs_apart words (built words) refl) d
+
+pub leaves_nothing : (words : List (List ℕ)) (old new : Seen) (heard said : Heard) → Done (built words) old new heard said → LeavesNothing (built words) old new
+leaves_nothing words old new heard said d = leaves_by (built words) old new heard said (outputs_apart words (built words) refl) d

@@ -6,7 +6,10 @@ use Rattle.std.proofs.lemmas.List.{length-map}
 use Rattle.std.proofs.lemmas.List.Elements.{All-get_or}
 use Rattle.dw_base.specs.Paths.{PathMap}
 use Rattle.dw_base.specs.Texts.{has_nul}
-use Rattle.dw_meaning.specs.FileMeanings.{MeaningKept}
+use Rattle.dw_view.specs.PairViews.{pair_view}
+use Rattle.dw_base.specs.ViewData.{debug_data}
+use Rattle.dw_meaning.specs.FileMeanings.{MeaningKept, file_data}
+use Rattle.dw_meaning.specs.Leavings.{NoLeavings}
 use Rattle.dw_meaning.specs.Loaded.{LoadedKept}
 use Rattle.dbg_job.specs.Outcomes.{OutcomeFails}
 use Rattle.file_tree.specs.declared.node.Node.{Node}
@@ -95,12 +98,12 @@ last-stands t root debug one two path n a b last false all = all 1 (lit< tt)
 module _ (m : PathMap) (start t : TreeMap) (root : List ℕ) (job : JobLine) (b : List ℕ) (mode : ℕ)
     (there : fin.get start (in_root root job.path) ≡ Some (node.File b mode)) where
   abbrev Holds : Type 0
-  Holds = JobHolds (λ b file. MeaningKept m b file × LoadedKept b file) (PartsMean m) start t root job
+  Holds = JobHolds (λ b file. MeaningKept m b file × (LoadedKept b file × NoLeavings (file_data file))) (PartsMean m) start t root job
 
-  one-holds : (file : List ℕ) → job.split ≡ false → MeaningKept m b file → LoadedKept b file → StandsAll t root (targets_of job) (node.File file mode ∷ []) → Holds
-  one-holds file split meaning loaded all =
+  one-holds : (file : List ℕ) → job.split ≡ false → MeaningKept m b file → LoadedKept b file → NoLeavings (file_data file) → StandsAll t root (targets_of job) (node.File file mode ∷ []) → Holds
+  one-holds file split meaning loaded none all =
       let here : StandsAll t root (job.path ∷ []) (node.File file mode ∷ []) = subst (λ (ps : List (List ℕ)). StandsAll t root ps (node.File file mode ∷ [])) (one-target job split) all in
-      edited split there (first-stands t root job.path [] (node.File file mode) [] here) (meaning, loaded)
+      edited split there (first-stands t root job.path [] (node.File file mode) [] here) (meaning, (loaded, none))
 
   two-hold : (pair : Pair) (links : Bool) → has_links job ≡ links → job.split ≡ true → IsKeptPair m b (debug_name job.path) pair
       → StandsAll t root (targets_of job) (pair_nodes job mode pair) → Holds
@@ -117,7 +120,7 @@ module _ (m : PathMap) (start t : TreeMap) (root : List ℕ) (job : JobLine) (b 
       (first-stands t root (debug_path job.path) _ (node.File pair.debug (not_executable mode)) _ noded) kept
 
   holds-by : (nodes : List Node) → NodesKeep m job b mode nodes → StandsAll t root (targets_of job) nodes → Holds
-  holds-by nodes (keeps_one {file = file} split meaning loaded) all = one-holds file split meaning loaded all
+  holds-by nodes (keeps_one {file = file} split meaning loaded none) all = one-holds file split meaning loaded none all
   holds-by nodes (keeps_two {pair = pair} split kept) all = two-hold pair (has_links job) refl split kept all
 
 -- ### Each job
@@ -127,7 +130,7 @@ module _ (start : TreeMap) (root : List ℕ) (o : Settings) where
   own-holds : (p : PlanData) (made : List (List Node)) (t : TreeMap) (j : ℕ) → IsClean start root (work_folder root)
       → IsRootPlan start root o (file_view o) (OutcomeFails o) p made
       → ((j k : ℕ) → IsStep (steps_of p) j k → fin.get t (in_root root (get_or (targets_of (job_at p.jobs j)) k [])) ≡ Some (get_or (nodes_at made j) k no_node))
-      → j < length p.jobs → JobHolds (λ b file. MeaningKept o.maps b file × LoadedKept b file) (PartsMean o.maps) start t root (job_at p.jobs j)
+      → j < length p.jobs → JobHolds (λ b file. MeaningKept o.maps b file × (LoadedKept b file × NoLeavings (file_data file))) (PartsMean o.maps) start t root (job_at p.jobs j)
   own-holds p made t j clean planned outputs l =
       let one : IsJobMade start root (file_view o) (job_at p.jobs j) (nodes_at made j) = planned.jobs.each j l in
       let keep : NodesKeep o.maps (job_at p.jobs j) one.bytes one.mode (nodes_at made j) =
@@ -141,10 +144,10 @@ module _ (start : TreeMap) (root : List ℕ) (o : Settings) where
   -- so by each plan, since all have the same jobs
   each-holds : (p : PlanData) (made : List (List Node)) (report : List ℕ) (t : TreeMap) (j : ℕ) → IsClean start root (work_folder root)
       → IsRootPlan start root o (file_view o) (OutcomeFails o) p made → IsFinalRun start root (work_folder root) o (file_view o) (OutcomeFails o) report t
-      → j < length p.jobs → JobHolds (λ b file. MeaningKept o.maps b file × LoadedKept b file) (PartsMean o.maps) start t root (job_at p.jobs j)
+      → j < length p.jobs → JobHolds (λ b file. MeaningKept o.maps b file × (LoadedKept b file × NoLeavings (file_data file))) (PartsMean o.maps) start t root (job_at p.jobs j)
   each-holds p made report t j clean planned f l =
       let same : p.jobs ≡ f.plan.jobs = (same-jobs start root (work_folder root) o (file_view o) (OutcomeFails o) p f.plan made f.made (file_makes o) planned f.planned).0 in
-      subst (λ (jobs : List JobLine). JobHolds (λ b file. MeaningKept o.maps b file × LoadedKept b file) (PartsMean o.maps) start t root (job_at jobs j)) (sym same)
+      subst (λ (jobs : List JobLine). JobHolds (λ b file. MeaningKept o.maps b file × (LoadedKept b file × NoLeavings (file_data file))) (PartsMean o.maps) start t root (job_at jobs j)) (sym same)
       (own-holds f.plan f.made t j clean f.planned f.ended.outputs (subst (λ (jobs : List JobLine). j < length jobs) same l))
 
 -- what holds of all jobs' files may be said in weaker words
@@ -155,7 +158,7 @@ weaker One Less Two Lesser start t root job one two (edited split there now hold
 weaker One Less Two Lesser start t root job one two (parted split there now beside holds) = parted split there now beside (two _ _ _ _ holds)
 
 root_keeps : (root : List ℕ) (o : Settings) (old new : Seen) (report : List ℕ) → HasReport root o old new report
-    → OfJobs (λ b file. MeaningKept o.maps b file × LoadedKept b file) (PartsMean o.maps) root o old new
+    → OfJobs (λ b file. MeaningKept o.maps b file × (LoadedKept b file × NoLeavings (file_data file))) (PartsMean o.maps) root o old new
 root_keeps root o old new report ended = record {
   is = λ start p made j under planned l.
       each-holds start root o p made report (map_now new.past) j under.clean planned (ended.is start under).final_is l;
@@ -165,7 +168,7 @@ pub root_means : (root : List ℕ) (o : Settings) (old new : Seen) (heard said :
     → OfJobs (MeaningKept o.maps) (PartsMean o.maps) root o old new
 root_means root o old new heard said d = record {
   is = λ start p made j under planned l.
-      weaker _ _ _ _ start (map_now new.past) root (job_at p.jobs j) (λ b file both. both.0) (λ b name stripped debug kept. kept)
+      weaker _ _ _ _ start (map_now new.past) root (job_at p.jobs j) (λ b file all. all.0) (λ b name stripped debug kept. kept)
       ((root_keeps root o old new d.report d.ended).is start p made j under planned l);
 }
 
@@ -173,6 +176,14 @@ pub root_loads : (root : List ℕ) (o : Settings) (old new : Seen) (heard said :
     → OfJobs LoadedKept (λ b name stripped debug. LoadedKept b stripped) root o old new
 root_loads root o old new heard said d = record {
   is = λ start p made j under planned l.
-      weaker _ _ _ _ start (map_now new.past) root (job_at p.jobs j) (λ b file both. both.1) (λ b name stripped debug kept. kept.loaded)
+      weaker _ _ _ _ start (map_now new.past) root (job_at p.jobs j) (λ b file all. all.1.0) (λ b name stripped debug kept. kept.loaded)
+      ((root_keeps root o old new d.report d.ended).is start p made j under planned l);
+}
+
+pub root_leaves : (root : List ℕ) (o : Settings) (old new : Seen) (heard said : Heard) → RootDone root o old new heard said
+    → OfJobs (λ b file. NoLeavings (file_data file)) (λ b name stripped debug. NoLeavings (debug_data (pair_view debug stripped))) root o old new
+root_leaves root o old new heard said d = record {
+  is = λ start p made j under planned l.
+      weaker _ _ _ _ start (map_now new.past) root (job_at p.jobs j) (λ b file all. all.1.1) (λ b name stripped debug kept. kept.meaning.leavings)
       ((root_keeps root o old new d.report d.ended).is start p made j under planned l);
 }

@@ -3,6 +3,7 @@
 use Rattle.std.specs.Prelude.{◌≡◌, ℕ, true, List, [], ◌∷◌, Option, Some, option_map}
 use Rattle.dw_base.specs.declared.fault.Refusal.{Refusal}
 use Rattle.dw_meaning.specs.FileMeanings.{file_data, MeaningKept}
+use Rattle.dw_meaning.specs.Leavings.{NoLeavings}
 use Rattle.dw_meaning.specs.Loaded.{LoadedKept}
 use Rattle.dw_base.specs.Paths.{PathMap}
 use Rattle.job_types.specs.Settings.{Settings}
@@ -26,9 +27,9 @@ pub data RewriteEnds (path : List ℕ) (s : Settings) (b : List ℕ) : End → T
   refused : {r : Refusal} → EditedFails s b r → RewriteEnds path s b (end.Refused path r)
   memory : RewriteEnds path s b end.NoMemory
 
--- the output keeps what the input means, with the map applied once to each source path, and what is loaded of it
+-- the output keeps what the input means, with the map applied once to each source path, and what is loaded of it; and no text is left in it
 pub data Keeps (m : PathMap) (b out : List ℕ) : Type 0 where
-  both : MeaningKept m b out → LoadedKept b out → Keeps m b out
+  both : MeaningKept m b out → LoadedKept b out → NoLeavings (file_data out) → Keeps m b out
 
 -- the edit is done: the input held a file that is taken, which no condition refuses, and a file might be put at the output; the output holds the
 -- input's edited file with its mode, and nothing else changed. The tree was looked at, then the output was put, and then all was stored

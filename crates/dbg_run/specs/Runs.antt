@@ -1,7 +1,10 @@
 -- Runs of the program: how each command ends, when it is done, which status is due, and what stays as it is.
 use Rattle.std.specs.Prelude.{◌≡◌, ◌⊎◌, ℕ, List, Option, Some, None, ⊤}
+use Rattle.dw_view.specs.PairViews.{pair_view}
+use Rattle.dw_base.specs.ViewData.{debug_data}
+use Rattle.dw_meaning.specs.Leavings.{NoLeavings}
 use Rattle.dw_meaning.specs.Loaded.{LoadedKept}
-use Rattle.dw_meaning.specs.FileMeanings.{MeaningKept}
+use Rattle.dw_meaning.specs.FileMeanings.{MeaningKept, file_data}
 use Rattle.dbg_split.specs.PairMeanings.{MeansAsOne}
 use Rattle.dbg_unstrip.specs.Rejoined.{IsRejoined}
 use Rattle.job_types.specs.Settings.{Settings, most_file}
@@ -81,6 +84,13 @@ KeepsLoaded (Some (Unstrip stripped debug output)) old new = OfRejoined LoadedKe
 KeepsLoaded (Some (Run root o jobs)) old new = OfJobs LoadedKept (λ b name stripped debug. LoadedKept b stripped) root o old new
 KeepsLoaded (Some (Gather root from dest jobs)) old new = ⊤
 KeepsLoaded c old new = ⊥
+
+-- no text is left in the output that none of its fields names, nor in the outputs of each job of a run
+abbrev pub LeavesNothing : Option Command → Seen → Seen → Type 0
+LeavesNothing (Some (Edit input output o list)) old new = OfFiles (λ b file. NoLeavings (file_data file)) input output (now_of old) (now_of new)
+LeavesNothing (Some (Run root o jobs)) old new =
+    OfJobs (λ b file. NoLeavings (file_data file)) (λ b name stripped debug. NoLeavings (debug_data (pair_view debug stripped))) root o old new
+LeavesNothing c old new = ⊤
 
 -- the status that is due, where the tree tells that it holds this map
 abbrev pub Due : Option Command → TreeMap → ℕ → Type 0

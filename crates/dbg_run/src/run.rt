@@ -11,7 +11,7 @@ ghost use Rattle.dbg_ends.specs.Told.{Ended};
 ghost use Rattle.dbg_words.specs.Words.{texts};
 ghost use Rattle.dbg_words.specs.declared.command.Command.TheVariants.{Edit};
 ghost use Rattle.dbg_run.specs.Built.{built};
-ghost use Rattle.dbg_run.specs.Runs.{Cuts, EditWays, Ends, EndsFinal, EndsMild, Done, Due, JoinsParts, LeavesPartway, MayWrite, RefusesPlanned, SettlesSeldom, Starts, StepsOfCore, Unopposed, KeepsLoaded, KeepsMeaning, KeptBy, OnlyOutputs, OutputFails};
+ghost use Rattle.dbg_run.specs.Runs.{Cuts, EditWays, Ends, EndsFinal, EndsMild, Done, Due, JoinsParts, LeavesPartway, MayWrite, RefusesPlanned, SettlesSeldom, Starts, StepsOfCore, Unopposed, KeepsLoaded, KeepsMeaning, KeptBy, LeavesNothing, OnlyOutputs, OutputFails};
 
 use crate::built::built;
 use crate::edit::{edit, edit_listed};
@@ -190,6 +190,9 @@ pub fn run_words<T: Tree, O: Sink, E: Sink>(
     // that stood there before the run, whichever start made them.
     ensures meaning { result ≡ 0 → KeepsMeaning (built (texts words.now)) (T.seen tree.old) (T.seen tree.new) }
     ensures loaded { result ≡ 0 → KeepsLoaded (built (texts words.now)) (T.seen tree.old) (T.seen tree.new) }
+
+    // No text is left in the output that none of its fields names; so it is of the outputs of each job of a run.
+    ensures leavings { result ≡ 0 → LeavesNothing (built (texts words.now)) (T.seen tree.old) (T.seen tree.new) }
 
     // A run may be stopped at any moment, and started again by the same words. Whatever the status, all that a stop may leave at any moment
     // since this start is partway through the run, so that the next start goes on from there. Where it comes to its end, the tree is

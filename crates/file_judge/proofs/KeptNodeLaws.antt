@@ -31,7 +31,7 @@ KeepsPair m b name (outcome.Left why) = ⊤
 
 keeps-pair : (m : PathMap) (b name : List ℕ) (o : Outcome) → has_nul name ≡ false → OutcomeKeeps m b name o → KeepsPair m b name o
 keeps-pair m b name _ bare keeps_left = tt
-keeps-pair m b name _ bare (keeps_edited meaning loaded) = tt
+keeps-pair m b name _ bare (keeps_edited meaning loaded none) = tt
 keeps-pair m b name _ bare (keeps_split meaning debug_reads stripped_reads loaded paired) = record {
   meaning = meaning;
   loaded = loaded;
@@ -51,7 +51,7 @@ pub nodes-keep : (s : Settings) (job : JobLine) (b : List ℕ) (mode : ℕ) (nod
 nodes-keep s job b mode nodes bare of = by_nodes nodes of.makes
   where
     by_nodes : (ns : List Node) → EditedNodes (file_view s) job of.file mode ns → NodesKeep s.maps job b mode ns
-    by_nodes _ (one_file plain) = let kept = edit-kept s b of.file of.edits in keeps_one plain kept.meaning kept.loaded
+    by_nodes _ (one_file plain) = let kept = edit-kept s b of.file of.edits in keeps_one plain kept.meaning kept.loaded kept.leavings
     by_nodes _ (two_files {pair = pair} split is) =
         keeps_two {pair = pair} split
         (subst (IsKeptPair s.maps b (debug_name job.path)) (sym is.is) (pair-kept s b (debug_name job.path) of.file (debug_name-bare job.path bare) of.edits is.splits))

@@ -1,9 +1,10 @@
 -- What the nodes of a job keep of the file that they are made of: what it means, with each source path mapped (DWARF 5, 2 to 7), and what is
--- loaded of it (gABI ch. 5 "Program Loading"). This project's profile.
+-- loaded of it (gABI ch. 5 "Program Loading"); and that no text is left in them that no field names. This project's profile.
 use Rattle.std.specs.Prelude.{◌≡◌, ℕ, true, false, List, [], ◌∷◌}
 use Rattle.dw_base.specs.Paths.{PathMap}
 use Rattle.dw_base.specs.ViewFails.{ViewReads}
-use Rattle.dw_meaning.specs.FileMeanings.{MeaningKept}
+use Rattle.dw_meaning.specs.FileMeanings.{MeaningKept, file_data}
+use Rattle.dw_meaning.specs.Leavings.{NoLeavings}
 use Rattle.dw_meaning.specs.Loaded.{LoadedKept}
 use Rattle.dw_view.specs.Pairs.{IsPaired}
 use Rattle.dbg_job.specs.Outcomes.{PairKeeps}
@@ -25,5 +26,6 @@ pub record IsKeptPair (m : PathMap) (b name : List ℕ) (pair : Pair) : Type 0 w
 
 -- the nodes that a job makes of a file keep it: those of an edited file, or of the pair of one
 pub data NodesKeep (m : PathMap) (job : JobLine) (b : List ℕ) (mode : ℕ) : List Node → Type 0 where
-  keeps_one : {file : List ℕ} → job.split ≡ false → MeaningKept m b file → LoadedKept b file → NodesKeep m job b mode (node.File file mode ∷ [])
+  keeps_one : {file : List ℕ} → job.split ≡ false → MeaningKept m b file → LoadedKept b file → NoLeavings (file_data file)
+      → NodesKeep m job b mode (node.File file mode ∷ [])
   keeps_two : {pair : Pair} → job.split ≡ true → IsKeptPair m b (debug_name job.path) pair → NodesKeep m job b mode (pair_nodes job mode pair)

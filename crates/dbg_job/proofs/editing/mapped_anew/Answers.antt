@@ -1,5 +1,5 @@
 -- A new build-id can be put in the output, and keeps what that means and what is loaded of it.
-use Rattle.dbg_job.proofs.EditedLaws.{anew-fits, anew-loaded, anew-means, anew-sections}
+use Rattle.dbg_job.proofs.EditedLaws.{anew-fits, anew-leavings, anew-loaded, anew-means, anew-sections}
 use Rattle.dbg_job.proofs.IdKeptLaws.{output-id}
 use Rattle.dbg_job.proofs.OutputLaws.{output-small}
 use Rattle.dbg_job.proofs.StayingIdLaws.{old-reads, output-keeps}
@@ -26,6 +26,11 @@ pub returns-clause-loaded : goal.returns-clause-loaded
 returns-clause-loaded c =
     anew-loaded c.args.maps.now c.args.bytes.now c.in_ok-out.out.file c.args.seed.now c.in_ok-new.new c.in_ok-out.ensures.mapped c.requires.fits
     c.in_ok-out.ensures.meaning c.in_ok-out.ensures.loaded c.in_ok-new.ensures.value c.in_ok-new.ensures.long
+
+pub returns-clause-leavings : goal.returns-clause-leavings
+returns-clause-leavings c =
+    anew-leavings c.args.maps.now c.args.bytes.now c.in_ok-out.out.file c.args.seed.now c.in_ok-new.new c.in_ok-out.ensures.mapped c.requires.fits
+    c.in_ok-out.ensures.meaning c.in_ok-out.ensures.leavings c.in_ok-new.ensures.value c.in_ok-new.ensures.long
 
 pub returns-clause-fits : goal.returns-clause-fits
 returns-clause-fits c =
