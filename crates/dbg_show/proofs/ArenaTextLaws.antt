@@ -7,19 +7,21 @@ use Rattle.dw_base.specs.Lebs.{uleb_at}
 use Rattle.dw_base.specs.declared.units.Scanned.{Scanned}
 use Rattle.dw_base.specs.declared.units.UnitHeader.{UnitHeader}
 use Rattle.entry_arena.specs.Shapes.{HasDepth, NodesSpell, Shape, below, depths_in, no_nodes, node, node_at, outermost, size}
-use Rattle.entry_arena.specs.UnitArenas.{AreOf, IsArenaOf, depths_of}
+use Rattle.entry_arena.specs.UnitArenas.{IsArenaOf, depths_of}
 use Rattle.entry_arena.specs.Walks.{GivesNoStep, GivesStep, WalkState}
 use Rattle.entry_arena.specs.declared.arena.EntryNode.{EntryNode}
 use Rattle.entry_arena.specs.declared.walking.WalkStep.{WalkStep}
 use Rattle.entry_arena.proofs.ShapeThereLaws.{length-depths}
 use Rattle.file_tree.specs.Heard.{Heard}
-use Rattle.dbg_show.specs.ArenaTexts.{node_entry}
+use Rattle.dw_attrs.specs.ArenaEntries.{node_entry}
 use Rattle.dbg_show.specs.Printing.{Cut, Printed}
-use Rattle.dbg_show.specs.ShownUnits.{ShownUnit, entries_text, entry_coded, entry_listed, entry_text, unit_entries}
+use Rattle.dw_attrs.specs.UnitValues.{SaidUnit, unit_entries}
+use Rattle.dbg_show.specs.ShownUnits.{entries_text, entry_coded, entry_listed, entry_text}
 use Rattle.dbg_show.specs.declared.show_err.ShowErr.{ShowErr}
-use Rattle.dbg_show.proofs.EntryListLaws.{entries-are}
+use Rattle.dw_attrs.proofs.EntryListLaws.{entries-are}
 use Rattle.dbg_show.proofs.PrintingLaws.{cut-more, cut-then, printed-then}
 use Rattle.dbg_show.proofs.ShownLaws.{entries-append, entries-one, nothing-printed}
+use Rattle.dw_attrs.proofs.ArenaCountLaws.{count-of, offset-of}
 
 -- each node of a shape stands as deep as its depths say
 depth-at : (at : ℕ → EntryNode) (p : Option ℕ) (k d : ℕ) (s : Shape) → NodesSpell at p k s → ((j : ℕ) → (at j).parent ≡ p → HasDepth at j d) → (i : ℕ) → i < size s
@@ -70,18 +72,6 @@ depth-of [] k x lt = absurd (omega (arith, lt))
 depth-of (e ∷ es) zero x lt = refl
 depth-of (e ∷ es) (suc k) x lt = depth-of es k x (omega (arith, lt))
 
-pub offset-of : (table : List Abbreviation) (ns : List EntryNode) (es : List Scanned) (k : ℕ) (x : Scanned) → AreOf table ns es → k < length ns → (node_at ns k).offset ≡ (get_or es k x).offset
-offset-of table [] es k x are lt = absurd (omega (arith, lt))
-offset-of table (n ∷ ns) [] k x are lt = absurd are
-offset-of table (n ∷ ns) (e ∷ es) zero x are lt = are.0
-offset-of table (n ∷ ns) (e ∷ es) (suc k) x are lt = offset-of table ns es k x are.3 (omega (arith, lt))
-
-pub count-of : (table : List Abbreviation) (ns : List EntryNode) (es : List Scanned) → AreOf table ns es → length ns ≡ length es
-count-of table [] [] are = refl
-count-of table [] (e ∷ es) are = absurd are
-count-of table (n ∷ ns) [] are = absurd are
-count-of table (n ∷ ns) (e ∷ es) are = ap suc (count-of table ns es are.3)
-
 entry-depth : (h : UnitHeader) (table : List Abbreviation) (bytes : List ℕ) (nodes : List EntryNode) (a : IsArenaOf h table bytes nodes) (k d : ℕ) (x : Scanned) → k < length nodes
     → HasDepth (node_at nodes) k d → d ≡ (get_or a.entries k x).depth
 entry-depth h table bytes nodes a k d x lt has =
@@ -94,7 +84,7 @@ entry-depth h table bytes nodes a k d x lt has =
     ∙ ap (λ (ds : List ℕ). get_or ds k 0) a.depths ∙ depth-of a.entries k x (omega (arith, lt, count))
 
 -- an entry's text goes by its place and its depth
-entry-same : (u : ShownUnit) (n : ℕ) (e f : Scanned) → e.offset ≡ f.offset → e.depth ≡ f.depth → entry_text u n e ≡ entry_text u n f
+entry-same : (u : SaidUnit) (n : ℕ) (e f : Scanned) → e.offset ≡ f.offset → e.depth ≡ f.depth → entry_text u n e ≡ entry_text u n f
 unfolding entry_text
 entry-same u n e f place depth = ap (λ (p : ℕ). entry_coded u n e (uleb_at u.bytes p)) place ∙ by_code (uleb_at u.bytes f.offset)
   where
@@ -108,11 +98,11 @@ entry-same u n e f place depth = ap (λ (p : ℕ). entry_coded u n e (uleb_at u.
         ap (λ (p : ℕ). entry_listed u n e (p + size) (abbreviation_of u.table code)) place ∙ by_entry (f.offset + size) (abbreviation_of u.table code)
 
 -- where a walk stands: the entries of the numbers that it gave were printed
-pub record WalkGoes (u : ShownUnit) (nodes : List EntryNode) (items : List Scanned) (s : WalkState) (before : List ℕ) (old new : Heard) (behind : List ℕ) : Type 0 where
+pub record WalkGoes (u : SaidUnit) (nodes : List EntryNode) (items : List Scanned) (s : WalkState) (before : List ℕ) (old new : Heard) (behind : List ℕ) : Type 0 where
   pub nodes_are : s.nodes ≡ nodes
   pub printed : Printed (entries_text u 0 (take s.number items)) before old new behind
 
-pub walk-start : (u : ShownUnit) (nodes : List EntryNode) (items : List Scanned) (s : WalkState) (before : List ℕ) (h : Heard) → s ≡ record { nodes = nodes; number = 0 }
+pub walk-start : (u : SaidUnit) (nodes : List EntryNode) (items : List Scanned) (s : WalkState) (before : List ℕ) (h : Heard) → s ≡ record { nodes = nodes; number = 0 }
     → WalkGoes u nodes items s before h h before
 walk-start u nodes items s before h is =
     subst (λ (t : WalkState). WalkGoes u nodes items t before h h before) (sym is) (record {
@@ -125,7 +115,7 @@ walk-start u nodes items s before h is =
     none (x ∷ xs) = refl
 
 -- a step within the nodes
-pub step-inside : (u : ShownUnit) (nodes : List EntryNode) (items : List Scanned) (s t : WalkState) (x : WalkStep) (before behind : List ℕ) (old new : Heard)
+pub step-inside : (u : SaidUnit) (nodes : List EntryNode) (items : List Scanned) (s t : WalkState) (x : WalkStep) (before behind : List ℕ) (old new : Heard)
     → WalkGoes u nodes items s before old new behind → GivesStep s x t → x.number < length nodes
 step-inside u nodes items s t x before behind old new goes g =
     let inside = g.inside in
@@ -134,7 +124,7 @@ step-inside u nodes items s t x before behind old new goes g =
     omega (arith, inside, number, same)
 
 -- the text of the next entry is that of the node
-step-text : (u : ShownUnit) (nodes : List EntryNode) (a : IsArenaOf u.header u.table u.bytes nodes) (s t : WalkState) (x : WalkStep) (before behind : List ℕ) (old new : Heard)
+step-text : (u : SaidUnit) (nodes : List EntryNode) (a : IsArenaOf u.header u.table u.bytes nodes) (s t : WalkState) (x : WalkStep) (before behind : List ℕ) (old new : Heard)
     → WalkGoes u nodes a.entries s before old new behind → GivesStep s x t
     → entries_text u 0 (take (s.number + 1) a.entries) ≡ entries_text u 0 (take s.number a.entries) ++ entry_text u x.number (node_entry (node_at nodes x.number) x.depth)
 step-text u nodes a s t x before behind old new goes g =
@@ -155,7 +145,7 @@ step-text u nodes a s t x before behind old new goes g =
     (offset-of u.table nodes a.entries x.number (node_entry (node_at nodes x.number) x.depth) a.nodes_are lt)
     (entry-depth u.header u.table u.bytes nodes a x.number x.depth (node_entry (node_at nodes x.number) x.depth) lt depth)))
 
-pub walk-more : (u : ShownUnit) (nodes : List EntryNode) (a : IsArenaOf u.header u.table u.bytes nodes) (s t : WalkState) (x : WalkStep) (n : EntryNode)
+pub walk-more : (u : SaidUnit) (nodes : List EntryNode) (a : IsArenaOf u.header u.table u.bytes nodes) (s t : WalkState) (x : WalkStep) (n : EntryNode)
     (before between behind : List ℕ) (old mid new : Heard) → WalkGoes u nodes a.entries s before old mid between → GivesStep s x t → n ≡ node_at nodes x.number
     → Printed (entry_text u x.number (node_entry n x.depth)) between mid new behind → WalkGoes u nodes a.entries t before old new behind
 walk-more u nodes a s t x n before between behind old mid new goes g is p =
@@ -166,7 +156,7 @@ walk-more u nodes a s t x n before between behind old mid new goes g is p =
           (subst (λ (m : EntryNode). Printed (entry_text u x.number (node_entry m x.depth)) between mid new behind) is p));
     })
 
-pub walk-over : (u : ShownUnit) (nodes : List EntryNode) (a : IsArenaOf u.header u.table u.bytes nodes) (s t : WalkState) (before behind : List ℕ) (old new : Heard)
+pub walk-over : (u : SaidUnit) (nodes : List EntryNode) (a : IsArenaOf u.header u.table u.bytes nodes) (s t : WalkState) (before behind : List ℕ) (old new : Heard)
     → WalkGoes u nodes a.entries s before old new behind → GivesNoStep s t → length u.bytes ≤ u.header.end
     → Printed (entries_text u 0 (unit_entries u.header u.table u.bytes)) before old new behind
 walk-over u nodes a s t before behind old new goes g short =
@@ -177,7 +167,7 @@ walk-over u nodes a s t before behind old new goes g short =
     subst (λ (xs : List Scanned). Printed (entries_text u 0 xs) before old new behind)
     (whole ∙ sym (entries-are u.header u.table u.bytes a.entries short a.are)) goes.printed
 
-pub walk-cut : (u : ShownUnit) (nodes : List EntryNode) (a : IsArenaOf u.header u.table u.bytes nodes) (s t : WalkState) (x : WalkStep) (n : EntryNode) (before between : List ℕ)
+pub walk-cut : (u : SaidUnit) (nodes : List EntryNode) (a : IsArenaOf u.header u.table u.bytes nodes) (s t : WalkState) (x : WalkStep) (n : EntryNode) (before between : List ℕ)
     (old mid new : Heard) (err : ShowErr) → WalkGoes u nodes a.entries s before old mid between → GivesStep s x t → n ≡ node_at nodes x.number → length u.bytes ≤ u.header.end
     → Cut (between ++ entry_text u x.number (node_entry n x.depth)) mid new err → Cut (before ++ entries_text u 0 (unit_entries u.header u.table u.bytes)) old new err
 walk-cut u nodes a s t x n before between old mid new err goes g is short c =
@@ -196,11 +186,11 @@ walk-cut u nodes a s t x n before between old mid new err goes g is short c =
     (subst (λ (m : EntryNode). Cut (between ++ entry_text u x.number (node_entry m x.depth)) mid new err) is c)))
 
 -- the same, of the entries of the unit
-unit-same : (u : ShownUnit) (nodes : List EntryNode) (a : IsArenaOf u.header u.table u.bytes nodes) → length u.bytes ≤ u.header.end
+unit-same : (u : SaidUnit) (nodes : List EntryNode) (a : IsArenaOf u.header u.table u.bytes nodes) → length u.bytes ≤ u.header.end
     → unit_entries u.header u.table u.bytes ≡ a.entries
 unit-same u nodes a short = entries-are u.header u.table u.bytes a.entries short a.are
 
-pub go-more : (u : ShownUnit) (nodes : List EntryNode) (s t : WalkState) (x : WalkStep) (n : EntryNode) (before between behind : List ℕ) (old mid new : Heard)
+pub go-more : (u : SaidUnit) (nodes : List EntryNode) (s t : WalkState) (x : WalkStep) (n : EntryNode) (before between behind : List ℕ) (old mid new : Heard)
     → IsArenaOf u.header u.table u.bytes nodes → length u.bytes ≤ u.header.end → WalkGoes u nodes (unit_entries u.header u.table u.bytes) s before old mid between
     → GivesStep s x t → n ≡ node_at nodes x.number → Printed (entry_text u x.number (node_entry n x.depth)) between mid new behind
     → WalkGoes u nodes (unit_entries u.header u.table u.bytes) t before old new behind
@@ -209,13 +199,13 @@ go-more u nodes s t x n before between behind old mid new a short goes g is p =
     (walk-more u nodes a s t x n before between behind old mid new
     (subst (λ (es : List Scanned). WalkGoes u nodes es s before old mid between) (unit-same u nodes a short) goes) g is p)
 
-pub go-over : (u : ShownUnit) (nodes : List EntryNode) (s t : WalkState) (before behind : List ℕ) (old new : Heard)
+pub go-over : (u : SaidUnit) (nodes : List EntryNode) (s t : WalkState) (before behind : List ℕ) (old new : Heard)
     → IsArenaOf u.header u.table u.bytes nodes → length u.bytes ≤ u.header.end → WalkGoes u nodes (unit_entries u.header u.table u.bytes) s before old new behind → GivesNoStep s t
     → Printed (entries_text u 0 (unit_entries u.header u.table u.bytes)) before old new behind
 go-over u nodes s t before behind old new a short goes g =
     walk-over u nodes a s t before behind old new (subst (λ (es : List Scanned). WalkGoes u nodes es s before old new behind) (unit-same u nodes a short) goes) g short
 
-pub go-cut : (u : ShownUnit) (nodes : List EntryNode) (s t : WalkState) (x : WalkStep) (n : EntryNode) (before between : List ℕ) (old mid new : Heard) (err : ShowErr)
+pub go-cut : (u : SaidUnit) (nodes : List EntryNode) (s t : WalkState) (x : WalkStep) (n : EntryNode) (before between : List ℕ) (old mid new : Heard) (err : ShowErr)
     → IsArenaOf u.header u.table u.bytes nodes → length u.bytes ≤ u.header.end → WalkGoes u nodes (unit_entries u.header u.table u.bytes) s before old mid between
     → GivesStep s x t → n ≡ node_at nodes x.number → Cut (between ++ entry_text u x.number (node_entry n x.depth)) mid new err
     → Cut (before ++ entries_text u 0 (unit_entries u.header u.table u.bytes)) old new err

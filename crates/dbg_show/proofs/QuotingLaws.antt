@@ -2,7 +2,7 @@
 use Rattle.std.proofs.Common.{◌≡◌, ℕ, ◌+◌, ◌<◌, List, [], ◌∷◌, ◌++◌, take, length, get_or, true, false, refl, sym, ap, ◌∙◌, arith, append_assoc, append-nil}
 use Rattle.std.proofs.lemmas.List.{take_more, take_all}
 use Rattle.dbg_show.specs.Quoting.{byte_text, bytes_text, escaped, is_plain}
-use Rattle.dbg_show.proofs.AppendLaws.{two, three}
+use Rattle.dbg_show.proofs.AppendLaws.{three}
 
 pub plain-byte : (b : ℕ) → is_plain b ≡ true → byte_text b ≡ b ∷ []
 unfolding byte_text

@@ -37,15 +37,15 @@ use Rattle.dw_base.specs.StringOffsetFails.{ContributionsFail}
 use Rattle.dw_rows.specs.TableRows.{IsTableIn, table_rows}
 use Rattle.dw_rows.proofs.TableLaws.{rows-meant}
 use Rattle.file_tree.specs.Heard.{Heard, grown}
-use Rattle.dbg_show.specs.EntryIndexes.{IsIndexed}
+use Rattle.dw_attrs.specs.EntryIndexes.{IsIndexed}
 use Rattle.dbg_show.specs.LineTexts.{entry_file, entry_path, dirs_text, files_text, first_number, lines_text, table_line, table_text, tables_text}
 use Rattle.dbg_show.specs.Printing.{Printed, Cut, Goes}
 use Rattle.dbg_show.specs.ReadTables.{AllIn, read_text, all_read, TablesMeant, ViewTables}
 use Rattle.dbg_show.specs.Rows.{rows_text}
 use Rattle.dbg_show.specs.ShownMacros.{AreMacros, MacroSource, MacrosFit, units_shown}
-use Rattle.dbg_show.specs.ShownUnits.{EntryIndex, UnitSource}
+use Rattle.dw_attrs.specs.UnitValues.{EntryIndex, UnitSource}
 use Rattle.dw_units.specs.UnitLists.{ListsAll}
-use Rattle.dbg_show.specs.UnitReads.{AllCanRead, SourceFits}
+use Rattle.dw_attrs.specs.UnitReads.{AllCanRead, SourceFits}
 use Rattle.dbg_show.specs.UnitTexts.{units_text}
 use Rattle.dbg_show.specs.ViewSources.{AreSources, all_printed}
 use Rattle.dw_units.specs.declared.listed_unit.ListedUnit.{ListedUnit}

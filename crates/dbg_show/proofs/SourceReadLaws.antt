@@ -23,19 +23,21 @@ use Rattle.dw_find.specs.ReadData.{DataRead}
 use Rattle.dw_find.specs.ViewLines.{starts_of}
 use Rattle.dw_find.proofs.StartLaws.{starts-rise}
 use Rattle.dw_find.proofs.TableStartLaws.{read-starts}
-use Rattle.dbg_show.specs.EntryIndexes.{IsIndexed}
+use Rattle.dw_attrs.specs.EntryIndexes.{IsIndexed}
 use Rattle.dbg_show.specs.ShownMacros.{AreMacros}
-use Rattle.dbg_show.specs.ShownUnits.{UnitSource, all_shown, first_macro}
+use Rattle.dw_attrs.specs.UnitValues.{UnitSource, first_macro}
+use Rattle.dbg_show.specs.ShownUnits.{all_shown}
 use Rattle.dw_units.specs.UnitLists.{ListsAll}
-use Rattle.dbg_show.specs.UnitReads.{AllCanRead, EachReads, SourceFits}
+use Rattle.dw_attrs.specs.UnitReads.{AllCanRead, EachReads, SourceFits}
 use Rattle.dbg_show.specs.UnitTexts.{units_text}
 use Rattle.dw_units.specs.declared.listed_unit.ListedUnit.{ListedUnit}
-use Rattle.dbg_show.proofs.AllRunLaws.{EachUnit, all-hold}
-use Rattle.dbg_show.proofs.IndexListLaws.{stand-apart}
-use Rattle.dbg_show.proofs.InfoLaws.{info-is}
+use Rattle.dw_attrs.proofs.AllRunLaws.{EachUnit, all-hold}
+use Rattle.dw_attrs.proofs.IndexListLaws.{stand-apart}
+use Rattle.dw_attrs.proofs.InfoLaws.{info-is}
 use Rattle.dbg_show.proofs.MacroShownLaws.{keys-risen, units-numbered}
-use Rattle.dbg_show.proofs.UnitFactLaws.{unit-reads}
-use Rattle.dbg_show.proofs.UnitTextLaws.{SourceIs, units-shown}
+use Rattle.dw_attrs.proofs.UnitFactLaws.{unit-reads}
+use Rattle.dw_attrs.proofs.AroundLaws.{SourceIs}
+use Rattle.dbg_show.proofs.UnitTextLaws.{units-shown}
 use Rattle.dw_base.proofs.ViewCellLaws.{offsets-located}
 use Rattle.dw_base.specs.declared.debug_sections.DebugSection.TheVariants.{Info, StrOffsets, Macro}
 

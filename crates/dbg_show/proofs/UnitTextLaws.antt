@@ -1,59 +1,35 @@
 -- The text of all units, found by places, is that of what they mean.
 use Rattle.std.proofs.Common.{Bool, true, false, ◌≡◌, ℕ, ◌+◌, ◌==◌, List, [], ◌∷◌, ◌++◌, Option, Some, refl, sym, ap, ◌∙◌, subst, if◌then◌else◌}
-use Rattle.dw_base.specs.AbbreviationTables.{Abbreviation}
-use Rattle.dw_base.specs.Cells.{Cell, bytes_of}
-use Rattle.dw_base.specs.DebugData.{Around, DataReadings, ReadsAll, around_of, info_numbers, started_unit}
+use Rattle.dw_base.specs.Cells.{Cell}
+use Rattle.dw_base.specs.DebugData.{Around, DataReadings, around_of}
 use Rattle.dw_base.specs.EntryValues.{bytes_up_to}
 use Rattle.dw_base.specs.FileViews.{View}
 use Rattle.dw_base.specs.LineMeanings.{item_at}
-use Rattle.dw_base.specs.LineReadings.{table_starts}
-use Rattle.dw_base.specs.MacroReadings.{first_macros, macro_starts}
-use Rattle.dw_base.specs.OffsetPieces.{ReadsOffsets}
 use Rattle.dw_base.specs.Readings.{Readings}
-use Rattle.dw_base.specs.SlotTexts.{contributions_in, slot_texts}
-use Rattle.dw_base.specs.TextIndexes.{all_bases, base_of, slot_by, slot_of}
+use Rattle.dw_base.specs.TextIndexes.{all_bases}
 use Rattle.dw_base.specs.UnitHeaders.{UnitSection}
 use Rattle.dw_base.specs.UnitMeanings.{head_mark, units_of}
-use Rattle.dw_base.specs.ValueMeanings.{first_of, indexed}
-use Rattle.dw_base.specs.ViewData.{debug_data, located, unit_sections}
-use Rattle.dw_base.specs.declared.debug_sections.DebugSection.TheVariants.{Info, Str, StrOffsets, Macro}
-use Rattle.dw_base.specs.declared.string_offsets.Contribution.{Contribution}
-use Rattle.dw_base.specs.declared.units.Scanned.{Scanned}
+use Rattle.dw_base.specs.ViewData.{debug_data, unit_sections}
+use Rattle.dw_base.specs.declared.debug_sections.DebugSection.TheVariants.{Info}
 use Rattle.dw_base.specs.declared.units.UnitHeader.{UnitHeader}
-use Rattle.dw_base.proofs.ViewCellLaws.{lines-located}
 use Rattle.dw_entries.specs.ViewUnits.{numbered, unit_section_at}
 use Rattle.dw_entries.proofs.HasUnitLaws.{numbered-section}
-use Rattle.dw_find.specs.UnitPlaces.{unit_number}
 use Rattle.dbg_show.specs.PieceTexts.{all_said, mark_said}
-use Rattle.dbg_show.specs.ShownUnits.{UnitSource, all_shown, entries_text, first_base, first_macro, header_line, index_shown, info_section, one_shown, shown_unit, tabled_text, unit_bytes, unit_entries}
-use Rattle.dw_units.specs.UnitLists.{ListsAll}
-use Rattle.dbg_show.specs.UnitTexts.{kind_name, section_name, unit_line, units_text, value_said}
+use Rattle.dw_attrs.specs.UnitValues.{UnitSource, said_unit, unit_bytes, unit_entries}
+use Rattle.dbg_show.specs.ShownUnits.{all_shown, entries_text, header_line, one_shown, tabled_text}
+use Rattle.dbg_show.specs.UnitTexts.{kind_name, section_name, unit_line, units_text}
 use Rattle.dw_units.specs.declared.listed_unit.ListedUnit.{ListedUnit}
-use Rattle.dbg_show.proofs.AllRunLaws.{Among, EachOut, all_out, all_pieces, all-said-out}
-use Rattle.dbg_show.proofs.BaseOwnLaws.{HasBase, all-based, in-shown, offsets_in, tabled_base}
+use Rattle.dw_attrs.proofs.AllRunLaws.{Among, EachOut, all_out, all_pieces, all-said-out}
+use Rattle.dw_attrs.proofs.BaseOwnLaws.{HasBase, all-based, in-shown, offsets_in}
 use Rattle.dbg_show.proofs.ForestTextLaws.{all-said}
-use Rattle.dbg_show.proofs.PlaceRunLaws.{entries-shown}
-use Rattle.dbg_show.proofs.SlotTextLaws.{OffsetsAre, index-text}
 use Rattle.dbg_show.proofs.TextSaysLaws.{entries-texts, entry_says, said-all, says_of, unit-says, value_says}
-use Rattle.dbg_show.proofs.UnitFactLaws.{UnitFacts, unit-facts}
-use Rattle.dbg_show.proofs.ValueTextLaws.{IsAround}
-use Rattle.dbg_show.proofs.ViewPartLaws.{offsets-none, offsets-there}
+use Rattle.dw_attrs.proofs.UnitFactLaws.{UnitFacts, unit-facts}
 use Rattle.dw_meaning.proofs.RunLaws.{PieceRun}
 use Rattle.dw_meaning.proofs.ScanSectionLaws.{before, in_headed}
 use Rattle.dw_meaning.proofs.WholeUnitLaws.{unit-run}
 use Rattle.dw_meaning.specs.PieceRuns.{all_of, entries_out, any_piece}
 use Rattle.dw_base.specs.UnitPieces.{unit_grammar}
-
--- what units are printed from is what was read
-pub record SourceIs (g : UnitSource) (r : DataReadings) : Type 0 where
-  pub listed : ListsAll (debug_data g.view) g.tables ((debug_data g.view).found Info) g.units
-  pub units : ReadsAll (debug_data g.view).base 0 ((debug_data g.view).found Info) r.units
-  pub offsets : ReadsOffsets (debug_data g.view).base.order ((debug_data g.view).found StrOffsets).contents r.offsets
-  pub contributions : contributions_in (debug_data g.view).base.order r.offsets ≡ g.contributions
-  pub starts : table_starts r.lines ≡ g.starts
-  pub macros : (section place : ℕ) → started_unit 0 (macro_starts r.macros) section place ≡ unit_number g.keys section place
-  pub first : first_macros ((debug_data g.view).found Macro) ≡ first_macro g.view
-  pub info : first_of (info_numbers ((debug_data g.view).found Info)) ≡ info_section g.view
+use Rattle.dw_attrs.proofs.AroundLaws.{SourceIs, shown-around}
 
 -- the name of a section
 name-there : (zs : List UnitSection) (n : ℕ) (z : UnitSection) → numbered zs n ≡ Some z → section_name zs n ≡ kind_name z.kind
@@ -72,42 +48,6 @@ own-name : (v : View) (z : UnitSection) → Among ((debug_data v).found Info) z 
 unfolding debug_data
 own-name v z a = name-there (unit_sections v) z.number z (numbered-section v a.front a.back z a.is)
 
--- the cells of string offsets
-offsets-are : (v : View) → OffsetsAre v ((debug_data v).found StrOffsets).contents
-offsets-are v = record { there = λ i e. offsets-there v i e; none = λ e. offsets-none v e }
-
--- the text of an index in a unit
-slots-said : (g : UnitSource) (r : DataReadings) (unit : ℕ) (base : Option ℕ) (path : Bool) (index : ℕ) (p : List Cell) → SourceIs g r
-    → base_of (all_bases (debug_data g.view).base.order (offsets_in g.view) r.units) unit ≡ base
-    → value_said (indexed ((around_of (debug_data g.view) r).stands StrOffsets) path (slot_of ((around_of (debug_data g.view) r).lasting.kept StrOffsets) unit index) p)
-    ≡ index_shown g.view g.contributions base index (bytes_of p)
-unfolding debug_data slot_of
-slots-said g r unit base path index p i is =
-    ap (λ (b : Option ℕ). value_said (indexed (slot_texts g.view.order (located g.view Str) r.offsets) path (slot_by b (contributions_in g.view.order r.offsets) index) p)) is
-    ∙ index-text g.view ((debug_data g.view).found StrOffsets).contents r.offsets base index path p i.offsets (offsets-are g.view)
-    ∙ ap (λ (list : List Contribution). index_shown g.view list base index (bytes_of p)) i.contributions
-
-shown-around : (g : UnitSource) (r : DataReadings) (z : UnitSection) (h : UnitHeader) (u : ListedUnit) (table : List Abbreviation) (items : List Scanned) (unit : ℕ)
-    → SourceIs g r → UnitFacts g.view g.tables z h u table items → HasBase g.view g.tables (all_bases (debug_data g.view).base.order (offsets_in g.view) r.units) unit u
-    → IsAround (around_of (debug_data g.view) r) (shown_unit g unit h table)
-unfolding debug_data
-shown-around g r z h u table items unit i f q = record {
-  order_is = f.order_is;
-  str_is = refl;
-  line_str_is = refl;
-  lines_is = lines-located g.view;
-  starts_are = i.starts;
-  macros_are = i.macros;
-  first_is = i.first;
-  info_is = i.info;
-  infos_are = refl;
-  entries_are = λ section place offset. entries-shown g r.units section place offset i.listed i.units;
-  slots_are = λ path index p.
-      slots-said g r unit (first_base g.view h table (unit_bytes g.view h) (unit_entries h table (unit_bytes g.view h))) path index p i
-      (q ∙ ap (tabled_base g.view u.header) f.table_is
-      ∙ ap (λ (x : UnitHeader). first_base g.view x table (unit_bytes g.view x) (unit_entries x table (unit_bytes g.view x))) f.header_is);
-}
-
 -- a unit's text is what its pieces say
 text-out : (g : UnitSource) (r : DataReadings) → SourceIs g r
     → EachOut (debug_data g.view) g.tables (HasBase g.view g.tables (all_bases (debug_data g.view).base.order (offsets_in g.view) r.units))
@@ -117,25 +57,25 @@ text-out g r i z among start unit h u table items q is t entries listed =
     let head : header_line g.view unit u.header ≡ header_line g.view unit h = ap (header_line g.view unit) f.header_is in
     let named : section_name ((debug_data g.view).found Info) z.number ≡ kind_name (unit_section_at g.view h.section).kind =
     own-name g.view z among ∙ ap (λ (y : UnitSection). kind_name y.kind) (sym f.at_is) in
-    let own : tabled_text g unit u.header (item_at g.tables u.table) ≡ entries_text (shown_unit g unit h table) 0 (unit_entries h table (unit_bytes g.view h)) =
+    let own : tabled_text g unit u.header (item_at g.tables u.table) ≡ entries_text (said_unit g unit h table) 0 (unit_entries h table (unit_bytes g.view h)) =
     ap (tabled_text g unit u.header) f.table_is
-    ∙ ap (λ (x : UnitHeader). entries_text (shown_unit g unit x table) 0 (unit_entries x table (unit_bytes g.view x))) f.header_is in
-    let said : entries_out entry_says (value_says (shown_unit g unit h table)) h.params table (bytes_up_to z h) 0 items
-    ≡ entries_text (shown_unit g unit h table) 0 (unit_entries h table (unit_bytes g.view h)) =
-    ap (entries_out entry_says (value_says (shown_unit g unit h table)) h.params table (bytes_up_to z h) 0) (sym f.items_are)
-    ∙ ap (λ (bs : List ℕ). entries_out entry_says (value_says (shown_unit g unit h table)) h.params table bs 0 (unit_entries h table bs)) f.bytes_are
-    ∙ entries-texts (shown_unit g unit h table) 0 (unit_entries h table (unit_bytes g.view h)) in
-    let whole : header_line g.view unit h ++ entries_out entry_says (value_says (shown_unit g unit h table)) h.params table (bytes_up_to z h) 0 items ≡ one_shown g unit u =
+    ∙ ap (λ (x : UnitHeader). entries_text (said_unit g unit x table) 0 (unit_entries x table (unit_bytes g.view x))) f.header_is in
+    let said : entries_out entry_says (value_says (said_unit g unit h table)) h.params table (bytes_up_to z h) 0 items
+    ≡ entries_text (said_unit g unit h table) 0 (unit_entries h table (unit_bytes g.view h)) =
+    ap (entries_out entry_says (value_says (said_unit g unit h table)) h.params table (bytes_up_to z h) 0) (sym f.items_are)
+    ∙ ap (λ (bs : List ℕ). entries_out entry_says (value_says (said_unit g unit h table)) h.params table bs 0 (unit_entries h table bs)) f.bytes_are
+    ∙ entries-texts (said_unit g unit h table) 0 (unit_entries h table (unit_bytes g.view h)) in
+    let whole : header_line g.view unit h ++ entries_out entry_says (value_says (said_unit g unit h table)) h.params table (bytes_up_to z h) 0 items ≡ one_shown g unit u =
     ap (λ (x : List ℕ). header_line g.view unit h ++ x) (said ∙ sym own) ∙ ap (λ (x : List ℕ). x ++ tabled_text g unit u.header (item_at g.tables u.table)) (sym head) in
     subst (λ (x : List ℕ). PieceRun (unit_grammar (debug_data g.view).base) any_piece (says_of ((debug_data g.view).found Info) z.number (around_of (debug_data g.view) r)) z.contents (before z start unit)
     (before z h.end (unit + 1)) start h.end x) whole
-    (unit-run any_piece (says_of ((debug_data g.view).found Info) z.number (around_of (debug_data g.view) r)) entry_says (value_says (shown_unit g unit h table)) (debug_data g.view).base z start unit h
+    (unit-run any_piece (says_of ((debug_data g.view).found Info) z.number (around_of (debug_data g.view) r)) entry_says (value_says (said_unit g unit h table)) (debug_data g.view).base z start unit h
     table items (header_line g.view unit h) is t entries
     (λ (p : List Cell) (rest : List Cell) split found.
     ap (λ (o : Option UnitHeader). mark_said ((debug_data g.view).found Info) z.number (before z start unit) (head_mark (around_of (debug_data g.view) r).lasting o)) found
     ∙ ap (λ (name : List ℕ). unit_line unit name h.params.version h.params.width h.params.address h.kind h.signature) named)
     (λ k. tt)
-    (unit-says ((debug_data g.view).found Info) z.number (around_of (debug_data g.view) r) (shown_unit g unit h table) z.contents (in_headed (debug_data g.view).base z start unit h)
+    (unit-says ((debug_data g.view).found Info) z.number (around_of (debug_data g.view) r) (said_unit g unit h table) z.contents (in_headed (debug_data g.view).base z start unit h)
     (shown-around g r z h u table items unit i f q) (in-shown g z start unit h u table items f)))
 
 -- all units

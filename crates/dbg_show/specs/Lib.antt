@@ -5,9 +5,6 @@ pub mod TableLists
 pub mod UnitTexts
 pub mod PieceTexts
 pub mod ShownUnits
-pub mod ArenaTexts
-pub mod EntryIndexes
-pub mod UnitReads
 pub mod MacroTexts
 pub mod ShownMacros
 pub mod Printing

@@ -17,6 +17,7 @@ use Rattle.dw_base.specs.declared.values.ValueClass.TheVariants.{Address, Number
 use Rattle.dw_base.specs.declared.view_fields.Field.{Field}
 use Rattle.dw_base.specs.declared.view_fields.Field.TheVariants.{Num, Into, Sym}
 use Rattle.dbg_show.specs.Quoting.{quoted}
+use Rattle.dw_attrs.specs.Sayings.{Saying, said_text, said_entry, said_stray, said_lines, said_macros, said_bytes, said_signed, said_field}
 
 -- a byte by two lower-case hexadecimal digits, and bytes one after another
 unfoldable pub byte_digits : ℕ → List ℕ
@@ -88,6 +89,17 @@ abbrev pub field_said : ValueClass → Field → List ℕ
 field_said class (Num n) = class_said class n
 field_said class (Into section n) = class_said class n
 field_said class (Sym symbol kind addend) = relocation_said symbol kind addend
+
+-- what is said, as it is printed
+abbrev pub saying_text : Saying → List ℕ
+saying_text (said_text text) = text_said text
+saying_text (said_entry unit number) = entry_said unit number
+saying_text (said_stray offset) = stray_said offset
+saying_text (said_lines number) = lines_said number
+saying_text (said_macros number) = macros_said number
+saying_text (said_bytes bytes) = bytes_said bytes
+saying_text (said_signed number) = signed_said number
+saying_text (said_field class field) = field_said class field
 
 -- what a value means, as it is said
 abbrev pub value_said : ValueMeaning → List ℕ

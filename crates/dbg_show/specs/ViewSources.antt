@@ -10,8 +10,9 @@ use Rattle.dw_find.specs.MacroSections.{SectionUnits}
 use Rattle.dbg_show.specs.MacroTexts.{macros_text}
 use Rattle.dbg_show.specs.ReadTables.{ViewTables, all_read}
 use Rattle.dbg_show.specs.ShownMacros.{MacroSource, MacrosFit, units_shown}
-use Rattle.dbg_show.specs.ShownUnits.{UnitSource, all_shown}
-use Rattle.dbg_show.specs.UnitReads.{SourceFits}
+use Rattle.dw_attrs.specs.UnitValues.{UnitSource}
+use Rattle.dbg_show.specs.ShownUnits.{all_shown}
+use Rattle.dw_attrs.specs.UnitReads.{SourceFits}
 use Rattle.dbg_show.specs.UnitTexts.{units_text}
 use Rattle.dw_base.specs.declared.debug_sections.DebugSection.TheVariants.{Info}
 

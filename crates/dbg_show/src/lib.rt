@@ -18,8 +18,6 @@
 //! ```
 #![tactic(auto)]
 
-mod entry_index;
-mod fields;
 mod lists;
 mod macro_lines;
 mod macro_source;
@@ -32,9 +30,7 @@ mod show_err;
 mod source;
 mod table_lines;
 mod table_texts;
-mod unit_bases;
 mod unit_lines;
-mod unit_source;
 mod unit_texts;
 mod value_texts;
 mod view_text;

@@ -3,23 +3,19 @@
 //! Read first: `specs/ShownMacros.antt`.
 
 ghost use Rattle.std.specs.Prelude.{◌≡◌, ◌<◌, length, IfOk, OnOk};
-ghost use Rattle.dw_base.specs.DebugData.{start_number};
 ghost use Rattle.dw_find.specs.LineStarts.{Rises};
 ghost use Rattle.dw_find.specs.MacroNames.{AllUnitsIn, AreUnitsIn};
-ghost use Rattle.dw_find.specs.UnitPlaces.{AllBelow, all_units, place_key, unit_keys, unit_number};
+ghost use Rattle.dw_find.specs.UnitPlaces.{AllBelow, all_units, unit_keys, unit_number};
 ghost use Rattle.dw_macros.specs.EventMeanings.{text_bytes};
 ghost use Rattle.dbg_show.specs.ShownMacros.{AreMacros, MacroSource as MacroSourceOf, line_number};
 
-use crate::source::part;
+use dw_attrs::{part, started, unit_number};
 use dw_base::TextPlace;
-use dw_find::{MacroSection, place_key, start_key, start_number};
+use dw_find::{MacroSection, start_key};
 use dw_macros::MacroUnit;
 use dw_view::View;
 use std::alloc::{AllocError, Global};
 use std::marker::Model;
-
-/// No section has as many bytes.
-const PLACE_LIMIT: u64 = 0x1_0000_0000;
 
 /// All macro units of a view, and for each where it starts, as one number.
 #[derive(Drop)]
@@ -90,17 +86,6 @@ pub(crate) fn macro_list(
     Ok(MacroList { units, keys })
 }
 
-/// The number of a line table that starts at a place.
-fn started(starts: &[u64], start: u64) -> Option<u64>
-    requires rises { Rises starts.now }
-    ensures { result ≡ start_number 0 starts.now start }
-{
-    match start_number(starts, start) {
-        Some(number) => Some(number as u64),
-        None => None,
-    }
-}
-
 /// The number of the line table of a unit.
 fn line_number(starts: &[u64], line: Option<u64>) -> Option<u64>
     requires rises { Rises starts.now }
@@ -110,17 +95,6 @@ fn line_number(starts: &[u64], line: Option<u64>) -> Option<u64>
         Some(start) => started(starts, start),
         None => None,
     }
-}
-
-/// The number of the unit that starts at a place of a section.
-pub(crate) fn unit_number(keys: &[u64], section: u32, place: u64) -> Option<u64>
-    requires rises { Rises keys.now }
-    ensures { result ≡ unit_number keys.now section place }
-{
-    if place < PLACE_LIMIT {
-        return started(keys, place_key(section, place));
-    }
-    None
 }
 
 impl<'v, 'f, 'u> MacroSource<'v, 'f, 'u> {

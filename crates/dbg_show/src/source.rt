@@ -1,12 +1,13 @@
 //! What the texts of line tables stand in.
 
-ghost use Rattle.std.specs.Prelude.{◌≡◌, length, take, drop, true};
+ghost use Rattle.std.specs.Prelude.{◌≡◌, true};
 ghost use Rattle.dw_base.specs.LineMeanings.{place_text, section_in};
 ghost use Rattle.dw_base.specs.DebugData.{line_source};
 ghost use Rattle.dw_base.specs.LineSources.{LineSource as LineSourceOf};
 ghost use Rattle.dw_base.specs.ViewData.{debug_data};
 ghost use Rattle.dw_base.specs.declared.debug_sections.DebugSection.TheVariants.{Line};
 
+use dw_attrs::part;
 use dw_base::{DebugSection, Order, TextPlace};
 use dw_view::View;
 use std::marker::Model;
@@ -28,18 +29,6 @@ impl<'v> Model for LineSource<'v> {
     ghost Value = { LineSourceOf };
 
     ghost view = { λ s. record { order = s.order; number = s.number; is_read = true; bytes = s.bytes.now; cells = ((debug_data s.view.now).found Line).contents; str = record { number = s.str_number; bytes = s.str_bytes.now }; line_str = record { number = s.line_str_number; bytes = s.line_str_bytes.now } } };
-}
-
-/// So many bytes at a place, as far as they are there.
-#[tactic(auto, using(crate::proofs::ListLaws::part_laws))]
-pub(crate) fn part(bytes: &[u8], at: u64, len: u64) -> &[u8]
-    ensures bytes { result.now ≡ take len (drop at bytes.now) }
-{
-    let from = at.min(bytes.len() as u64);
-    let (_, rest) = bytes.split_at(from as usize);
-    let to = len.min(rest.len() as u64);
-    let (text, _) = rest.split_at(to as usize);
-    text
 }
 
 /// What the texts of the line tables of a view stand in.

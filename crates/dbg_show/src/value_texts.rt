@@ -1,11 +1,12 @@
 //! What values say.
 
-ghost use Rattle.std.specs.Prelude.{◌≡◌, ◌++◌, OnOk, codes};
+ghost use Rattle.std.specs.Prelude.{◌≡◌, ◌++◌, OnOk};
 ghost use Rattle.std.specs.String.{string_bytes};
-ghost use Rattle.dbg_show.specs.UnitTexts.{address_said, byte_digits, bytes_digits, bytes_said, class_said, entry_said, field_said, flag_said, index_said, lines_said, macros_said, number_said, offset_said, relocation_said, signature_said, signed_said, stray_said, text_said};
-ghost use Rattle.dbg_show.specs.ShownUnits.{reference_said};
+ghost use Rattle.dbg_show.specs.UnitTexts.{address_said, byte_digits, bytes_digits, bytes_said, class_said, entry_said, field_said, flag_said, index_said, lines_said, macros_said, number_said, offset_said, relocation_said, saying_text, signature_said, signed_said, stray_said, text_said};
+ghost use Rattle.dw_attrs.specs.Sayings.{saying};
 
 use crate::quoting::push_quoted;
+use dw_attrs::Said;
 use dw_base::{Field, ValueClass};
 use std::alloc::AllocError;
 
@@ -42,7 +43,7 @@ fn push_digits(text: &mut String, bytes: &[u8]) -> Result<(), AllocError>
 
 /// Appends bytes.
 #[tactic(auto, using(crate::proofs::RowTextLaws::piece_laws))]
-pub(crate) fn push_bytes(text: &mut String, bytes: &[u8]) -> Result<(), AllocError>
+fn push_bytes(text: &mut String, bytes: &[u8]) -> Result<(), AllocError>
     ensures text { OnOk result (string_bytes text.new ≡ string_bytes text.old ++ bytes_said bytes.now) }
 {
     text.push_str("bytes ")?;
@@ -63,20 +64,6 @@ pub(crate) fn push_stray(text: &mut String, offset: u64) -> Result<(), AllocErro
     ensures text { OnOk result (string_bytes text.new ≡ string_bytes text.old ++ stray_said offset) }
 {
     write!(text, "stray {offset}")
-}
-
-/// Appends the entry that an offset names, or the offset where it names none.
-pub(crate) fn push_reference(
-    text: &mut String,
-    entry: Option<(u64, u64)>,
-    offset: u64,
-) -> Result<(), AllocError>
-    ensures text { OnOk result (string_bytes text.new ≡ string_bytes text.old ++ reference_said entry offset) }
-{
-    match entry {
-        Some((unit, number)) => push_entry(text, unit, number),
-        None => push_stray(text, offset),
-    }
 }
 
 /// Appends the number of a line table.
@@ -156,12 +143,7 @@ fn push_offset(text: &mut String, number: u64) -> Result<(), AllocError>
 
 /// Appends symbol, type and addend of a relocation.
 #[tactic(auto, unfolding(crate::specs::UnitTexts::relocation_said))]
-pub(crate) fn push_relocation(
-    text: &mut String,
-    symbol: u32,
-    kind: u32,
-    addend: i64,
-) -> Result<(), AllocError>
+fn push_relocation(text: &mut String, symbol: u32, kind: u32, addend: i64) -> Result<(), AllocError>
     ensures text { OnOk result (string_bytes text.new ≡ string_bytes text.old ++ relocation_said symbol kind addend) }
 {
     write!(text, "symbol {symbol} type {kind} addend {addend}")
@@ -206,5 +188,21 @@ pub(crate) fn push_field(
             kind,
             addend,
         } => push_relocation(text, symbol, kind, addend),
+    }
+}
+
+/// Appends what is said of a value.
+pub(crate) fn push_said(text: &mut String, said: &Said) -> Result<(), AllocError>
+    ensures text { OnOk result (string_bytes text.new ≡ string_bytes text.old ++ saying_text (saying said.now)) }
+{
+    match said {
+        Said::Text(bytes) => push_text(text, *bytes),
+        Said::Entry { unit, number } => push_entry(text, *unit, *number),
+        Said::Stray(offset) => push_stray(text, *offset),
+        Said::Lines(number) => push_lines(text, *number),
+        Said::Macros(number) => push_macros(text, *number),
+        Said::Bytes(bytes) => push_bytes(text, *bytes),
+        Said::Signed(number) => push_signed(text, *number),
+        Said::Field { class, field } => push_field(text, *class, *field),
     }
 }

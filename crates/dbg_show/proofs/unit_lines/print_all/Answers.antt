@@ -6,7 +6,7 @@ use Rattle.dbg_show.specs.ShownUnits.{all_shown}
 use Rattle.dw_units.specs.declared.listed_unit.ListedUnit.{ListedUnit}
 use Rattle.dbg_show.proofs.ShownLaws.{units-over, units-cut}
 use Rattle.dw_units.proofs.UnitTableLaws.{unit-listed}
-use Rattle.dbg_show.proofs.SourceLaws.{each-reads}
+use Rattle.dw_attrs.proofs.SourceLaws.{each-reads}
 use Rattle.dbg_show.proofs.unit_lines.print_all.Goals as goal
 
 pub returns-in-Err-clause-cut : goal.returns-in-Err-clause-cut

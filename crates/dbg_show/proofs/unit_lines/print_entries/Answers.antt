@@ -1,10 +1,10 @@
 -- Printed whole, or cut at one.
 use Rattle.std.proofs.Common.{◌∙◌}
 use Rattle.std.specs.String.{string_bytes}
-use Rattle.dbg_show.proofs.ArenaNameLaws.{own-arena}
+use Rattle.dw_attrs.proofs.ArenaNameLaws.{own-arena}
 use Rattle.dbg_show.proofs.ArenaTextLaws.{go-cut, go-more, go-over, step-inside, walk-start}
-use Rattle.dbg_show.proofs.EntryPrintLaws.{own-short}
-use Rattle.dbg_show.specs.ShownUnits.{unit_entries}
+use Rattle.dw_attrs.proofs.SaidUnitLaws.{own-short}
+use Rattle.dw_attrs.specs.UnitValues.{unit_entries}
 use Rattle.dbg_show.proofs.unit_lines.print_entries.Goals as goal
 
 pub returns-in-Err-clause-cut : goal.returns-in-Err-clause-cut

@@ -1,5 +1,5 @@
 use Rattle.std.specs.String.{string_bytes}
-use Rattle.dbg_show.specs.ShownUnits.{unit_entries}
+use Rattle.dw_attrs.specs.UnitValues.{unit_entries}
 use Rattle.dbg_show.proofs.ArenaTextLaws.{WalkGoes}
 use Rattle.dbg_show.proofs.unit_lines.print_entries.Given as goal
 

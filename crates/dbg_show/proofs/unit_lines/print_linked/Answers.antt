@@ -2,8 +2,8 @@
 use Rattle.std.proofs.Common.{ap, subst, sym}
 use Rattle.dw_base.specs.FileViews.{View}
 use Rattle.entry_arena.specs.UnitArenas.{IsArenaOf}
-use Rattle.dbg_show.specs.ShownUnits.{UnitSource, unit_bytes}
-use Rattle.dbg_show.specs.UnitReads.{CanRead}
+use Rattle.dw_attrs.specs.UnitValues.{UnitSource, unit_bytes}
+use Rattle.dw_attrs.specs.UnitReads.{CanRead}
 use Rattle.dbg_show.proofs.unit_lines.print_linked.Goals as goal
 
 pub unit_arena-requires : goal.unit_arena-requires

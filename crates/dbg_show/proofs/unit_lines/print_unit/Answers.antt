@@ -5,9 +5,10 @@ use Rattle.std.specs.String.{string_bytes}
 use Rattle.dw_base.specs.FileViews.{View}
 use Rattle.dw_entries.specs.ViewUnits.{IsUnitSection}
 use Rattle.dw_base.specs.LineMeanings.{item_at}
-use Rattle.dbg_show.specs.ShownUnits.{UnitSource, header_line, tabled_text}
+use Rattle.dw_attrs.specs.UnitValues.{UnitSource}
+use Rattle.dbg_show.specs.ShownUnits.{header_line, tabled_text}
 use Rattle.dbg_show.proofs.CallLaws.{cut-both, cut-front, printed-both}
-use Rattle.dbg_show.proofs.EntryPrintLaws.{each-there}
+use Rattle.dw_attrs.proofs.SaidUnitLaws.{each-there}
 use Rattle.dbg_show.proofs.unit_lines.print_unit.Goals as goal
 
 pub print_head-requires : goal.print_head-requires

@@ -1,5 +1,5 @@
 -- A unit that can be read isn't refused.
-use Rattle.dbg_show.proofs.EntryPassLaws.{unit-passes}
+use Rattle.dw_attrs.proofs.EntryPassLaws.{unit-passes}
 use Rattle.dbg_show.proofs.unit_lines.unit_arena.Goals as goal
 
 pub unreachable-requires : goal.unreachable-requires

@@ -1,0 +1,5 @@
+pub mod Sayings
+pub mod UnitValues
+pub mod ArenaEntries
+pub mod EntryIndexes
+pub mod UnitReads
