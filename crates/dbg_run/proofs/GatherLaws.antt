@@ -9,6 +9,7 @@ use Rattle.file_tree.specs.Trees.{TreeMap}
 use Rattle.work_texts.specs.declared.journal_err.JournalErr.{JournalErr}
 use Rattle.work_texts.specs.declared.journal_err.JournalErr.TheVariants as journal
 use Rattle.work_journal.specs.Blames.{is_mild_run}
+use Rattle.root_run.specs.Cores.{LeadsTo}
 use Rattle.root_run.specs.declared.run_err.RunErr.TheVariants as run
 use Rattle.src_gather.specs.declared.gather_err.GatherErr.{GatherErr}
 use Rattle.src_gather.specs.declared.gather_err.GatherErr.TheVariants as err
@@ -19,6 +20,7 @@ use Rattle.src_gather.specs.Errors.{AreSameEnds, AreSameTexts, is_mild}
 use Rattle.src_gather.specs.Errors.{AreSameEnds as same, AreSameTexts as alike, IsStopped as stop}
 use Rattle.src_gather.specs.GatherEnds.{GatherEnds}
 use Rattle.src_gather.specs.GatherEnds.{GatherEnds as ways}
+use Rattle.src_gather.specs.Makers.{gather_folder}
 use Rattle.src_gather.specs.Partways.{IsDone, IsUnderway}
 use Rattle.src_gather.proofs.EndsLaws.{of_journal, plan-plain}
 use Rattle.src_gather.proofs.ExactLaws.{due-no-report, dues-one}
@@ -31,7 +33,7 @@ use Rattle.dbg_run.specs.Gathers.{GatherCut, GatherDone, GatherDue, GatherMild, 
 use Rattle.dbg_run.specs.Gathers.{GatherCut as cuts, GatherDue as due, GatherWays as ends}
 use Rattle.dbg_run.specs.Roots.{IsReported, ReportEnds, journal_end}
 use Rattle.dbg_run.specs.Roots.{IsReported as reported, ReportEnds as reports}
-use Rattle.dbg_run.proofs.RootLaws.{blamed_kept, end_status, is_unreported, none_of, not_reported, not_unplanned}
+use Rattle.dbg_run.proofs.RootLaws.{blamed_kept, end_status, is_unreported, led, none_of, not_reported, not_unplanned, steps_wanting}
 
 abbrev answer : List ℕ → Result (List ℕ) GatherErr
 answer report = Ok report
@@ -169,10 +171,10 @@ module _ (root from dest : List ℕ) (old new : Seen) where
   result_ended (Ok report) done = record { is = done }
   result_ended (Err e) done = tt
 
-  pub unreported_fault : (e : GatherErr) (x : End) (result : Result (List ℕ) GatherErr) → result ≡ Err e → x ≡ gather_end e → GatherRan root from dest old new result
+  pub unreported_fault : (jobs : ℕ) (e : GatherErr) (x : End) (result : Result (List ℕ) GatherErr) → result ≡ Err e → x ≡ gather_end e → GatherRan root from dest jobs old new result
       → status_of x ≡ 6 → Rose old.faults new.faults
-  unreported_fault e x result is at ran six =
-      let here : GatherRan root from dest old new (answer_err e) = subst (λ (r : Result (List ℕ) GatherErr). GatherRan root from dest old new r) is ran in
+  unreported_fault jobs e x result is at ran six =
+      let here : GatherRan root from dest jobs old new (answer_err e) = subst (λ (r : Result (List ℕ) GatherErr). GatherRan root from dest jobs old new r) is ran in
       here.fault (sym (ap status_of at) ∙ six)
 
 pub result_completes : (result : Result (List ℕ) GatherErr) → IfErr result (λ e. e ≡ err.NoMemory) → IfErr result (λ e. gather_status e ≡ 13)
@@ -186,11 +188,11 @@ asked_at root from dest read source below of_root of_from of_dest asked =
     subst (λ (x : List ℕ). IsAsked x source below) (sym of_root)
     (subst (λ (x : List ℕ). IsAsked root x below) (sym of_from) (subst (λ (x : List ℕ). IsAsked root from x) (sym of_dest) asked))
 
-pub gathered_at : (root from dest read source below : List ℕ) (old new : Seen) (result : Result (List ℕ) GatherErr) → read ≡ root → source ≡ from → below ≡ dest
-    → GatherRan read source below old new result → GatherRan root from dest old new result
-gathered_at root from dest read source below old new result of_root of_from of_dest ran =
-    subst (λ (x : List ℕ). GatherRan x from dest old new result) of_root
-    (subst (λ (x : List ℕ). GatherRan read x dest old new result) of_from (subst (λ (x : List ℕ). GatherRan read source x old new result) of_dest ran))
+pub gathered_at : (root from dest read source below : List ℕ) (jobs : ℕ) (old new : Seen) (result : Result (List ℕ) GatherErr) → read ≡ root → source ≡ from → below ≡ dest
+    → GatherRan read source below jobs old new result → GatherRan root from dest jobs old new result
+gathered_at root from dest read source below jobs old new result of_root of_from of_dest ran =
+    subst (λ (x : List ℕ). GatherRan x from dest jobs old new result) of_root
+    (subst (λ (x : List ℕ). GatherRan read x dest jobs old new result) of_from (subst (λ (x : List ℕ). GatherRan read source x jobs old new result) of_dest ran))
 
 -- ### Where a gather is underway
 
@@ -282,33 +284,40 @@ module _ (root from dest : List ℕ) (t : TreeMap) where
   comes_at n k (reported.done e) has asked = inl (e ∙ ok_comes k has asked)
   comes_at n k (reported.failed e) has asked = inr (cuts.output e)
 
-module _ (root from dest : List ℕ) (old new : Seen) (heard said : Heard) where
-  err_starts : (e : GatherErr) → GatherRan root from dest old new (answer_err e) → GatherStarts root from dest old new heard said (gather_status e)
+module _ (root from dest : List ℕ) (jobs : ℕ) (old new : Seen) (heard said : Heard) where
+  err_starts : (e : GatherErr) → GatherRan root from dest jobs old new (answer_err e) → GatherStarts root from dest jobs old new heard said (gather_status e)
   err_starts e ran = record {
     images = ran.images;
     ended = λ start under is. absurd (not_reported (gather_status e) (gather_unreported e) is);
+    steps = λ start under c shows.
+        led (gather_folder root) c old.past new.past (answer_err e) (gather_status e) (ran.steps start under c shows) (λ is. absurd (not_reported (gather_status e) (gather_unreported e) is));
+    settles = ran.settles;
     mild = λ start under. quiet_mild (gather_status e) (mild_quiet e (ran.mild start under));
     due = λ t tells. err_due root from dest t e (answer_err e) refl (ran.due t tells);
     comes = λ t k tells asked. err_comes root from dest t e k (answer_err e) refl (ran.due t tells) asked;
     completes = λ is calm well. inr (ran.completes is calm);
   }
 
-  pub unreported_starts : (e : GatherErr) (x : End) (result : Result (List ℕ) GatherErr) → result ≡ Err e → x ≡ gather_end e → GatherRan root from dest old new result
-      → GatherStarts root from dest old new heard said (status_of x)
+  pub unreported_starts : (e : GatherErr) (x : End) (result : Result (List ℕ) GatherErr) → result ≡ Err e → x ≡ gather_end e → GatherRan root from dest jobs old new result
+      → GatherStarts root from dest jobs old new heard said (status_of x)
   unreported_starts e x result is at ran =
-      subst (λ (n : ℕ). GatherStarts root from dest old new heard said n) (sym (ap status_of at)) (err_starts e (subst (λ (r : Result (List ℕ) GatherErr). GatherRan root from dest old new r) is ran))
+      subst (λ (n : ℕ). GatherStarts root from dest jobs old new heard said n) (sym (ap status_of at)) (err_starts e (subst (λ (r : Result (List ℕ) GatherErr). GatherRan root from dest jobs old new r) is ran))
 
-  pub unreported_ends : (e : GatherErr) (x : End) (result : Result (List ℕ) GatherErr) → result ≡ Err e → x ≡ gather_end e → said ≡ heard → GatherRan root from dest old new result
+  pub unreported_ends : (e : GatherErr) (x : End) (result : Result (List ℕ) GatherErr) → result ≡ Err e → x ≡ gather_end e → said ≡ heard → GatherRan root from dest jobs old new result
       → GatherWays root from dest old new heard said x
   unreported_ends e x result is at silent ran =
-      let here : GatherRan root from dest old new (answer_err e) = subst (λ (r : Result (List ℕ) GatherErr). GatherRan root from dest old new r) is ran in
+      let here : GatherRan root from dest jobs old new (answer_err e) = subst (λ (r : Result (List ℕ) GatherErr). GatherRan root from dest jobs old new r) is ran in
       subst (λ (y : End). GatherWays root from dest old new heard said y) (sym at) (ends.unreported e here.ends silent)
 
   ok_starts : (report : List ℕ) (n : ℕ) → IsReported n → Said report heard said → (n ≡ 0 → said.bytes ≡ grown heard.bytes report) → (n ≡ 7 → Rose heard.faults said.faults)
-      → GatherRan root from dest old new (answer report) → GatherStarts root from dest old new heard said n
+      → GatherRan root from dest jobs old new (answer report) → GatherStarts root from dest jobs old new heard said n
   ok_starts report n is told whole failed ran = record {
     images = ran.images;
     ended = λ start under _. record { report = report; ended = ran.ended.is start under; told = told; whole = whole };
+    steps = λ start under c shows.
+        let l : LeadsTo (gather_folder root) c old.past new.past (answer report) = ran.steps start under c shows in
+        led (gather_folder root) c old.past new.past (answer report) n l (λ _. l.closed);
+    settles = ran.settles;
     mild = λ start under. reported_mild n is;
     due = λ t tells. due_at root from dest t n is (ok_due root from dest t report (answer report) refl (ran.due t tells));
     comes = λ t k tells asked. comes_at root from dest t n k is (ok_due root from dest t report (answer report) refl (ran.due t tells)) asked;
@@ -319,29 +328,31 @@ module _ (root from dest : List ℕ) (old new : Seen) (heard said : Heard) where
       completes_at n (reported.done e) failed well = inl e
       completes_at n (reported.failed e) failed well = absurd (well (failed e))
 
-  pub reported_starts : (report : List ℕ) (x : End) (result : Result (List ℕ) GatherErr) → result ≡ Ok report → ReportEnds report heard said x → GatherRan root from dest old new result
-      → GatherStarts root from dest old new heard said (status_of x)
+  pub reported_starts : (report : List ℕ) (x : End) (result : Result (List ℕ) GatherErr) → result ≡ Ok report → ReportEnds report heard said x → GatherRan root from dest jobs old new result
+      → GatherStarts root from dest jobs old new heard said (status_of x)
   reported_starts report x result is (reports.whole bytes told) ran =
       ok_starts report 0 (reported.done refl) told (λ _. bytes) (λ seven. absurd (apart 0 7 refl refl seven))
-      (subst (λ (r : Result (List ℕ) GatherErr). GatherRan root from dest old new r) is ran)
+      (subst (λ (r : Result (List ℕ) GatherErr). GatherRan root from dest jobs old new r) is ran)
   reported_starts report x result is (reports.failed told rose) ran =
       ok_starts report 7 (reported.failed refl) told (λ zero. absurd (apart 7 0 refl refl zero)) (λ _. rose)
-      (subst (λ (r : Result (List ℕ) GatherErr). GatherRan root from dest old new r) is ran)
+      (subst (λ (r : Result (List ℕ) GatherErr). GatherRan root from dest jobs old new r) is ran)
 
-  pub reported_ends : (report : List ℕ) (x : End) (result : Result (List ℕ) GatherErr) → result ≡ Ok report → ReportEnds report heard said x → GatherRan root from dest old new result
+  pub reported_ends : (report : List ℕ) (x : End) (result : Result (List ℕ) GatherErr) → result ≡ Ok report → ReportEnds report heard said x → GatherRan root from dest jobs old new result
       → GatherWays root from dest old new heard said x
   reported_ends report x result is (reports.whole bytes told) ran =
-      let here : GatherRan root from dest old new (answer report) = subst (λ (r : Result (List ℕ) GatherErr). GatherRan root from dest old new r) is ran in
+      let here : GatherRan root from dest jobs old new (answer report) = subst (λ (r : Result (List ℕ) GatherErr). GatherRan root from dest jobs old new r) is ran in
       ends.done (record { report = report; ended = here.ended; told = bytes })
   reported_ends report x result is (reports.failed told rose) ran =
-      let here : GatherRan root from dest old new (answer report) = subst (λ (r : Result (List ℕ) GatherErr). GatherRan root from dest old new r) is ran in
+      let here : GatherRan root from dest jobs old new (answer report) = subst (λ (r : Result (List ℕ) GatherErr). GatherRan root from dest jobs old new r) is ran in
       ends.cut here.ended told rose
 
   -- what holds of a start at any status holds of it where memory is wanting for its line
-  pub gather_wanting : (n : ℕ) → GatherStarts root from dest old new heard said n → GatherStarts root from dest old new heard said 13
+  pub gather_wanting : (n : ℕ) → GatherStarts root from dest jobs old new heard said n → GatherStarts root from dest jobs old new heard said 13
   gather_wanting n s = record {
     images = s.images;
     ended = λ start under is. absurd (not_reported 13 refl is);
+    steps = λ start under c shows. steps_wanting (gather_folder root) c old.past new.past n (s.steps start under c shows);
+    settles = s.settles;
     mild = λ start under. quiet_mild 13 refl;
     due = λ t tells. inr (memory_cut root from dest t);
     comes = λ t k tells asked. inr (memory_cut root from dest t);

@@ -317,7 +317,7 @@ cut_more : {A X Y : Type 0} → A ⊎ X → A ⊎ (X ⊎ Y)
 cut_more (inl a) = inl a
 cut_more (inr x) = inr (inl x)
 
-led : {A E : Type 0} (work : List ℕ) (c : CoreState) (old new : Past) (result : Result A E) (n : ℕ) → (l : LeadsTo work c old new result)
+pub led : {A E : Type 0} (work : List ℕ) (c : CoreState) (old new : Past) (result : Result A E) (n : ℕ) → (l : LeadsTo work c old new result)
     → (IsReported n → l.last.phase ≡ Closed) → RootSteps work c old new n
 led work c old new result n l closed = record {
   rest = l.rest;
@@ -327,6 +327,18 @@ led work c old new result n l closed = record {
   runs = l.runs;
   only = l.only;
   closed = closed;
+}
+
+-- steps at any status are those of a start for whose line memory is wanting
+pub steps_wanting : (work : List ℕ) (c : CoreState) (old new : Past) (n : ℕ) → RootSteps work c old new n → RootSteps work c old new 13
+steps_wanting work c old new n l = record {
+  rest = l.rest;
+  last = l.last;
+  first = l.first;
+  log = l.log;
+  runs = l.runs;
+  only = l.only;
+  closed = λ is. absurd (not_reported 13 refl is);
 }
 
 module _ (root : List ℕ) (o : Settings) (jobs : ℕ) (old new : Seen) (heard said : Heard) where
@@ -409,17 +421,7 @@ module _ (root : List ℕ) (o : Settings) (jobs : ℕ) (old new : Seen) (heard s
   starts_wanting n s = record {
     images = s.images;
     ended = λ start under is. absurd (not_reported 13 refl is);
-    steps = λ start under c shows.
-        let l : RootSteps (work_folder root) c old.past new.past n = s.steps start under c shows in
-        record {
-          rest = l.rest;
-          last = l.last;
-          first = l.first;
-          log = l.log;
-          runs = l.runs;
-          only = l.only;
-          closed = λ is. absurd (not_reported 13 refl is);
-        };
+    steps = λ start under c shows. steps_wanting (work_folder root) c old.past new.past n (s.steps start under c shows);
     settles = s.settles;
     mild = λ start under. wanting_mild root (map_now old.past);
     passed = wanting_passed root o old;

@@ -166,7 +166,7 @@ module _ (words : List (List ℕ)) (old new : Seen) (heard said : Heard) (t : Tr
 
   gather-completes : (root from dest : List ℕ) (jobs n : ℕ) → built words ≡ Some (Gather root from dest jobs) → Starts (built words) old new heard said n → (n ≡ 0) ⊎ (n ≡ 13)
   gather-completes root from dest jobs n command starts =
-      let s : GatherStarts root from dest old new heard said n = subst (λ (c : Option Command). Starts c old new heard said n) command starts in
+      let s : GatherStarts root from dest jobs old new heard said n = subst (λ (c : Option Command). Starts c old new heard said n) command starts in
       s.completes (subst (λ (c : Option Command). Unopposed c old t) command is) calm
       (λ rose. well (subst (λ (c : Option Command). OutputFails c heard said) (sym command) rose))
 
@@ -326,9 +326,9 @@ starts_told (Some (Run root o jobs)) old new heard said e before after answer (t
 starts_told (Some (Run root o jobs)) old new heard said e before after answer (told.out_of_memory undone well want goes) starts =
     subst (λ (n : ℕ). RootStarts root o jobs old new heard said n) (sym want) (starts_wanting root o jobs old new heard said (status_of e) starts)
 starts_told (Some (Gather root from dest jobs)) old new heard said e before after answer (told.as_it_is same goes) starts =
-    subst (λ (n : ℕ). GatherStarts root from dest old new heard said n) (sym same) starts
+    subst (λ (n : ℕ). GatherStarts root from dest jobs old new heard said n) (sym same) starts
 starts_told (Some (Gather root from dest jobs)) old new heard said e before after answer (told.out_of_memory undone well want goes) starts =
-    subst (λ (n : ℕ). GatherStarts root from dest old new heard said n) (sym want) (gather_wanting root from dest old new heard said (status_of e) starts)
+    subst (λ (n : ℕ). GatherStarts root from dest jobs old new heard said n) (sym want) (gather_wanting root from dest jobs old new heard said (status_of e) starts)
 starts_told c old new heard said e before after answer told starts = starts
 
 -- a refusal that is told came

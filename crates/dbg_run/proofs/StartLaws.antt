@@ -7,7 +7,7 @@ use Rattle.dbg_words.specs.declared.command.Command.{Command}
 use Rattle.dbg_words.specs.declared.command.Command.TheVariants.{Edit, Split, Run, Show, Unstrip, Gather}
 use Rattle.file_tree.specs.declared.call.Call.{Call}
 use Rattle.file_tree.specs.Heard.{Heard}
-use Rattle.file_tree.specs.Seen.{Seen, map_now, now_of}
+use Rattle.file_tree.specs.Seen.{Past, Seen, map_now, now_of}
 use Rattle.file_tree.specs.Trees.{TreeMap, is_below}
 use Rattle.job_types.specs.Settings.{Settings}
 use Rattle.journal_core.specs.Table.{CoreState}
@@ -15,8 +15,9 @@ use Rattle.work_journal.specs.Runs.{Runs}
 use Rattle.work_journal.specs.Runs.{Runs as runs}
 use Rattle.root_plan.specs.Roots.{work_folder}
 use Rattle.root_run.specs.Dues.{RunCut as cuts}
+use Rattle.src_gather.specs.Makers.{gather_folder}
 use Rattle.dbg_run.specs.Gathers.{GatherStarts}
-use Rattle.dbg_run.specs.Roots.{OnlyBelow, RootStarts}
+use Rattle.dbg_run.specs.Roots.{OnlyBelow, RootStarts, RootSteps}
 use Rattle.dbg_run.specs.Runs.{EndsFinal, EndsMild, LeavesPartway, RefusesPlanned, SettlesSeldom, Starts, StepsOfCore}
 use Rattle.dbg_run.proofs.GatherLaws.{memory_cut, quiet_mild}
 use Rattle.dbg_run.proofs.RootLaws.{not_reported, wanting_mild, wanting_passed}
@@ -35,10 +36,12 @@ starts_end c old new heard said n s = λ start. tt
 
 pub starts_step : (c : Option Command) (old new : Seen) (heard said : Heard) (n : ℕ) → Starts c old new heard said n → (start : TreeMap) → StepsOfCore c n start old new
 starts_step (Some (Run root o jobs)) old new heard said n s = s.steps
+starts_step (Some (Gather root from dest jobs)) old new heard said n s = s.steps
 starts_step c old new heard said n s = λ start. tt
 
 pub starts_settle : (c : Option Command) (old new : Seen) (heard said : Heard) (n : ℕ) → Starts c old new heard said n → (start : TreeMap) → SettlesSeldom c start old new
 starts_settle (Some (Run root o jobs)) old new heard said n s = s.settles
+starts_settle (Some (Gather root from dest jobs)) old new heard said n s = s.settles
 starts_settle c old new heard said n s = λ start. tt
 
 pub starts_mild : (c : Option Command) (old new : Seen) (heard said : Heard) (n : ℕ) → Starts c old new heard said n → (start : TreeMap) → EndsMild c n start old
@@ -57,7 +60,7 @@ pub run_starts : (c : Option Command) (old new : Seen) (heard said : Heard) (n :
 run_starts c old new heard said n root o jobs is s = subst (λ (k : Option Command). Starts k old new heard said n) (sym is) s
 
 pub gather_starts : (c : Option Command) (old new : Seen) (heard said : Heard) (n : ℕ) (root from dest : List ℕ) (jobs : ℕ) → c ≡ Some (Gather root from dest jobs)
-    → GatherStarts root from dest old new heard said n → Starts c old new heard said n
+    → GatherStarts root from dest jobs old new heard said n → Starts c old new heard said n
 gather_starts c old new heard said n root from dest jobs is s = subst (λ (k : Option Command). Starts k old new heard said n) (sym is) s
 
 pub none_starts : (c : Option Command) (old new : Seen) (heard said : Heard) (n : ℕ) → c ≡ None → Starts c old new heard said n
@@ -85,19 +88,22 @@ none_leads : (work : List ℕ) (c d : CoreState) (ks : List Call) → Runs work 
 none_leads work c d ks runs.none e = refl
 none_leads work c d ks (runs.more one rest) e = cc
 
+no_steps : (work : List ℕ) (c : CoreState) (past : Past) → RootSteps work c past past 13
+no_steps work c past = record {
+  rest = [];
+  last = c;
+  first = refl;
+  log = sym (append-nil past.log);
+  runs = runs.none;
+  only = λ d leads. none_leads work c d [] leads refl;
+  closed = λ is. absurd (not_reported 13 refl is);
+}
+
 wanting_starts : (root : List ℕ) (o : Settings) (jobs : ℕ) (seen : Seen) (heard : Heard) → RootStarts root o jobs seen seen heard heard 13
 wanting_starts root o jobs seen heard = record {
   images = λ start under. record { rest = []; first = refl; log = sym (append-nil seen.past.log); each = under.partway };
   ended = λ start under is. absurd (not_reported 13 refl is);
-  steps = λ start under c shows. record {
-    rest = [];
-    last = c;
-    first = refl;
-    log = sym (append-nil seen.past.log);
-    runs = runs.none;
-    only = λ d leads. none_leads (work_folder root) c d [] leads refl;
-    closed = λ is. absurd (not_reported 13 refl is);
-  };
+  steps = λ start under c shows. no_steps (work_folder root) c seen.past;
   settles = λ start under. record { few = λ p made planned. omega arith; none = λ un. omega arith };
   mild = λ start under. wanting_mild root (map_now seen.past);
   passed = wanting_passed root o seen;
@@ -106,10 +112,12 @@ wanting_starts root o jobs seen heard = record {
   completes = λ un calm well. inr refl;
 }
 
-wanting_gather : (root from dest : List ℕ) (seen : Seen) (heard : Heard) → GatherStarts root from dest seen seen heard heard 13
-wanting_gather root from dest seen heard = record {
+wanting_gather : (root from dest : List ℕ) (jobs : ℕ) (seen : Seen) (heard : Heard) → GatherStarts root from dest jobs seen seen heard heard 13
+wanting_gather root from dest jobs seen heard = record {
   images = λ start under. record { rest = []; first = refl; log = sym (append-nil seen.past.log); each = under.partway };
   ended = λ start under is. absurd (not_reported 13 refl is);
+  steps = λ start under c shows. no_steps (gather_folder root) c seen.past;
+  settles = λ start under. record { few = λ p sources planned. omega arith; none = λ un. omega arith };
   mild = λ start under. quiet_mild 13 refl;
   due = λ t tells. inr (memory_cut root from dest t);
   comes = λ t k tells due. inr (memory_cut root from dest t);
@@ -118,7 +126,7 @@ wanting_gather root from dest seen heard = record {
 
 pub memory_starts : (c : Option Command) (seen : Seen) (heard : Heard) → Starts c seen seen heard heard 13
 memory_starts (Some (Run root o jobs)) seen heard = wanting_starts root o jobs seen heard
-memory_starts (Some (Gather root from dest jobs)) seen heard = wanting_gather root from dest seen heard
+memory_starts (Some (Gather root from dest jobs)) seen heard = wanting_gather root from dest jobs seen heard
 memory_starts c seen heard = tt
 
 -- ### Paths outside the root

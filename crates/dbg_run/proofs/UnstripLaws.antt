@@ -36,7 +36,7 @@ use Rattle.dbg_ends.specs.Due.IsCut.{no_memory}
 use Rattle.dbg_ends.specs.Due.Where.{here, elsewhere}
 use Rattle.dbg_ends.specs.Ends.{status_of}
 use Rattle.dbg_ends.specs.Steps.{BlamesAt, FaultEnds, OutputEnds, OutputFree, OutputTaken, all_stored, file_put}
-use Rattle.dbg_ends.specs.Steps.{BlamesAt as blames, FaultEnds as fault_ends, OutputEnds as written}
+use Rattle.dbg_ends.specs.Steps.{BlamesAt as blames, FaultEnds as fault_ends}
 use Rattle.dbg_ends.proofs.LookLaws.{looks-then}
 use Rattle.dbg_ends.proofs.StatusLaws.{apart, done_refusal, input_ends, input_fault, input_status, no_refusal, output_ends, output_fault, output_status, written_fault, written_status}
 use Rattle.dbg_run.proofs.EditLaws.{calm_then, free_before, free_due, input_completes, looks-and, output_completes, same-at, same_bytes, written_completes}

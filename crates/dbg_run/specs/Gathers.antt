@@ -1,20 +1,24 @@
 -- The command `gather` of a build root: how it ends, when it is done, whichever start it is, and what keeps it from being done.
 -- This project's profile.
-use Rattle.std.specs.Prelude.{◌≡◌, ◌≢◌, ◌⊎◌, ℕ, List, Option, Some, Result, Ok, Err, IfErr, IfOk, IsTrue}
+use Rattle.std.specs.Prelude.{◌≡◌, ◌≢◌, ◌⊎◌, ℕ, List, Some, Result, IfErr, IfOk, IsTrue}
 use Rattle.file_tree.specs.Causes.{Rose}
 use Rattle.file_tree.specs.Heard.{Heard, Said, grown}
-use Rattle.file_tree.specs.Seen.{Seen, now_of}
+use Rattle.file_tree.specs.Seen.{Seen, map_now, now_of}
 use Rattle.file_tree.specs.Trees.{TreeMap}
+use Rattle.journal_core.specs.Table.{CoreState}
+use Rattle.root_run.specs.Cores.{LeadsTo}
 use Rattle.src_gather.specs.declared.gather_err.GatherErr.{GatherErr}
 use Rattle.src_gather.specs.declared.gather_err.GatherErr.TheVariants as err
+use Rattle.src_gather.specs.Cores.{SettlesFew, ShowsCore}
 use Rattle.src_gather.specs.Dues.{AnswersDue, HasReport, IsCut, IsDue}
 use Rattle.src_gather.specs.Errors.{is_mild}
 use Rattle.src_gather.specs.GatherEnds.{GatherEnds, IsExact}
+use Rattle.src_gather.specs.Makers.{gather_folder}
 use Rattle.src_gather.specs.Partways.{IsDone, IsUnderway, IsUnopposed, StaysPartway}
 use Rattle.dbg_ends.specs.declared.end.End.{End}
 use Rattle.dbg_ends.specs.declared.end.End.TheVariants as end
 use Rattle.dbg_ends.specs.Ends.{status_of}
-use Rattle.dbg_run.specs.Roots.{IsReported, OnlyBelow, journal_end}
+use Rattle.dbg_run.specs.Roots.{IsReported, OnlyBelow, RootSteps, journal_end}
 
 -- ### How it ends
 
@@ -90,18 +94,24 @@ pub record GatherUnopposed (root from dest : List ℕ) (seen : Seen) : Type 0 wh
   pub unopposed : IsUnopposed start root from dest seen
 
 -- what a start does and leaves, by the status with which it ends
-pub record GatherStarts (root from dest : List ℕ) (old new : Seen) (heard said : Heard) (n : ℕ) : Type 0 where
+pub record GatherStarts (root from dest : List ℕ) (jobs : ℕ) (old new : Seen) (heard said : Heard) (n : ℕ) : Type 0 where
   pub images : (start : TreeMap) → IsUnderway start root from dest old → StaysPartway start root from dest old new
   pub ended : (start : TreeMap) → IsUnderway start root from dest old → IsReported n → GatherFinal start root from dest n new heard said
+  pub steps : (start : TreeMap) → IsUnderway start root from dest old → (c : CoreState) → ShowsCore start root from dest (map_now old.past) c
+      → RootSteps (gather_folder root) c old.past new.past n
+  pub settles : (start : TreeMap) → IsUnderway start root from dest old → SettlesFew start root from dest jobs old.past new.past
   pub mild : (start : TreeMap) → IsUnderway start root from dest old → GatherMild n
   pub due : (t : TreeMap) → now_of old ≡ Some t → GatherDue root from dest t n ⊎ GatherCut root from dest t n
   pub comes : (t : TreeMap) (k : ℕ) → now_of old ≡ Some t → GatherDue root from dest t k → (n ≡ k) ⊎ GatherCut root from dest t n
   pub completes : GatherUnopposed root from dest old → (Rose old.faults new.faults → ⊥) → (Rose heard.faults said.faults → ⊥) → (n ≡ 0) ⊎ (n ≡ 13)
 
 -- what the gather did, and what it answered: its report, or why there is none
-pub record GatherRan (root from dest : List ℕ) (old new : Seen) (result : Result (List ℕ) GatherErr) : Type 0 where
+pub record GatherRan (root from dest : List ℕ) (jobs : ℕ) (old new : Seen) (result : Result (List ℕ) GatherErr) : Type 0 where
   pub images : (start : TreeMap) → IsUnderway start root from dest old → StaysPartway start root from dest old new
   pub ended : IfOk result (HasGathered root from dest old new)
+  pub steps : (start : TreeMap) → IsUnderway start root from dest old → (c : CoreState) → ShowsCore start root from dest (map_now old.past) c
+      → LeadsTo (gather_folder root) c old.past new.past result
+  pub settles : (start : TreeMap) → IsUnderway start root from dest old → SettlesFew start root from dest jobs old.past new.past
   pub mild : (start : TreeMap) → IsUnderway start root from dest old → IfErr result (λ e. IsTrue (is_mild e))
   pub ends : IfErr result (GatherEnds root from dest old new)
   pub due : (t : TreeMap) → now_of old ≡ Some t → AnswersDue root from dest t result

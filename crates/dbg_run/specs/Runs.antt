@@ -14,6 +14,8 @@ use Rattle.file_tree.specs.Causes.{Rose, OnlyAt}
 use Rattle.file_tree.specs.Heard.{Heard}
 use Rattle.journal_core.specs.Table.{CoreState}
 use Rattle.root_plan.specs.Roots.{work_folder}
+use Rattle.src_gather.specs.Cores.{SettlesFew, ShowsCore}
+use Rattle.src_gather.specs.Makers.{gather_folder}
 use Rattle.src_gather.specs.Partways.{IsUnderway, StaysPartway}
 use Rattle.dbg_ends.specs.declared.end.End.{End}
 use Rattle.dbg_ends.specs.declared.end.End.TheVariants as end
@@ -181,11 +183,14 @@ EndsFinal c n start old new heard said = ⊤
 abbrev pub StepsOfCore : Option Command → ℕ → TreeMap → Seen → Seen → Type 0
 StepsOfCore (Some (Run root o jobs)) n start old new =
     IsUnderwayIn start root o old → (c : CoreState) → ShowsRoot start root o (map_now old.past) c → RootSteps (work_folder root) c old.past new.past n
+StepsOfCore (Some (Gather root from dest jobs)) n start old new =
+    IsUnderway start root from dest old → (c : CoreState) → ShowsCore start root from dest (map_now old.past) c → RootSteps (gather_folder root) c old.past new.past n
 StepsOfCore c n start old new = ⊤
 
--- the tree is asked to settle once for each group of jobs, and four times beside
+-- the tree is asked to settle once for each group of jobs or copies, and four times beside
 abbrev pub SettlesSeldom : Option Command → TreeMap → Seen → Seen → Type 0
 SettlesSeldom (Some (Run root o jobs)) start old new = IsUnderwayIn start root o old → SettlesIn start root o jobs old new
+SettlesSeldom (Some (Gather root from dest jobs)) start old new = IsUnderway start root from dest old → SettlesFew start root from dest jobs old.past new.past
 SettlesSeldom c start old new = ⊤
 
 -- and it doesn't end for a text or a file that isn't its own
@@ -202,5 +207,5 @@ RefusesPlanned c n old = ⊤
 -- all of it, and which status comes
 abbrev pub Starts : Option Command → Seen → Seen → Heard → Heard → ℕ → Type 0
 Starts (Some (Run root o jobs)) old new heard said n = RootStarts root o jobs old new heard said n
-Starts (Some (Gather root from dest jobs)) old new heard said n = GatherStarts root from dest old new heard said n
+Starts (Some (Gather root from dest jobs)) old new heard said n = GatherStarts root from dest jobs old new heard said n
 Starts c old new heard said n = ⊤

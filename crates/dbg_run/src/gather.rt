@@ -44,7 +44,7 @@ fn gathered<T: Tree>(
     requires some { 0 < jobs }
     requires most { jobs ≤ 64 }
     requires asked { IsAsked root.now from.now dest.now }
-    ensures ran { GatherRan root.now from.now dest.now (T.seen tree.old) (T.seen tree.new) result }
+    ensures ran { GatherRan root.now from.now dest.now jobs (T.seen tree.old) (T.seen tree.new) result }
 {
     gather(
         alloc,
@@ -70,7 +70,7 @@ fn gathered_end<T: Tree, O: Sink>(
     requires most { jobs ≤ 64 }
     requires asked { IsAsked root.now from.now dest.now }
     ensures ends { GatherWays root.now from.now dest.now (T.seen tree.old) (T.seen tree.new) (O.heard out.old) (O.heard out.new) result }
-    ensures starts { GatherStarts root.now from.now dest.now (T.seen tree.old) (T.seen tree.new) (O.heard out.old) (O.heard out.new) (status_of result) }
+    ensures starts { GatherStarts root.now from.now dest.now jobs (T.seen tree.old) (T.seen tree.new) (O.heard out.old) (O.heard out.new) (status_of result) }
     ensures fault { status_of result ≡ 6 → Rose (T.seen tree.old).faults (T.seen tree.new).faults }
     ensures others { OnlyBelow root.now (now_of (T.seen tree.old)) (now_of (T.seen tree.new)) }
     ensures tells { (T.seen tree.new).tells ≡ (T.seen tree.old).tells }
@@ -95,7 +95,7 @@ pub fn gather_into<T: Tree, O: Sink>(
     requires most { jobs ≤ 64 }
     requires asked { IsAsked root.now from.now dest.now }
     ensures ends { GatherWays root.now from.now dest.now (T.seen tree.old) (T.seen tree.new) (O.heard out.old) (O.heard out.new) result }
-    ensures starts { GatherStarts root.now from.now dest.now (T.seen tree.old) (T.seen tree.new) (O.heard out.old) (O.heard out.new) (status_of result) }
+    ensures starts { GatherStarts root.now from.now dest.now jobs (T.seen tree.old) (T.seen tree.new) (O.heard out.old) (O.heard out.new) (status_of result) }
     ensures done { 0 ≡ status_of result → GatherDone root.now from.now dest.now (T.seen tree.old) (T.seen tree.new) (O.heard out.old) (O.heard out.new) }
     ensures due { ForSome (now_of (T.seen tree.old)) (λ t. GatherDue root.now from.now dest.now t (status_of result) ⊎ GatherCut root.now from.now dest.now t (status_of result)) }
     ensures not_usage { 2 ≢ status_of result }

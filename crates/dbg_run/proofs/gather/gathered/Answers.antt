@@ -14,9 +14,11 @@ pub returns : goal.returns
 returns g c =
     let ran = c.gather.ensures in
     record {
-      ran = gathered_at _ _ _ _ _ _ _ _ _ c.as_str.ensures.value c.as_str-2.ensures.value c.as_str-3.ensures.value (record {
+      ran = gathered_at _ _ _ _ _ _ _ _ _ _ c.as_str.ensures.value c.as_str-2.ensures.value c.as_str-3.ensures.value (record {
         images = ran.images;
         ended = result_ended _ _ _ (g.T.Tree.seen c.args.tree.now) (g.T.Tree.seen c.gather.new.tree) c.gather.result ran.done;
+        steps = ran.steps;
+        settles = ran.settles;
         mild = ran.mild;
         ends = ran.ends;
         due = ran.due;
