@@ -1,0 +1,11 @@
+pub mod PartLaws
+pub mod FirstLaws
+pub mod EntryLaws
+pub mod OtherLaws
+pub mod KnownLaws
+pub mod KnownValueLaws
+pub mod KnownPartLaws
+pub mod TextLaws
+pub mod TableLaws
+pub mod VerdictLaws
+pub mod WorkedVerdicts

@@ -1,0 +1,5 @@
+pub mod Parts
+pub mod Verdicts
+pub mod Entries
+pub mod Slashes
+pub mod Tables
