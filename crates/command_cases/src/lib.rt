@@ -18,6 +18,8 @@ use std::alloc::Global;
 #[cfg(test)]
 mod edits;
 #[cfg(test)]
+mod gathers;
+#[cfg(test)]
 mod outcomes;
 #[cfg(test)]
 mod output_order;
