@@ -1,18 +1,19 @@
 -- The units of all sections stand one behind another: sections by their numbers, units by their places.
-use Rattle.std.proofs.Common.{Bool, true, false, ◌≡◌, ℕ, suc, ◌+◌, ◌<◌, ◌≤◌, ◌^◌, List, [], ◌∷◌, ◌++◌, length, drop, Option, Some, None, sym, subst, arith, if◌then◌else◌}
+use Rattle.std.proofs.Common.{◌≡◌, ℕ, suc, ◌+◌, ◌<◌, ◌≤◌, ◌^◌, List, [], ◌∷◌, ◌++◌, length, drop, sym, subst, arith}
 use Rattle.dw_base.specs.AbbreviationTables.{Abbreviation}
 use Rattle.dw_base.specs.DebugData.{DebugData}
-use Rattle.dw_base.specs.DebugSections.{debug_section}
-use Rattle.dw_base.specs.FileViews.{View, ViewSection}
-use Rattle.dw_base.specs.UnitHeaders.{SectionKind, UnitSection, UnitsUpTo, no_units, more_units}
-use Rattle.dw_base.specs.ViewData.{debug_data, unit_kind, unit_section, unit_sections, unit_sections_from}
+use Rattle.dw_base.specs.FileViews.{View}
+use Rattle.dw_base.specs.UnitHeaders.{UnitSection, UnitsUpTo, no_units, more_units}
+use Rattle.dw_base.specs.ViewData.{debug_data, unit_sections}
 use Rattle.dw_base.specs.declared.units.UnitHeader.{UnitHeader}
 use Rattle.dw_find.specs.UnitPlaces.{place_key}
 use Rattle.dw_base.proofs.HeaderOfLaws.{header-of}
 use Rattle.dw_meaning.proofs.ScanSectionLaws.{header-placed}
 use Rattle.dw_attrs.specs.EntryIndexes.{AreApart, StandApart, end_key, start_key}
 use Rattle.dw_units.specs.UnitLists.{AreListed, ListsAll, none_listed, more_listed}
+use Rattle.dw_units.specs.UnitStretches.{NumbersRise}
 use Rattle.dw_units.specs.declared.listed_unit.ListedUnit.{ListedUnit}
+use Rattle.dw_units.proofs.StretchLaws.{view-rises}
 use Rattle.dw_attrs.proofs.AllRunLaws.{LastListed, last-listed}
 use Rattle.dw_attrs.proofs.UnitStartLaws.{unit-some}
 use Rattle.dw_base.specs.declared.debug_sections.DebugSection.TheVariants.{Info}
@@ -60,16 +61,6 @@ section-apart d tables z all z_end own (more_units list h start units is) l =
     }
 
 -- the numbers of sections rise
-abbrev NumbersRise : ℕ → List UnitSection → ℕ → Type 0
-NumbersRise p [] q = p ≤ q
-NumbersRise p (z ∷ zs) q = (p ≤ z.number) × NumbersRise (suc z.number) zs q
-
-rise-lower : (p q : ℕ) (zs : List UnitSection) (r : ℕ) → p ≤ q → NumbersRise q zs r → NumbersRise p zs r
-rise-lower p q [] r le n = omega (arith, le, n)
-rise-lower p q (z ∷ zs) r le n =
-    let first = n.0 in
-    (omega (arith, le, first), n.1)
-
 record LastNumber (p : ℕ) (zs : List UnitSection) (z : UnitSection) (q : ℕ) : Type 0 where
   others : NumbersRise p zs z.number
   below : z.number < q
@@ -81,23 +72,6 @@ last-number p [] z q n =
 last-number p (y ∷ ys) z q n =
     let r : LastNumber (suc y.number) ys z q = last-number (suc y.number) ys z q n.1 in
     record { others = (n.0, r.others); below = r.below }
-
-numbers-rise : (i : ℕ) (ss : List ViewSection) → NumbersRise i (unit_sections_from i ss) (i + length ss)
-numbers-rise i [] = omega arith
-numbers-rise i (s ∷ ss) =
-    let same : suc i + length ss ≡ i + suc (length ss) = omega arith in
-    subst (NumbersRise i ((if s.has_bytes then unit_section i s (unit_kind (debug_section s.name)) else []) ++ unit_sections_from (suc i) ss)) same
-    (by_bytes s.has_bytes (unit_kind (debug_section s.name)) (numbers-rise (suc i) ss))
-  where
-    by_kind : (o : Option SectionKind) → NumbersRise (suc i) (unit_sections_from (suc i) ss) (suc i + length ss)
-        → NumbersRise i (unit_section i s o ++ unit_sections_from (suc i) ss) (suc i + length ss)
-    by_kind None n = rise-lower i (suc i) (unit_sections_from (suc i) ss) (suc i + length ss) (omega arith) n
-    by_kind (Some kind) n = (omega arith, n)
-
-    by_bytes : (b : Bool) (o : Option SectionKind) → NumbersRise (suc i) (unit_sections_from (suc i) ss) (suc i + length ss)
-        → NumbersRise i ((if b then unit_section i s o else []) ++ unit_sections_from (suc i) ss) (suc i + length ss)
-    by_bytes true o n = by_kind o n
-    by_bytes false o n = rise-lower i (suc i) (unit_sections_from (suc i) ss) (suc i + length ss) (omega arith) n
 
 -- all units
 all-apart : (d : DebugData) (tables : List (List Abbreviation)) (zs : List UnitSection) (us : List ListedUnit) (q : ℕ) → ListsAll d tables zs us → NumbersRise 0 zs q
@@ -115,6 +89,5 @@ pub stand-apart : (v : View) (tables : List (List Abbreviation)) (us : List List
 unfolding debug_data unit_sections
 stand-apart v tables us l = record {
   end = place_key (1 + length (drop 1 v.sections)) 0;
-  apart = all-apart (debug_data v) tables ((debug_data v).found Info) us (1 + length (drop 1 v.sections)) l
-      (rise-lower 0 1 (unit_sections v) (1 + length (drop 1 v.sections)) (omega arith) (numbers-rise 1 (drop 1 v.sections)));
+  apart = all-apart (debug_data v) tables ((debug_data v).found Info) us (1 + length (drop 1 v.sections)) l (view-rises v);
 }

@@ -4,23 +4,19 @@ use Rattle.std.specs.Prelude.{is_some}
 use Rattle.dw_base.specs.Cells.{Cell}
 use Rattle.dw_base.specs.DebugData.{DebugData}
 use Rattle.dw_base.specs.FileViews.{View, kind_at, section_bytes, view_cells}
-use Rattle.dw_base.specs.Refusals.{Blames}
 use Rattle.dw_base.specs.RelocationRows.{FieldPlace, FieldsFail, FieldsRead, moving_sections, unit_fields}
 use Rattle.dw_base.specs.UnitHeaders.{UnitSection}
 use Rattle.dw_base.specs.ViewData.{debug_data}
-use Rattle.dw_base.specs.declared.fault.Fault.{Fault}
-use Rattle.dw_base.specs.declared.fault.Fault.TheVariants.{NoMemory, Refused}
 use Rattle.dw_base.specs.declared.fault.Refusal.{Refusal}
 use Rattle.dw_base.proofs.ViewCellLaws.{length-view_cells}
 use Rattle.dw_base.specs.declared.debug_sections.DebugSection.TheVariants.{Info}
 use Rattle.dw_entries.specs.Fronts.{IsOfView}
-use Rattle.dw_entries.specs.HeaderRows.{HeadersRefuse}
 use Rattle.dw_entries.specs.SectionOrder.{AreSections}
-use Rattle.dw_entries.specs.ViewUnits.{IsUnitSection, unit_base, unit_section_at}
+use Rattle.dw_entries.specs.ViewUnits.{IsUnitSection, unit_section_at}
 use Rattle.dw_entries.proofs.SectionListLaws.{number-there, sections-next, sections-whole}
 use Rattle.dw_entries.proofs.UnitSectionLaws.{is-of-view}
 use Rattle.dw_meaning.specs.RelocationFails.LeftRelocationsFail.{units}
-use Rattle.dw_fields.specs.FieldRefusals.{FieldsRefuse, headers, left}
+use Rattle.dw_fields.specs.FieldRefusals.{FieldsRefuse, left}
 use Rattle.dw_fields.specs.FieldWalks.{AllRead, Goes, HasNone, OneFails, StandsAt, Walked, ground_of}
 use Rattle.dw_fields.specs.LeftChecks.{UnitsHold}
 use Rattle.dw_fields.specs.UnitPasses.{SectionsHold, UnitsPassed}
@@ -88,11 +84,7 @@ section-fails v i p q r there start passed fails =
     (subst (λ (o : _). FieldsFail o i (view_cells v i) (moving_sections v) passed.fs r) (sym (order-is v))
     (fails.all passed.fs (walked-all v i passed.fs p q there start passed.goes)))))))
 
-pub headers-fault : (v : View) (i : ℕ) (f : Fault) → IsUnitSection v i → Blames (HeadersRefuse (unit_base v) (unit_section_at v i)) f → Blames (FieldsRefuse v) f
-headers-fault v i NoMemory there b = tt
-headers-fault v i (Refused r) there b = let s = stands-view v i there in headers s.before s.behind (unit_section_at v i) s.is b
-
-pub ruleset section_rules = (section-there, section-read, section-quiet, section-holds, section-fails, units-behind, headers-fault, length-there, small-there)
+pub ruleset section_rules = (section-there, section-read, section-quiet, section-holds, section-fails, units-behind, length-there, small-there)
 
 -- section after section
 hold-append : (d : DebugData) (moving : List ℕ) (zs : List UnitSection) (z : UnitSection) → SectionsHold d moving zs → UnitsHold d moving z → SectionsHold d moving (zs ++ z ∷ [])

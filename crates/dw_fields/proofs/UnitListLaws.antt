@@ -1,55 +1,38 @@
--- Laws of a pass over the units of a section, with the tables of abbreviations that they share.
-use Rattle.std.proofs.Common.{Bool, true, false, ◌≡◌, ℕ, suc, ◌+◌, ◌<◌, ◌≤◌, ◌==◌, if◌then◌else◌, List, [], ◌∷◌, ◌++◌, length, take, drop, get_or, Option, Some, Result, refl, sym, ap, ◌∙◌, subst, arith, append_assoc, append-nil, take-suc}
+-- Laws of a pass over the units of a section, each with its table of abbreviations.
+use Rattle.std.proofs.Common.{Bool, true, false, ◌≡◌, ℕ, suc, ◌+◌, ◌-◌, ◌<◌, ◌≤◌, ◌==◌, if◌then◌else◌, List, [], ◌∷◌, ◌++◌, length, take, drop, get_or, Some, Result, refl, sym, ap, ◌∙◌, subst, arith, append_assoc, append-nil, take-suc}
 use Rattle.std.proofs.lemmas.List.{drop_all}
-use Rattle.dw_base.specs.AbbreviationFails.{AbbreviationFails}
-use Rattle.dw_base.specs.AbbreviationTables.{Abbreviation, IsTable}
+use Rattle.dw_base.specs.AbbreviationTables.{Abbreviation}
 use Rattle.dw_base.specs.EntryScans.{EntryFails}
 use Rattle.dw_base.specs.EntryValues.{HasUnit, bytes_up_to}
 use Rattle.dw_base.specs.FileViews.{View, view_cells}
-use Rattle.dw_base.specs.Refusals.{Blames}
 use Rattle.dw_base.specs.UnitHeaders.{AreUnits, IsUnit, UnitBase, UnitSection, UnitsUpTo, more_units, no_units}
-use Rattle.dw_base.specs.UnitTables.{IsUnitTable, UnitTableFails, table_fails}
+use Rattle.dw_base.specs.UnitTables.{IsUnitTable}
 use Rattle.dw_base.specs.ViewData.{debug_data, unit_sections}
 use Rattle.dw_base.specs.declared.debug_sections.DebugSection.TheVariants.{Info}
-use Rattle.dw_base.specs.declared.fault.Fault.{Fault}
-use Rattle.dw_base.specs.declared.fault.Fault.TheVariants.{NoMemory, Refused}
 use Rattle.dw_base.specs.declared.fault.Refusal.{Refusal}
 use Rattle.dw_base.specs.declared.units.UnitHeader.{UnitHeader}
 use Rattle.dw_entries.specs.ViewUnits.{IsUnitSection, numbered, unit_section_at}
 use Rattle.dw_entries.proofs.HasUnitLaws.{unit-section}
 use Rattle.dw_entries.proofs.UnitSectionLaws.{is-of-view}
 use Rattle.dw_meaning.proofs.ScanSectionLaws.{header-placed}
-use Rattle.dw_fields.specs.FieldRefusals.{FieldsRefuse, entries, table}
+use Rattle.dw_units.specs.UnitLists.{Units}
+use Rattle.dw_units.specs.UnitStretches.{IsStretch, headers_of, stretch_of}
+use Rattle.dw_units.specs.declared.listed_unit.ListedUnit.{ListedUnit}
+use Rattle.dw_units.proofs.StretchLaws.{stretch-header, stretch-length}
+use Rattle.dw_fields.specs.FieldRefusals.{FieldsRefuse, entries}
 use Rattle.dw_fields.specs.FieldWalks.{Goes, Ground, StandsAt, ground_of}
 use Rattle.dw_fields.specs.UnitFields.{UnitsFields, more_fields, none_fields, one_fields}
-use Rattle.dw_fields.specs.UnitPasses.{AreTables, OnePassed, UnitsFrom, UnitsPassed, UnitsSo}
+use Rattle.dw_fields.specs.UnitPasses.{OnePassed, UnitsFrom, UnitsPassed, UnitsSo}
 use Rattle.dw_fields.specs.declared.marks.Marks.{Marks}
 use Rattle.dw_fields.proofs.WalkLaws.{goes-more, goes-none}
 use Rattle.dw_fields.proofs.ListItemLaws.{front-at}
 
--- that of a unit
-pub unit-table : (v : View) (h : UnitHeader) (shared : ℕ → Option (List Abbreviation)) (at : ℕ) (own : List Abbreviation) → h.elsewhere ≡ false → at ≡ h.abbrevs
-    → AreTables (debug_data v) shared → Some own ≡ shared at → IsUnitTable (debug_data v).base h own
-unit-table v h shared at own here same are is =
-    record { here = here; is = subst (λ (n : ℕ). IsTable (debug_data v).base.abbrevs.bytes n own) same (are.each at own (sym is)) }
-
 -- why a unit can't be passed
-pub elsewhere-row : (v : View) (h : UnitHeader) (r : Refusal) → HasUnit (debug_data v) (unit_section_at v h.section) h → UnitTableFails (debug_data v).base h r
-    → FieldsRefuse v r
-elsewhere-row v h r u f = table (unit_section_at v h.section) h u f
-
-pub table-row : (v : View) (h : UnitHeader) (at : ℕ) (f : Fault) → HasUnit (debug_data v) (unit_section_at v h.section) h → at ≡ h.abbrevs
-    → Blames (AbbreviationFails (debug_data v).base.abbrevs.bytes (debug_data v).base.abbrevs.number at) f → Blames (FieldsRefuse v) f
-table-row v h at NoMemory u same b = tt
-table-row v h at (Refused r) u same b =
-    table (unit_section_at v h.section) h u
-    (table_fails (subst (λ (n : ℕ). AbbreviationFails (debug_data v).base.abbrevs.bytes (debug_data v).base.abbrevs.number n r) same b))
-
 pub entry-row : (v : View) (h : UnitHeader) (own : List Abbreviation) (r : Refusal) → HasUnit (debug_data v) (unit_section_at v h.section) h
     → IsUnitTable (debug_data v).base h own → EntryFails h own (bytes_up_to (unit_section_at v h.section) h) r → FieldsRefuse v r
 entry-row v h own r u is f = entries (unit_section_at v h.section) h own (record { unit = u; declares = is }) f
 
-pub ruleset one_rules = (elsewhere-row)
+pub ruleset one_rules = (entry-row)
 
 -- units, forward from a place
 units-append : (base : UnitBase) (z : UnitSection) (list rest : List UnitHeader) (end : ℕ) → UnitsUpTo base z list end → UnitsFrom base z rest end
@@ -170,4 +153,46 @@ units-end v i units k p q end so =
       goes = subst (λ (n : ℕ). Goes (ground_of v i) 0 n so.fs p q) over so.goes;
     }
 
-pub ruleset list_rules = (units-start, units-end)
+-- those of a stretch, by their numbers among all
+pub stretch-start : (v : View) (i : ℕ) (us : Units) (first end : ℕ) (p : Result Marks Refusal) → IsStretch (debug_data v) us (unit_section_at v i) first end → StandsAt (view_cells v i) 0 p
+    → UnitsSo (ground_of v i) (debug_data v).base (unit_section_at v i) (headers_of (stretch_of us.units first end)) (first - first) p p
+stretch-start v i us first end p s stands =
+    let none : 0 ≡ first - first = omega arith in
+    subst (λ (k : ℕ). UnitsSo (ground_of v i) (debug_data v).base (unit_section_at v i) (headers_of (stretch_of us.units first end)) k p p) none
+    (units-start v i (headers_of (stretch_of us.units first end)) p s.units stands)
+
+pub stretch-has : (v : View) (i : ℕ) (us : Units) (first end n : ℕ) (u : ListedUnit) (p q : Result Marks Refusal) → IsUnitSection v i
+    → IsStretch (debug_data v) us (unit_section_at v i) first end → first ≤ n → n < end → u ≡ get_or us.units n u
+    → UnitsSo (ground_of v i) (debug_data v).base (unit_section_at v i) (headers_of (stretch_of us.units first end)) (n - first) p q
+    → HasUnit (debug_data v) (unit_section_at v u.header.section) u.header
+stretch-has v i us first end n u p q there s from lt is so =
+    let size = stretch-length us.units first end s.rises s.inside in
+    next-has v i (headers_of (stretch_of us.units first end)) u.header (n - first) p q there (omega (arith, size, from, lt)) (stretch-header us.units first end n u from lt is) so
+
+pub stretch-stands : (v : View) (i : ℕ) (us : Units) (first end n : ℕ) (u : ListedUnit) (p q : Result Marks Refusal) → IsUnitSection v i
+    → IsStretch (debug_data v) us (unit_section_at v i) first end → first ≤ n → n < end → u ≡ get_or us.units n u
+    → UnitsSo (ground_of v i) (debug_data v).base (unit_section_at v i) (headers_of (stretch_of us.units first end)) (n - first) p q
+    → StandsAt (view_cells v u.header.section) u.header.start q
+stretch-stands v i us first end n u p q there s from lt is so =
+    let size = stretch-length us.units first end s.rises s.inside in
+    next-stands v i (headers_of (stretch_of us.units first end)) u.header (n - first) p q there (omega (arith, size, from, lt)) (stretch-header us.units first end n u from lt is) so
+
+pub stretch-more : (v : View) (i : ℕ) (us : Units) (first end n : ℕ) (u : ListedUnit) (p q r : Result Marks Refusal) → IsUnitSection v i
+    → IsStretch (debug_data v) us (unit_section_at v i) first end → first ≤ n → n < end → u ≡ get_or us.units n u
+    → UnitsSo (ground_of v i) (debug_data v).base (unit_section_at v i) (headers_of (stretch_of us.units first end)) (n - first) p q
+    → OnePassed (ground_of v u.header.section) (debug_data v).base (unit_section_at v u.header.section) u.header q r
+    → UnitsSo (ground_of v i) (debug_data v).base (unit_section_at v i) (headers_of (stretch_of us.units first end)) (n + 1 - first) p r
+stretch-more v i us first end n u p q r there s from lt is so one =
+    let size = stretch-length us.units first end s.rises s.inside in
+    let next : (n - first) + 1 ≡ n + 1 - first = omega (arith, from) in
+    subst (λ (k : ℕ). UnitsSo (ground_of v i) (debug_data v).base (unit_section_at v i) (headers_of (stretch_of us.units first end)) k p r) next
+    (units-more v i (headers_of (stretch_of us.units first end)) u.header (n - first) p q r there (omega (arith, size, from, lt)) (stretch-header us.units first end n u from lt is) so one)
+
+pub stretch-over : (v : View) (i : ℕ) (us : Units) (first end n : ℕ) (p q : Result Marks Refusal) → IsStretch (debug_data v) us (unit_section_at v i) first end → end ≤ n
+    → UnitsSo (ground_of v i) (debug_data v).base (unit_section_at v i) (headers_of (stretch_of us.units first end)) (n - first) p q
+    → UnitsPassed (ground_of v i) (debug_data v).base (unit_section_at v i) p q
+stretch-over v i us first end n p q s past so =
+    let size = stretch-length us.units first end s.rises s.inside in
+    units-end v i (headers_of (stretch_of us.units first end)) (n - first) p q (omega (arith, size, past)) so
+
+pub ruleset list_rules = (stretch-start, stretch-over)

@@ -4,27 +4,21 @@ use Rattle.std.specs.Prelude.{◌≡◌, ℕ, ⊤, List, [], ◌∷◌, ◌++◌
 use Rattle.dw_base.specs.AbbreviationTables.{Abbreviation}
 use Rattle.dw_base.specs.Cells.{CellSection}
 use Rattle.dw_base.specs.EntryScans.{EntryFails}
-use Rattle.dw_base.specs.EntryValues.{HasTable, HasUnit, bytes_up_to}
+use Rattle.dw_base.specs.EntryValues.{HasTable, bytes_up_to}
 use Rattle.dw_base.specs.FileViews.{View, view_cells}
 use Rattle.dw_base.specs.MacroOffsets.{UnitsRefuse}
 use Rattle.dw_base.specs.RelocationRows.{moving_sections}
 use Rattle.dw_base.specs.UnitHeaders.{UnitSection}
-use Rattle.dw_base.specs.UnitTables.{UnitTableFails}
 use Rattle.dw_base.specs.ViewData.{debug_data}
-use Rattle.dw_base.specs.declared.debug_sections.DebugSection.TheVariants.{Info, Macro}
+use Rattle.dw_base.specs.declared.debug_sections.DebugSection.TheVariants.{Macro}
 use Rattle.dw_base.specs.declared.fault.Refusal.{Refusal}
 use Rattle.dw_base.specs.declared.units.UnitHeader.{UnitHeader}
-use Rattle.dw_entries.specs.HeaderRows.{HeadersRefuse}
 use Rattle.dw_fields.specs.MacroFields.{MacrosFail, MacrosHold}
 use Rattle.dw_meaning.specs.RelocationFails.{LeftRelocationsFail}
 
--- a relocation may not stand where it does; or the headers of units, the abbreviations of one, its entries or the macro units of a section can't
--- be read
+-- a relocation may not stand where it does; or the entries of a unit or the macro units of a section can't be read
 pub data FieldsRefuse (v : View) : Refusal → Type 0 where
   left : {r : Refusal} → LeftRelocationsFail (debug_data v) (moving_sections v) r → FieldsRefuse v r
-  headers : (before behind : List UnitSection) (z : UnitSection) {r : Refusal} → (debug_data v).found Info ≡ before ++ z ∷ behind
-      → HeadersRefuse (debug_data v).base z r → FieldsRefuse v r
-  table : (z : UnitSection) (h : UnitHeader) {r : Refusal} → HasUnit (debug_data v) z h → UnitTableFails (debug_data v).base h r → FieldsRefuse v r
   entries : (z : UnitSection) (h : UnitHeader) (list : List Abbreviation) {r : Refusal} → HasTable (debug_data v) z h list
       → EntryFails h list (bytes_up_to z h) r → FieldsRefuse v r
   macros : (before behind : List CellSection) (z : CellSection) {r : Refusal} → (debug_data v).found Macro ≡ before ++ z ∷ behind → UnitsRefuse v z.number r

@@ -1,6 +1,5 @@
 -- A pass over the fields of a unit's entries, while they are scanned.
-use Rattle.std.specs.Prelude.{Bool, false, ◌≡◌, ℕ, ◌+◌, ⊤, List, [], ◌∷◌, length, take, drop, Option, Some, Result}
-use Rattle.dw_abbrev.specs.Kept.{AreKept}
+use Rattle.std.specs.Prelude.{Bool, false, ◌≡◌, ℕ, ◌+◌, ⊤, List, [], ◌∷◌, length, take, drop, Some, Result}
 use Rattle.dw_base.specs.AbbreviationTables.{Abbreviation}
 use Rattle.dw_base.specs.DebugData.{DebugData}
 use Rattle.dw_base.specs.EntryScans.{AreEntries, IsEntry}
@@ -86,10 +85,6 @@ pub record OnePassed (g : Ground) (base : UnitBase) (z : UnitSection) (h : UnitH
   pub table : List Abbreviation
   pub is : IsUnitTable base h table
   pub passed : UnitPassed g base z h table p q
-
--- the tables of abbreviations that are kept by their offsets are those of the debug data
-abbrev pub AreTables : DebugData → (ℕ → Option (List Abbreviation)) → Type 0
-AreTables d shared = AreKept d.base.abbrevs.bytes shared
 
 -- the first unit sections of these numbers have been looked at
 abbrev pub SectionsHold : DebugData → List ℕ → List UnitSection → Type 0

@@ -10,7 +10,8 @@ ghost use Rattle.dw_base.specs.Refusals.{Blames};
 ghost use Rattle.dw_base.specs.RelocationRows.{moving_sections};
 ghost use Rattle.dw_base.specs.StringOffsets.{AreContributions};
 ghost use Rattle.dw_base.specs.ViewData.{debug_data, string_offsets};
-ghost use Rattle.dw_base.specs.declared.debug_sections.DebugSection.TheVariants.{Macro};
+ghost use Rattle.dw_base.specs.declared.debug_sections.DebugSection.TheVariants.{Info, Macro};
+ghost use Rattle.dw_units.specs.UnitLists.{ListsAll};
 ghost use Rattle.dw_fields.specs.FieldRefusals.{FieldsRefuse, MacroSectionRefuses, MacroSectionsHold};
 ghost use Rattle.dw_fields.specs.MacroFields.{MacrosHold};
 ghost use Rattle.dw_lines.specs.ViewTables.{TablesFound};
@@ -23,6 +24,7 @@ use crate::units::check_units;
 use dw_base::{Contribution, DebugSection, Fault, NameTable};
 use dw_lines::LineTable;
 use dw_macros::macro_units;
+use dw_units::Units;
 use dw_view::View;
 use std::alloc::Global;
 
@@ -56,18 +58,20 @@ fn macro_sections(alloc: Global, view: &View) -> Result<(), Fault>
 }
 
 /// The relocations of all sections of the view that are read are ones that may stand there: of its units, and of its string offsets, name
-/// tables, macro units and line tables. These were read: its contributions, name tables and line tables. Refused as `Relocation` where a
-/// relocation may not stand where it does, at that relocation, or at the offset that it gives no place; as the units or macro units of a
-/// section that has relocations are, where they can't be read; or for want of memory. Takes the time of reading the sections that have
-/// relocations; a section without any takes no time.
+/// tables, macro units and line tables. These were read: its units, contributions, name tables and line tables. Refused as `Relocation`
+/// where a relocation may not stand where it does, at that relocation, or at the offset that it gives no place; as an entry or the macro
+/// units of a section that has relocations are, where they can't be read; or for want of memory. Takes the time of reading the sections
+/// that have relocations; a section without any takes no time.
 #[tactic(auto, using(crate::proofs::FieldCheckLaws::check_rules))]
 pub fn check_fields(
     alloc: Global,
     view: &View,
+    units: &Units,
     contributions: &[Contribution],
     names: &[NameTable],
     lines: &[LineTable],
 ) -> Result<(), Fault>
+    requires units { ListsAll (debug_data view.now) units.now.tables ((debug_data view.now).found Info) units.now.units }
     requires contributions { AreContributions view.now.order (string_offsets view.now) contributions.now }
     requires names { AreNameTables view.now names.now }
     requires lines { TablesFound view.now lines.now }
@@ -78,6 +82,6 @@ pub fn check_fields(
     check_names(view, names)?;
     macro_sections(alloc, view)?;
     check_lines(alloc, view, lines)?;
-    check_units(alloc, view)?;
+    check_units(alloc, view, units)?;
     Ok(())
 }

@@ -93,10 +93,11 @@ use Rattle.dw_base.specs.declared.texts.TextSection.TheVariants.{InStr}
 use Rattle.dw_meaning.specs.DataOutput.{DataReads}
 use Rattle.dw_meaning.specs.RelocationFails.{LeftRelocationsRead}
 use Rattle.dw_fields.specs.FieldRefusals.{FieldsRefuse}
-use Rattle.dw_fields.specs.FieldRefusals.FieldsRefuse.{left as left_field, headers, table, entries, macros}
-use Rattle.dw_entries.specs.HeaderRows.HeadersRefuse.{units as header_units, offsets as header_offsets}
-use Rattle.dw_find.specs.UnitTexts.{data_fails, header_fails}
-use Rattle.dw_meaning.specs.DataFails.DataFails.{unit as unit_row, table as table_row, entries as entry_row}
+use Rattle.dw_fields.specs.FieldRefusals.FieldsRefuse.{left as left_field, entries, macros}
+use Rattle.dw_find.specs.UnitTexts.{data_fails}
+use Rattle.dw_units.specs.UnitLists.{UnitListFails}
+use Rattle.dw_find.proofs.UnitRowLaws.{list-refuses}
+use Rattle.dw_meaning.specs.DataFails.DataFails.{entries as entry_row}
 use Rattle.dw_find.proofs.MacroListLaws.{units-exclude}
 use Rattle.dw_meaning.proofs.LeftRowLaws.{values-left}
 
@@ -532,12 +533,14 @@ lie-marks v list marks are is =
     let size : length marks ≡ length (string_offsets v).bytes = ap (λ (l : List ℕ). length l) is ∙ length-replicate (length (string_offsets v).bytes) none in
     contributions-lie v.order (string_offsets v) list (length marks) are size
 
+-- units that aren't listed
+pub list-fault : (m : PathMap) (v : View) (f : Fault) → Blames (UnitListFails (debug_data v)) f → Blames (PathsRefuse m v) f
+list-fault m v NoMemory h = tt
+list-fault m v (Refused r) h = units (list-refuses (debug_data v) r h)
+
 -- a section that has relocations was read again: why it can't be is a row, but for macro units, which can be
 fields-row : (m : PathMap) (v : View) (ss : List SectionUnits) (r : Refusal) → UnitsFoundIn v ss → FieldsRefuse v r → PathsRefuse m v r
 fields-row m v ss r found (left_field f) = relocations f
-fields-row m v ss r found (headers before behind z split (header_units f)) = units (data_fails (unit_row z before behind split f))
-fields-row m v ss r found (headers before behind z split (header_offsets f)) = units (header_fails before behind z split f)
-fields-row m v ss r found (table z h u f) = units (data_fails (table_row z h u f))
 fields-row m v ss r found (entries z h list t f) = units (data_fails (entry_row z h list t f))
 fields-row m v ss r found (macros before behind z split f) = absurd (units-exclude v ss before behind z r found split f)
 
@@ -545,4 +548,4 @@ pub fields-fault : (m : PathMap) (v : View) (ss : List SectionUnits) (f : Fault)
 fields-fault m v ss NoMemory found h = tt
 fields-fault m v ss (Refused r) found h = fields-row m v ss r found h
 
-pub ruleset found_rules = (fields-fault, tables-named, units-in, contributions-fault, names-fault, units-fault, slots-fault, lie-marks)
+pub ruleset found_rules = (list-fault, fields-fault, tables-named, units-in, contributions-fault, names-fault, units-fault, slots-fault, lie-marks)

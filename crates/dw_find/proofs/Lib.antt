@@ -55,5 +55,4 @@ pub mod FoundUnitLaws
 pub mod MacroPathLaws
 pub mod NameHaveLaws
 pub mod FoundPathLaws
-pub mod SharedLaws
 pub mod ReadDataLaws

@@ -1,7 +1,6 @@
 -- The units of a view: what is known of one, and its rows.
-use Rattle.std.proofs.Common.{true, false, ◌≡◌, ℕ, ◌+◌, ◌<◌, List, length, get_or, Some, sym, ap, ◌∙◌, subst}
-use Rattle.dw_base.specs.AbbreviationFails.{AbbreviationFails}
-use Rattle.dw_base.specs.AbbreviationTables.{Abbreviation, IsTable}
+use Rattle.std.proofs.Common.{true, ◌≡◌, ℕ, ◌+◌, ◌-◌, ◌<◌, ◌≤◌, List, length, get_or, Some, sym, ap, ◌∙◌, subst, arith}
+use Rattle.dw_base.specs.AbbreviationTables.{Abbreviation}
 use Rattle.dw_meaning.specs.DataFails.DataFails.{unit as unit_fails, table as table_fails}
 use Rattle.dw_base.specs.Cells.{Cell}
 use Rattle.dw_base.specs.DebugData.{DebugData}
@@ -9,24 +8,26 @@ use Rattle.dw_base.specs.EntryValues.{HasUnit, bytes_up_to}
 use Rattle.dw_base.specs.FileViews.{View, view_cells}
 use Rattle.dw_base.specs.Refusals.{Blames}
 use Rattle.dw_base.specs.UnitHeaders.{UnitSection}
-use Rattle.dw_base.specs.UnitTables.{IsUnitTable, UnitTableFails, table_fails as row_fails}
+use Rattle.dw_base.specs.UnitTables.{IsUnitTable}
 use Rattle.dw_base.specs.ViewData.{debug_data, unit_sections}
 use Rattle.dw_base.specs.declared.debug_sections.DebugSection.TheVariants.{Info}
 use Rattle.dw_base.specs.declared.fault.Fault.{Fault}
-use Rattle.dw_base.specs.declared.fault.Fault.TheVariants.{NoMemory, Refused}
 use Rattle.dw_base.specs.declared.fault.Refusal.{Refusal}
 use Rattle.dw_base.specs.declared.units.UnitHeader.{UnitHeader}
 use Rattle.dw_entries.specs.Fronts.{IsOfView}
-use Rattle.dw_entries.specs.HeaderRows.{HeadersRefuse, offsets, units}
-use Rattle.dw_entries.specs.ViewUnits.{IsUnitSection, numbered, unit_base, unit_section_at}
+use Rattle.dw_entries.specs.ViewUnits.{IsUnitSection, numbered, unit_section_at}
 use Rattle.dw_entries.proofs.UnitSectionLaws.{is-of-view}
-use Rattle.dw_find.specs.EntryTexts.{Tables, TextTables, FoundTexts, none_found}
+use Rattle.dw_units.specs.UnitLists.{UnitListFails, Units, relocation as list_relocation, table as list_table, unit as list_unit}
+use Rattle.dw_units.specs.UnitStretches.{IsStretch, headers_of, stretch_of}
+use Rattle.dw_units.specs.declared.listed_unit.ListedUnit.{ListedUnit}
+use Rattle.dw_units.proofs.StretchLaws.{stretch-header, stretch-length}
+use Rattle.dw_find.specs.EntryTexts.{Tables, TextTables, FoundTexts, no_paths, none_found}
 use Rattle.dw_find.specs.NamedSlots.{Slots, TakesIndexes}
 use Rattle.dw_find.specs.TextPlaces.{base_source, number_said, said_placed}
-use Rattle.dw_find.specs.UnitTexts.{OneTaken, ScanTaken, UnitRefuses, UnitsRefuse, data_fails, header_fails, tables_of, texts_of}
+use Rattle.dw_find.specs.UnitTexts.{OneTaken, ScanTaken, SectionIndexed, UnitRefuses, UnitsRefuse, data_fails, header_fails, tables_of, texts_of}
 use Rattle.dw_base.proofs.HeaderOfLaws.{header-of}
 use Rattle.dw_find.proofs.RowLaws.{unit-row}
-use Rattle.dw_find.proofs.SectionTextLaws.{SectionPass, section-starts, section-more, section-ends, unit-there, Stands, stands-numbered}
+use Rattle.dw_find.proofs.SectionTextLaws.{SectionPass, section-starts, section-more, section-ends, unit-there}
 
 unit-section : (d : DebugData) (z : UnitSection) (h : UnitHeader) → HasUnit d z h → h.section ≡ z.number
 unit-section d z h u = (header-of d.base z u.start h u.is.header).section
@@ -49,20 +50,11 @@ tables-are v i t there same =
 pub section-within : (v : View) (i : ℕ) → IsUnitSection v i → i < length v.sections
 section-within v i there = (is-of-view v i there).there
 
--- a table that can't be read
-pub table-row : (d : DebugData) (z : UnitSection) (h : UnitHeader) (at : ℕ) (f : Fault) → HasUnit d z h → at ≡ h.abbrevs
-    → Blames (AbbreviationFails d.base.abbrevs.bytes d.base.abbrevs.number at) f → Blames (UnitsRefuse d) f
-table-row d z h at NoMemory u same b = tt
-table-row d z h at (Refused r) u same b =
-    data_fails (table_fails z h u (row_fails (subst (λ (n : ℕ). AbbreviationFails d.base.abbrevs.bytes d.base.abbrevs.number n r) same b)))
-
-pub elsewhere-row : (d : DebugData) (z : UnitSection) (h : UnitHeader) (r : Refusal) → HasUnit d z h → UnitTableFails d.base h r → UnitsRefuse d r
-elsewhere-row d z h r u f = data_fails (table_fails z h u f)
-
--- its own table
-pub unit-table : (d : DebugData) (h : UnitHeader) (at : ℕ) (table : List Abbreviation) → h.elsewhere ≡ false → at ≡ h.abbrevs → IsTable d.base.abbrevs.bytes at table
-    → IsUnitTable d.base h table
-unit-table d h at table here same is = record { here = here; is = subst (λ (n : ℕ). IsTable d.base.abbrevs.bytes n table) same is }
+-- units that aren't listed
+pub list-refuses : (d : DebugData) (r : Refusal) → UnitListFails d r → UnitsRefuse d r
+list-refuses d r (list_unit z before behind split f) = data_fails (unit_fails z before behind split f)
+list-refuses d r (list_relocation z before behind split f) = header_fails before behind z split f
+list-refuses d r (list_table z h u f) = data_fails (table_fails z h u f)
 
 -- a unit that can't be taken
 pub one-row : (d : DebugData) (z : UnitSection) (h : UnitHeader) (t : Tables) (table : List Abbreviation) (f : Fault) → HasUnit d z h → t ≡ tables_of d z
@@ -84,7 +76,7 @@ one-taken d z h t table old found new before now same declares s placed slots en
   ends = ends;
 }
 
-pub ruleset one_rules = (one-taken, elsewhere-row, unit-table)
+pub ruleset one_rules = (one-taken)
 
 -- the next unit of a section of a view, and its section
 own-unit : (v : View) (section : ℕ) (list : List UnitHeader) (i : ℕ) (found : FoundTexts) (first now : Slots) (h : UnitHeader) → IsUnitSection v section → i < length list
@@ -115,17 +107,6 @@ units-there v section list i found first now h there lt is p =
     let u : HasUnit (debug_data v) (unit_section_at v section) h = own-unit v section list i found first now h there lt is p in
     subst (λ (n : ℕ). HasUnit (debug_data v) (unit_section_at v n) h) (sym (own-section v section h there u)) u
 
--- the units of a section that can't be read
-pub section-row : (v : View) (section : ℕ) (f : Fault) → IsUnitSection v section → Blames (HeadersRefuse (unit_base v) (unit_section_at v section)) f
-    → Blames (UnitsRefuse (debug_data v)) f
-section-row v section NoMemory there b = tt
-section-row v section (Refused r) there b =
-    by_row (stands-numbered ((debug_data v).found Info) section (unit_section_at v section) (data-numbered v section (unit_section_at v section) there)) b
-  where
-    by_row : Stands ((debug_data v).found Info) (unit_section_at v section) → HeadersRefuse (unit_base v) (unit_section_at v section) r → UnitsRefuse (debug_data v) r
-    by_row s (units f) = data_fails (unit_fails (unit_section_at v section) s.before s.behind s.is f)
-    by_row s (offsets f) = header_fails s.before s.behind (unit_section_at v section) s.is f
-
 -- and its texts
 pub units-tables : (v : View) (section : ℕ) (list : List UnitHeader) (i : ℕ) (found : FoundTexts) (first now : Slots) (h : UnitHeader) (x : TextTables) (t : Tables) → IsUnitSection v section
     → i < length list → h ≡ get_or list i h → SectionPass (debug_data v) (unit_section_at v section) list i found first now → x ≡ texts_of (debug_data v)
@@ -135,6 +116,51 @@ units-tables v section list i found first now h x t there lt is p same made =
     let u : HasUnit (debug_data v) (unit_section_at v section) h = own-unit v section list i found first now h there lt is p in
     made ∙ tables-are v section x there same ∙ ap (λ (n : ℕ). tables_of (debug_data v) (unit_section_at v n)) (sym (own-section v section h there u))
 
-pub ruleset units_rules = (section-starts, section-ends, section-within)
+-- those of a stretch, by their numbers among all
+pub stretch-starts : (v : View) (section : ℕ) (us : Units) (first end : ℕ) (found : FoundTexts) (now : Slots) → IsUnitSection v section
+    → IsStretch (debug_data v) us (unit_section_at v section) first end → found ≡ none_found (no_paths section)
+    → SectionPass (debug_data v) (unit_section_at v section) (headers_of (stretch_of us.units first end)) (first - first) found now now
+stretch-starts v section us first end found now there s is =
+    let none : 0 ≡ first - first = omega arith in
+    subst (λ (k : ℕ). SectionPass (debug_data v) (unit_section_at v section) (headers_of (stretch_of us.units first end)) k found now now) none
+    (section-starts (debug_data v) (unit_section_at v section) (headers_of (stretch_of us.units first end)) found now s.offsets s.units
+    (is ∙ ap (λ (n : ℕ). none_found (no_paths n)) (sym (is-of-view v section there).number)))
 
-pub ruleset section_rules = (section-row)
+pub stretch-there : (v : View) (section : ℕ) (us : Units) (first end n : ℕ) (u : ListedUnit) (found : FoundTexts) (old now : Slots) → IsUnitSection v section
+    → IsStretch (debug_data v) us (unit_section_at v section) first end → first ≤ n → n < end → u ≡ get_or us.units n u
+    → SectionPass (debug_data v) (unit_section_at v section) (headers_of (stretch_of us.units first end)) (n - first) found old now
+    → HasUnit (debug_data v) (unit_section_at v u.header.section) u.header
+stretch-there v section us first end n u found old now there s from lt is p =
+    let size = stretch-length us.units first end s.rises s.inside in
+    units-there v section (headers_of (stretch_of us.units first end)) (n - first) found old now u.header there (omega (arith, size, from, lt)) (stretch-header us.units first end n u from lt is) p
+
+pub stretch-tables : (v : View) (section : ℕ) (us : Units) (first end n : ℕ) (u : ListedUnit) (found : FoundTexts) (old now : Slots) (x : TextTables) (t : Tables) → IsUnitSection v section
+    → IsStretch (debug_data v) us (unit_section_at v section) first end → first ≤ n → n < end → u ≡ get_or us.units n u
+    → SectionPass (debug_data v) (unit_section_at v section) (headers_of (stretch_of us.units first end)) (n - first) found old now → x ≡ texts_of (debug_data v)
+    → t ≡ record { order = v.order; number = section; cells = view_cells v section; str = x.str; line_str = x.line_str }
+    → t ≡ tables_of (debug_data v) (unit_section_at v u.header.section)
+stretch-tables v section us first end n u found old now x t there s from lt is p same made =
+    let size = stretch-length us.units first end s.rises s.inside in
+    units-tables v section (headers_of (stretch_of us.units first end)) (n - first) found old now u.header x t there (omega (arith, size, from, lt))
+    (stretch-header us.units first end n u from lt is) p same made
+
+pub stretch-more : (v : View) (section : ℕ) (us : Units) (first end n : ℕ) (u : ListedUnit) (found new : FoundTexts) (old now next_slots : Slots) → IsUnitSection v section
+    → IsStretch (debug_data v) us (unit_section_at v section) first end → first ≤ n → n < end → u ≡ get_or us.units n u
+    → SectionPass (debug_data v) (unit_section_at v section) (headers_of (stretch_of us.units first end)) (n - first) found old now
+    → OneTaken (debug_data v) (unit_section_at v u.header.section) u.header found new now next_slots
+    → SectionPass (debug_data v) (unit_section_at v section) (headers_of (stretch_of us.units first end)) (n + 1 - first) new old next_slots
+stretch-more v section us first end n u found new old now next_slots there s from lt is p one =
+    let size = stretch-length us.units first end s.rises s.inside in
+    let next : (n - first) + 1 ≡ n + 1 - first = omega (arith, from) in
+    subst (λ (k : ℕ). SectionPass (debug_data v) (unit_section_at v section) (headers_of (stretch_of us.units first end)) k new old next_slots) next
+    (units-more v section (headers_of (stretch_of us.units first end)) (n - first) found new old now next_slots u.header there (omega (arith, size, from, lt))
+    (stretch-header us.units first end n u from lt is) p one)
+
+pub stretch-ends : (v : View) (section : ℕ) (us : Units) (first end n : ℕ) (found : FoundTexts) (old now : Slots) → IsStretch (debug_data v) us (unit_section_at v section) first end
+    → end ≤ n → SectionPass (debug_data v) (unit_section_at v section) (headers_of (stretch_of us.units first end)) (n - first) found old now
+    → SectionIndexed (debug_data v) (unit_section_at v section) found.paths old now
+stretch-ends v section us first end n found old now s past p =
+    let size = stretch-length us.units first end s.rises s.inside in
+    section-ends (debug_data v) (unit_section_at v section) (headers_of (stretch_of us.units first end)) (n - first) found old now (omega (arith, size, past)) p
+
+pub ruleset units_rules = (section-within)

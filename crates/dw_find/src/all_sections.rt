@@ -5,6 +5,7 @@ ghost use Rattle.dw_base.specs.Refusals.{Blames};
 ghost use Rattle.dw_base.specs.ViewData.{debug_data};
 ghost use Rattle.dw_base.specs.declared.debug_sections.DebugSection.TheVariants.{Info};
 ghost use Rattle.dw_entries.specs.SectionOrder.{AreSections};
+ghost use Rattle.dw_units.specs.UnitLists.{ListsAll};
 ghost use Rattle.dw_find.specs.IndexedTexts.{TablesStart, TextsIndexed, TextsRefuse, UnitsStart};
 ghost use Rattle.dw_find.specs.NamedSlots.{no_slots};
 ghost use Rattle.dw_find.specs.NamedStarts.{AllStarts};
@@ -17,24 +18,26 @@ use crate::starts::all_start;
 use crate::unit_places::UnitPlaces;
 use dw_base::Fault;
 use dw_entries::unit_sections;
+use dw_units::{Units, stretch_end};
 use dw_view::View;
 use std::alloc::Global;
-use std::collections::HashMap;
 
 /// What the unit sections of the view say of paths; exactly the slots that their values name by index are
 /// marked, each value that is to say where a line table starts names one of these starts, and each that is to say where a
-/// macro unit starts one of these places. Refused where a unit of one can't be read or names no text, and behind the last
+/// macro unit starts one of these places. Refused where an entry can't be read or names no text, and behind the last
 /// unit as `StringTable`, at the first value by index that names no slot, or as `Stray`, at a value that names no line table
 /// or macro unit.
 #[tactic(auto, using(crate::proofs::IndexedLaws::whole_rules))]
 pub(crate) fn all_texts(
     alloc: Global,
     view: &View,
+    listed: &Units,
     tables: &TextTables,
     starts: &[u64],
     places: &UnitPlaces,
     slots: &mut NamedSlots,
 ) -> Result<Vec<SectionFields>, Fault>
+    requires listed { ListsAll (debug_data view.now) listed.now.tables ((debug_data view.now).found Info) listed.now.units }
     requires tables { tables.now ≡ texts_of (debug_data view.now) }
     requires none { slots.old ≡ no_slots slots.old.list (length slots.old.marks) }
     requires starts { TablesStart (debug_data view.now) starts.now }
@@ -44,7 +47,7 @@ pub(crate) fn all_texts(
     ensures starts { IfOk result (λ us. AllStarts (debug_data view.now) starts.now places.now ((debug_data view.now).found Info) us.items) }
     ensures refused { IfErr result (Blames (TextsRefuse (debug_data view.now) slots.old.list)) }
 {
-    let found = read_all(alloc, view, tables, slots)?;
+    let found = read_all(alloc, view, listed, tables, slots)?;
     if let Some(refusal) = slots.missing() {
         return Err(refusal.into());
     }
@@ -56,15 +59,17 @@ pub(crate) fn all_texts(
 fn read_all(
     alloc: Global,
     view: &View,
+    listed: &Units,
     tables: &TextTables,
     slots: &mut NamedSlots,
 ) -> Result<Vec<SectionFields>, Fault>
+    requires listed { ListsAll (debug_data view.now) listed.now.tables ((debug_data view.now).found Info) listed.now.units }
     requires tables { tables.now ≡ texts_of (debug_data view.now) }
     ensures taken { IfOk result (λ us. AllIndexed (debug_data view.now) ((debug_data view.now).found Info) us.items slots.old slots.new) }
     ensures refused { IfErr result (Blames (UnitsRefuse (debug_data view.now))) }
 {
     let sections = unit_sections(alloc, view)?;
-    read_sections(alloc, view, tables, sections.as_slice(), slots)
+    read_sections(alloc, view, listed, tables, sections.as_slice(), slots)
 }
 
 /// The same of the sections of these numbers, which are all unit sections of the view.
@@ -72,20 +77,25 @@ fn read_all(
 fn read_sections(
     alloc: Global,
     view: &View,
+    listed: &Units,
     tables: &TextTables,
     sections: &[u32],
     slots: &mut NamedSlots,
 ) -> Result<Vec<SectionFields>, Fault>
+    requires listed { ListsAll (debug_data view.now) listed.now.tables ((debug_data view.now).found Info) listed.now.units }
     requires tables { tables.now ≡ texts_of (debug_data view.now) }
     requires sections { AreSections view.now sections.now }
     ensures taken { IfOk result (λ us. AllIndexed (debug_data view.now) ((debug_data view.now).found Info) us.items slots.old slots.new) }
     ensures refused { IfErr result (Blames (UnitsRefuse (debug_data view.now))) }
 {
+    let list = listed.all();
+    let mut first = 0;
     let mut found = Vec::new(alloc);
-    let mut shared = HashMap::new(alloc);
     for section in sections {
-        let paths = section_texts(alloc, view, tables, *section, &mut shared, slots)?;
+        let end = stretch_end(list, *section, first);
+        let paths = section_texts(alloc, view, tables, *section, listed, first, end, slots)?;
         found.push(paths)?;
+        first = end;
     }
     Ok(found)
 }

@@ -9,7 +9,9 @@ ghost use Rattle.dw_base.specs.StringOffsets.{AreContributions};
 ghost use Rattle.dw_base.specs.ViewData.{debug_data, string_offsets};
 ghost use Rattle.dw_offsets.specs.NameFields.{fields_of_names};
 ghost use Rattle.dw_offsets.specs.PathSlots.{SlotsRefuse, slots_in};
+ghost use Rattle.dw_base.specs.declared.debug_sections.DebugSection.TheVariants.{Info};
 ghost use Rattle.dw_lines.specs.ViewTables.{TablesFound};
+ghost use Rattle.dw_units.specs.UnitLists.{ListsAll};
 ghost use Rattle.dw_find.specs.FoundPaths.{PathsFound, PathsRefuse, SlotsFound, UnitPathsRefuse, UnitsFound, UnitsNamed};
 ghost use Rattle.dw_find.specs.IndexedTexts.{TablesStart, TextsIndexed, UnitsStart};
 ghost use Rattle.dw_find.specs.MacroSections.{UnitsFoundIn};
@@ -34,6 +36,7 @@ use dw_offsets::{
     name_tables,
 };
 use dw_paths::Maps;
+use dw_units::{Units, read_units};
 use dw_view::View;
 use std::alloc::{AllocError, Global};
 
@@ -53,10 +56,31 @@ pub fn found_paths(
     ensures found { IfOk result (λ fields. PathsFound maps.now view.now fields tables.now) }
     ensures refused { IfErr result (Blames (PathsRefuse maps.now view.now)) }
 {
+    let units = read_units(alloc, view)?;
+    let fields = listed_paths(alloc, view, maps, &units, tables, macros)?;
+    Ok(fields)
+}
+
+/// The same, where the units are listed.
+#[tactic(auto, using(crate::proofs::FoundPathLaws::found_rules))]
+fn listed_paths(
+    alloc: Global,
+    view: &View,
+    maps: &Maps,
+    listed: &Units,
+    tables: &[LineTable],
+    macros: &[MacroSection],
+) -> Result<Fields, Fault>
+    requires listed { ListsAll (debug_data view.now) listed.now.tables ((debug_data view.now).found Info) listed.now.units }
+    requires tables { TablesFound view.now tables.now }
+    requires macros { UnitsFoundIn view.now macros.now }
+    ensures found { IfOk result (λ fields. PathsFound maps.now view.now fields tables.now) }
+    ensures refused { IfErr result (Blames (PathsRefuse maps.now view.now)) }
+{
     let list = contributions(alloc, view)?;
     let names = name_tables(alloc, view)?;
     let starts = starts_of(alloc, tables)?;
-    let (marks, units) = named_paths(alloc, view, maps, &list, starts.as_slice(), macros)?;
+    let (marks, units) = named_paths(alloc, view, maps, listed, &list, starts.as_slice(), macros)?;
     let mut slots = Vec::new(alloc);
     push_slots(alloc, view, maps, &list, &marks, &mut slots)?;
     let mut lines = Vec::new(alloc);
@@ -65,7 +89,8 @@ pub fn found_paths(
     push_macros(alloc, view, macros, &mut macro_fields)?;
     let mut name_texts = Vec::new(alloc);
     push_names(alloc, view, &names, &mut name_texts)?;
-    check_fields(alloc, view, list.as_slice(), names.as_slice(), tables)?;
+    let named = names.as_slice();
+    check_fields(alloc, view, listed, list.as_slice(), named, tables)?;
     let fields = Fields::new(units, slots, lines, macro_fields, name_texts);
     Ok(fields)
 }
@@ -77,10 +102,12 @@ fn named_paths(
     alloc: Global,
     view: &View,
     maps: &Maps,
+    listed: &Units,
     list: &ContributionList,
     starts: &[u64],
     macros: &[MacroSection],
 ) -> Result<(SlotMarks, Vec<SectionFields>), Fault>
+    requires listed { ListsAll (debug_data view.now) listed.now.tables ((debug_data view.now).found Info) listed.now.units }
     requires contributions { AreContributions view.now.order (string_offsets view.now) list.now }
     requires starts { TablesStart (debug_data view.now) starts.now }
     requires macros { UnitsFoundIn view.now macros.now }
@@ -90,7 +117,7 @@ fn named_paths(
     let marks = no_marks(alloc, view)?;
     let mut slots = NamedSlots::new(list, marks);
     let places = UnitPlaces::new(alloc, view, macros)?;
-    let paths = unit_paths(alloc, view, maps, starts, &places, &mut slots)?;
+    let paths = unit_paths(alloc, view, maps, listed, starts, &places, &mut slots)?;
     macros_name(view, starts, &places, macros)?;
     Ok((slots.marks, paths))
 }
@@ -117,10 +144,12 @@ fn unit_paths(
     alloc: Global,
     view: &View,
     maps: &Maps,
+    listed: &Units,
     starts: &[u64],
     places: &UnitPlaces,
     slots: &mut NamedSlots,
 ) -> Result<Vec<SectionFields>, Fault>
+    requires listed { ListsAll (debug_data view.now) listed.now.tables ((debug_data view.now).found Info) listed.now.units }
     requires none { slots.old ≡ no_slots slots.old.list (length slots.old.marks) }
     requires starts { TablesStart (debug_data view.now) starts.now }
     requires units { UnitsStart (debug_data view.now) places.now }
@@ -129,7 +158,7 @@ fn unit_paths(
     ensures refused { IfErr result (Blames (UnitPathsRefuse maps.now (debug_data view.now) slots.old.list)) }
 {
     let tables = text_tables(view);
-    let paths = all_texts(alloc, view, &tables, starts, places, slots)?;
+    let paths = all_texts(alloc, view, listed, &tables, starts, places, slots)?;
     all_rooms_fit(view, maps, paths.as_slice())?;
     Ok(paths)
 }

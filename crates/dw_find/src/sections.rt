@@ -2,16 +2,16 @@
 //!
 //! Read first: `specs/UnitTexts.antt`.
 
-ghost use Rattle.std.specs.Prelude.{◌≡◌, ◌<◌, true, nat_eq, length, IfErr, IfOk, OnOk, None};
-ghost use Rattle.std.specs.HashMap.{get};
+ghost use Rattle.std.specs.Prelude.{◌≡◌, ◌<◌, true, length, IfErr, IfOk, OnOk, None, Some};
 ghost use Rattle.dw_base.specs.EntryValues.{HasUnit};
 ghost use Rattle.dw_base.specs.FileViews.{section_bytes, view_cells};
 ghost use Rattle.dw_base.specs.Refusals.{Blames};
-ghost use Rattle.dw_base.specs.RelocationRows.{HeaderOffsetsRead};
-ghost use Rattle.dw_base.specs.UnitHeaders.{AreUnits};
+ghost use Rattle.dw_base.specs.LineMeanings.{item_at};
+ghost use Rattle.dw_base.specs.UnitTables.{IsUnitTable};
 ghost use Rattle.dw_base.specs.ViewData.{debug_data};
 ghost use Rattle.dw_entries.specs.ViewUnits.{IsUnitSection, unit_section_at};
-ghost use Rattle.dw_fields.specs.UnitPasses.{AreTables};
+ghost use Rattle.dw_units.specs.UnitLists.{IsListed};
+ghost use Rattle.dw_units.specs.UnitStretches.{IsStretch};
 ghost use Rattle.dw_find.specs.FieldOffsets.{BaseLies, BaseRefuses};
 ghost use Rattle.dw_find.specs.TextPlaces.{base_source, number_said, said_placed};
 ghost use Rattle.dw_find.specs.UnitTexts.{OneTaken, SectionIndexed, UnitsRefuse, tables_of, texts_of};
@@ -23,94 +23,89 @@ use crate::slots::NamedSlots;
 use crate::units::unit_texts;
 use dw_abbrev::AbbrevTable;
 use dw_base::{DebugSection, Fault, Refusal, UnitHeader};
-use dw_entries::{read_table, shared_units, table_offset};
+use dw_units::{ListedUnit, Units};
 use dw_view::View;
 use std::alloc::Global;
-use std::collections::HashMap;
 
-/// What the units of a unit section of the view say of paths. Refused where they can't be read, or name no
-/// text.
-#[tactic(auto, using(crate::proofs::UnitRowLaws::section_rules))]
+/// What the units of a unit section of the view say of paths, which are those from one number up to another. Refused where an entry of
+/// one can't be read, or names no text.
+#[tactic(auto, using(crate::proofs::UnitRowLaws::units_rules))]
 pub(crate) fn section_texts(
     alloc: Global,
     view: &View,
     tables: &TextTables,
     section: u32,
-    shared: &mut HashMap<u64, AbbrevTable>,
+    units: &Units,
+    first: usize,
+    end: usize,
     slots: &mut NamedSlots,
 ) -> Result<SectionFields, Fault>
     requires there { IsUnitSection view.now section }
     requires tables { tables.now ≡ texts_of (debug_data view.now) }
-    requires shared { AreTables (debug_data view.now) (λ at. get nat_eq shared.old at) }
-    ensures shared { OnOk result (AreTables (debug_data view.now) (λ at. get nat_eq shared.new at)) }
-    ensures taken { IfOk result (λ u. SectionIndexed (debug_data view.now) (unit_section_at view.now section) u slots.old slots.new) }
-    ensures refused { IfErr result (Blames (UnitsRefuse (debug_data view.now))) }
-{
-    let units = shared_units(alloc, view, section, shared)?;
-    units_texts(
-        alloc,
-        view,
-        tables,
-        section,
-        units.as_slice(),
-        shared,
-        slots,
-    )
-}
-
-/// The same, from the units of the section.
-#[tactic(auto, using(crate::proofs::UnitRowLaws::units_rules))]
-fn units_texts(
-    alloc: Global,
-    view: &View,
-    tables: &TextTables,
-    section: u32,
-    units: &[UnitHeader],
-    shared: &mut HashMap<u64, AbbrevTable>,
-    slots: &mut NamedSlots,
-) -> Result<SectionFields, Fault>
-    requires there { IsUnitSection view.now section }
-    requires tables { tables.now ≡ texts_of (debug_data view.now) }
-    requires shared { AreTables (debug_data view.now) (λ at. get nat_eq shared.old at) }
-    requires headers { HeaderOffsetsRead (debug_data view.now).base (unit_section_at view.now section) }
-    requires units { AreUnits (debug_data view.now).base (unit_section_at view.now section) units.now }
-    ensures shared { OnOk result (AreTables (debug_data view.now) (λ at. get nat_eq shared.new at)) }
+    requires stretch { IsStretch (debug_data view.now) units.now (unit_section_at view.now section) first end }
     ensures taken { IfOk result (λ u. SectionIndexed (debug_data view.now) (unit_section_at view.now section) u slots.old slots.new) }
     ensures refused { IfErr result (Blames (UnitsRefuse (debug_data view.now))) }
 {
     let texts = SectionTexts::new(view, section, tables);
+    let list = units.all();
     let mut found = FoundTexts::new(alloc, section);
-    for unit in units {
-        one_unit(alloc, view, &texts, unit, shared, &mut found, slots)?;
+    for number in first..end {
+        numbered_unit(
+            alloc,
+            view,
+            &texts,
+            units,
+            number,
+            &list[number],
+            &mut found,
+            slots,
+        )?;
     }
     Ok(found.paths)
 }
 
-/// Takes a unit of the view, with its table of abbreviations, which is kept for other units; what it says by
-/// index goes to the slots, and is forgotten.
+/// Takes the unit of a number, with its table of abbreviations.
 #[tactic(auto, using(crate::proofs::UnitRowLaws::one_rules))]
-fn one_unit(
+fn numbered_unit(
     alloc: Global,
     view: &View,
     texts: &SectionTexts,
+    units: &Units,
+    number: usize,
+    unit: &ListedUnit,
+    found: &mut FoundTexts,
+    slots: &mut NamedSlots,
+) -> Result<(), Fault>
+    requires unit { HasUnit (debug_data view.now) (unit_section_at view.now unit.now.header.section) unit.now.header }
+    requires there { item_at units.now.units number ≡ Some unit.now }
+    requires listed { IsListed (debug_data view.now) units.now.tables unit.now.header unit.now }
+    requires texts { texts.now ≡ tables_of (debug_data view.now) (unit_section_at view.now unit.now.header.section) }
+    requires none { found.old.base ≡ None }
+    ensures taken { OnOk result (OneTaken (debug_data view.now) (unit_section_at view.now unit.now.header.section) unit.now.header found.old found.new slots.old slots.new) }
+    ensures refused { IfErr result (Blames (UnitsRefuse (debug_data view.now))) }
+{
+    let table = units.table(alloc, number)?;
+    one_unit(view, texts, &unit.header, table.get(), found, slots)?;
+    Ok(())
+}
+
+/// Takes a unit of the view; what it says by index goes to the slots, and is forgotten.
+#[tactic(auto, using(crate::proofs::UnitRowLaws::one_rules))]
+fn one_unit(
+    view: &View,
+    texts: &SectionTexts,
     unit: &UnitHeader,
-    shared: &mut HashMap<u64, AbbrevTable>,
+    table: &AbbrevTable,
     found: &mut FoundTexts,
     slots: &mut NamedSlots,
 ) -> Result<(), Fault>
     requires unit { HasUnit (debug_data view.now) (unit_section_at view.now unit.now.section) unit.now }
+    requires table { IsUnitTable (debug_data view.now).base unit.now table.now }
     requires texts { texts.now ≡ tables_of (debug_data view.now) (unit_section_at view.now unit.now.section) }
     requires none { found.old.base ≡ None }
-    requires shared { AreTables (debug_data view.now) (λ at. get nat_eq shared.old at) }
-    ensures shared { OnOk result (AreTables (debug_data view.now) (λ at. get nat_eq shared.new at)) }
     ensures taken { OnOk result (OneTaken (debug_data view.now) (unit_section_at view.now unit.now.section) unit.now found.old found.new slots.old slots.new) }
     ensures refused { IfErr result (Blames (UnitsRefuse (debug_data view.now))) }
 {
-    let at = table_offset(view, unit)?;
-    read_table(alloc, view, at, shared)?;
-    let Some(table) = shared.get(&at) else {
-        unreachable!()
-    };
     unit_texts(view, texts, unit, table, found)?;
     let base = base_number(view, unit.section, found.base)?;
     slots.take(unit.section, base, found.indexes.as_slice());

@@ -1,16 +1,13 @@
 -- The units of a view: their tables of abbreviations, their paths one after another, and their rows.
-use Rattle.std.proofs.Common.{Bool, true, false, ◌≡◌, ℕ, suc, ◌+◌, ◌≤◌, ◌<◌, ◌==◌, List, [], ◌∷◌, ◌++◌, length, map, take, drop, get_or, cond, Option, Some, None, refl, sym, ap, ◌∙◌, subst, arith, append_assoc, append-nil}
+use Rattle.std.proofs.Common.{Bool, true, false, ◌≡◌, ℕ, suc, ◌+◌, ◌-◌, ◌≤◌, ◌<◌, ◌==◌, List, [], ◌∷◌, ◌++◌, length, map, take, drop, get_or, cond, Option, Some, refl, sym, ap, ◌∙◌, subst, arith, append_assoc, append-nil}
 use Rattle.std.proofs.Math.Seq.{take-suc, drop-cons}
-use Rattle.std.proofs.lemmas.List.{drop_all, length-take, take_all}
-use Rattle.dw_base.specs.AbbreviationFails.{AbbreviationFails}
+use Rattle.std.proofs.lemmas.List.{drop_all, length-take}
 use Rattle.dw_base.specs.AbbreviationTables.{Abbreviation, IsTable}
 use Rattle.dw_base.specs.DebugData.{DebugData}
 use Rattle.dw_base.specs.EntryValues.{HasUnit, bytes_up_to}
 use Rattle.dw_base.specs.FileViews.{View, section_bytes}
 use Rattle.dw_base.specs.LineTables.{LineTable}
 use Rattle.dw_base.specs.Refusals.{Blames}
-use Rattle.dw_base.specs.RelocationRows.{HeaderOffsetsRead}
-use Rattle.dw_base.specs.UnitTables.{UnitTableFails, table_fails}
 use Rattle.dw_base.specs.UnitHeaders.{UnitBase, UnitSection, IsUnit, UnitsUpTo, no_units, more_units, AreUnits}
 use Rattle.dw_base.specs.ViewData.{debug_data, unit_sections}
 use Rattle.dw_base.specs.declared.fault.Fault.{Fault}
@@ -21,36 +18,42 @@ use Rattle.dw_base.specs.declared.units.UnitHeader.{UnitHeader}
 use Rattle.dw_base.proofs.AbbreviationLaws.{table-found}
 use Rattle.dw_base.specs.declared.debug_sections.DebugSection.TheVariants.{Info}
 use Rattle.dw_entries.specs.Fronts.{IsOfView}
-use Rattle.dw_entries.specs.HeaderRows.{HeadersRefuse, units as units_refuse, offsets as offsets_refuse}
 use Rattle.dw_entries.specs.SectionOrder.{AreSections}
-use Rattle.dw_entries.specs.ViewUnits.{IsUnitSection, numbered, unit_base, unit_section_at}
+use Rattle.dw_entries.specs.ViewUnits.{IsUnitSection, numbered, unit_section_at}
 use Rattle.dw_entries.proofs.HasUnitLaws.{numbered-section, unit-section, unit-bytes}
 use Rattle.dw_entries.proofs.SectionListLaws.{sections-next, sections-whole}
 use Rattle.dw_entries.proofs.UnitSectionLaws.{is-of-view, of-view}
+use Rattle.dw_units.specs.UnitLists.{AreListed, UnitListFails, Units, unit as list_unit, relocation as list_relocation, table as list_table}
+use Rattle.dw_units.specs.UnitStretches.{IsStretch, headers_of, stretch_of}
+use Rattle.dw_units.specs.declared.listed_unit.ListedUnit.{ListedUnit}
+use Rattle.dw_units.proofs.StretchLaws.{stretch-header, stretch-length}
 use Rattle.dw_sources.specs.KeptNames.{with_paths}
 use Rattle.dw_sources.specs.RootValues.{root_at}
 use Rattle.dw_sources.specs.declared.roots.Root.{Root}
-use Rattle.dw_sources.specs.Sources.{AreShared, AddsSection, AddsSections, EachTable, EachUnits, HasAbbreviations, HasUnits, SourcesFail, unit as unit_fails, relocation, table as unit_table, section_paths, sections_paths}
+use Rattle.dw_sources.specs.Sources.{AddsSection, AddsSections, EachTable, EachUnits, HasAbbreviations, HasUnits, SourcesFail, unit as unit_fails, relocation, table as unit_table, section_paths, sections_paths}
 use Rattle.dw_sources.specs.UnitPaths.{root_paths, unit_paths}
 use Rattle.dw_sources.proofs.PathLaws.{paths-append}
 
--- tables that are kept: none at first, and one more
-pub none-shared : (d : DebugData) (shared : ℕ → Option (List Abbreviation)) → ((at : ℕ) → shared at ≡ None) → AreShared d shared
-none-shared d shared none = record { each = λ (at : ℕ) (table : List Abbreviation) e. (let gone : None ≡ Some table = sym (none at) ∙ e in absurd cc) }
+-- units that aren't listed
+list-refuses : (d : DebugData) (r : Refusal) → UnitListFails d r → SourcesFail d r
+list-refuses d r (list_unit z before behind split f) = unit_fails z before behind split f
+list-refuses d r (list_relocation z before behind split f) = relocation z before behind split f
+list-refuses d r (list_table z h u f) = unit_table z h u f
 
-shared-there : (d : DebugData) (shared : ℕ → Option (List Abbreviation)) (at : ℕ) (table : List Abbreviation) → AreShared d shared → Some table ≡ shared at
-    → IsTable d.base.abbrevs.bytes at table
-shared-there d shared at table are e = are.each at table (sym e)
+pub list-row : (d : DebugData) (f : Fault) → Blames (UnitListFails d) f → Blames (SourcesFail d) f
+list-row d NoMemory b = tt
+list-row d (Refused r) b = list-refuses d r b
 
-pub shared-own : (d : DebugData) (shared : ℕ → Option (List Abbreviation)) (at abbrevs : ℕ) (table : List Abbreviation) → AreShared d shared → Some table ≡ shared at
-    → at ≡ abbrevs → IsTable d.base.abbrevs.bytes abbrevs table
-shared-own d shared at abbrevs table are e same = subst (λ (n : ℕ). IsTable d.base.abbrevs.bytes n table) same (shared-there d shared at table are e)
+pub ruleset list_rules = (list-row)
 
-pub own-table : (d : DebugData) (shared : ℕ → Option (List Abbreviation)) (at : ℕ) (h : UnitHeader) (table : List Abbreviation) → AreShared d shared
-    → Some table ≡ shared at → at ≡ h.abbrevs → h.elsewhere ≡ false → HasAbbreviations d h
-own-table d shared at h table are e same there =
-    let t = shared-own d shared at h.abbrevs table are e same in
-    record { here = there; is = subst (IsTable d.base.abbrevs.bytes h.abbrevs) (sym (table-found d.base.abbrevs.bytes h.abbrevs table t)) t }
+-- units that are listed have their tables
+own-table : (d : DebugData) (h : UnitHeader) (table : List Abbreviation) → h.elsewhere ≡ false → IsTable d.base.abbrevs.bytes h.abbrevs table → HasAbbreviations d h
+own-table d h table here t = record { here = here; is = subst (IsTable d.base.abbrevs.bytes h.abbrevs) (sym (table-found d.base.abbrevs.bytes h.abbrevs table t)) t }
+
+each-listed : (d : DebugData) (tables : List (List Abbreviation)) (hs : List UnitHeader) (us : List ListedUnit) → AreListed d tables hs us → EachTable d hs
+each-listed d tables [] us l = tt
+each-listed d tables (h ∷ hs) [] l = absurd l
+each-listed d tables (h ∷ hs) (u ∷ us) l = (own-table d h l.0.table.table l.0.here l.0.table.declares, each-listed d tables hs us l.1)
 
 -- a unit's bytes up to its end, and its paths
 pub unit-added : (v : View) (list : List Contribution) (tables : ℕ → Option LineTable) (fronts : List (List ℕ)) (h : UnitHeader) (abbrevs : List Abbreviation) (bs : List ℕ) (root : Root)
@@ -82,19 +85,6 @@ unit-front v section end bytes is =
     let size = length-take end bytes in
     let whole : length bytes ≡ length (section_bytes v section) = ap length is in
     omega (arith, size, whole)
-
--- a table of abbreviations that can't be read
-pub table-row : (d : DebugData) (z : UnitSection) (h : UnitHeader) (at : ℕ) (f : Fault) → at ≡ h.abbrevs → HasUnit d z h
-    → Blames (AbbreviationFails d.base.abbrevs.bytes d.base.abbrevs.number at) f → Blames (SourcesFail d) f
-table-row d z h at NoMemory same u b = tt
-table-row d z h at (Refused r) same u b =
-    unit_table z h u (table_fails (subst (λ (n : ℕ). AbbreviationFails d.base.abbrevs.bytes d.base.abbrevs.number n r) same b))
-
--- or that lies elsewhere
-pub elsewhere-row : (d : DebugData) (z : UnitSection) (h : UnitHeader) (r : Refusal) → HasUnit d z h → UnitTableFails d.base h r → SourcesFail d r
-elsewhere-row d z h r u f = unit_table z h u f
-
-pub ruleset one_rules = (shared-own, own-table, elsewhere-row)
 
 -- the units of a section from a place on, front first
 abbrev pub UnitsFrom : UnitBase → UnitSection → ℕ → List UnitHeader → ℕ → Type 0
@@ -136,7 +126,6 @@ pub record UnitsPass (v : View) (list : List Contribution) (tables : ℕ → Opt
   pub start : ℕ
   pub before : UnitsUpTo (debug_data v).base (unit_section_at v section) (take i hs) start
   pub rest : UnitsFrom (debug_data v).base (unit_section_at v section) start (drop i hs) (length (unit_section_at v section).contents)
-  pub declared : EachTable (debug_data v) (take i hs)
   pub same : with_paths fronts now (section_paths (debug_data v) list tables (unit_section_at v section) (drop i hs))
       ≡ with_paths fronts old (section_paths (debug_data v) list tables (unit_section_at v section) hs)
 
@@ -147,7 +136,6 @@ units-start v list tables fronts section hs old units = record {
   before = no_units;
   rest = subst (λ (xs : List UnitHeader). UnitsFrom (debug_data v).base (unit_section_at v section) 0 xs (length (unit_section_at v section).contents)) (append-nil hs)
       (from-upto (debug_data v).base (unit_section_at v section) hs (length (unit_section_at v section).contents) [] (length (unit_section_at v section).contents) units refl);
-  declared = tt;
   same = refl;
 }
 
@@ -193,15 +181,11 @@ units-there v list tables fronts section hs i old now h there lt is p =
     let u : HasUnit (debug_data v) (unit_section_at v section) h = own-unit v list tables fronts section hs i old now h there lt is p in
     subst (λ (n : ℕ). HasUnit (debug_data v) (unit_section_at v n) h) (sym (own-section v section h there u)) u
 
-each-table-append : (d : DebugData) (hs : List UnitHeader) (h : UnitHeader) → EachTable d hs → HasAbbreviations d h → EachTable d (hs ++ h ∷ [])
-each-table-append d [] h all one = (one, tt)
-each-table-append d (x ∷ xs) h all one = (all.0, each-table-append d xs h all.1 one)
-
 pub units-more : (v : View) (list : List Contribution) (tables : ℕ → Option LineTable) (fronts : List (List ℕ)) (section : ℕ) (hs : List UnitHeader) (i : ℕ) (old now new : List (List ℕ))
     (h : UnitHeader) → IsUnitSection v section → i < length hs → h ≡ get_or hs i h → UnitsPass v list tables fronts section hs i old now
-    → new ≡ with_paths fronts now (unit_paths (debug_data v) list tables (unit_section_at v h.section) h) → HasAbbreviations (debug_data v) h
+    → new ≡ with_paths fronts now (unit_paths (debug_data v) list tables (unit_section_at v h.section) h)
     → UnitsPass v list tables fronts section hs (i + 1) old new
-units-more v list tables fronts section hs i old now new h there lt is p e own_table =
+units-more v list tables fronts section hs i old now new h there lt is p e =
     let z : UnitSection = unit_section_at v section in
     let u : HasUnit (debug_data v) (unit_section_at v section) h = own-unit v list tables fronts section hs i old now h there lt is p in
     let next = next-unit v list tables fronts section hs i old now h lt is p in
@@ -212,7 +196,6 @@ units-more v list tables fronts section hs i old now new h there lt is p e own_t
       before = subst (λ (xs : List UnitHeader). UnitsUpTo (debug_data v).base (unit_section_at v section) xs h.end) (sym (behind-of hs h i lt is))
           (more_units (take i hs) h p.start p.before next.0);
       rest = next.1;
-      declared = subst (EachTable (debug_data v)) (sym (behind-of hs h i lt is)) (each-table-append (debug_data v) (take i hs) h p.declared own_table);
       same =
           ap (λ (ns : List (List ℕ)). with_paths fronts ns (section_paths (debug_data v) list tables (unit_section_at v section) (drop (i + 1) hs))) own
           ∙ sym (paths-append fronts now (unit_paths (debug_data v) list tables (unit_section_at v section) h)
@@ -226,35 +209,53 @@ pub units-end : (v : View) (list : List Contribution) (tables : ℕ → Option L
 units-end v list tables fronts section hs i old now end p =
     ap (λ (xs : List UnitHeader). with_paths fronts now (section_paths (debug_data v) list tables (unit_section_at v section) xs)) (sym (drop_all i hs end)) ∙ p.same
 
-pub units-tables : (v : View) (list : List Contribution) (tables : ℕ → Option LineTable) (fronts : List (List ℕ)) (section : ℕ) (hs : List UnitHeader) (i : ℕ) (old now : List (List ℕ))
-    → UnitsPass v list tables fronts section hs i old now → length hs ≤ i → EachTable (debug_data v) hs
-units-tables v list tables fronts section hs i old now p end = subst (EachTable (debug_data v)) (take_all i hs end) p.declared
+-- those of a stretch, by their numbers among all
+pub stretch-start : (v : View) (list : List Contribution) (tables : ℕ → Option LineTable) (fronts : List (List ℕ)) (section : ℕ) (us : Units) (first end : ℕ) (old : List (List ℕ))
+    → IsStretch (debug_data v) us (unit_section_at v section) first end
+    → UnitsPass v list tables fronts section (headers_of (stretch_of us.units first end)) (first - first) old old
+stretch-start v list tables fronts section us first end old s =
+    let none : 0 ≡ first - first = omega arith in
+    subst (λ (k : ℕ). UnitsPass v list tables fronts section (headers_of (stretch_of us.units first end)) k old old) none
+    (units-start v list tables fronts section (headers_of (stretch_of us.units first end)) old s.units)
 
-pub ruleset units_rules = (units-start, units-end, units-tables)
+pub stretch-there : (v : View) (list : List Contribution) (tables : ℕ → Option LineTable) (fronts : List (List ℕ)) (section : ℕ) (us : Units) (first end n : ℕ) (u : ListedUnit)
+    (old now : List (List ℕ)) → IsUnitSection v section → IsStretch (debug_data v) us (unit_section_at v section) first end → first ≤ n → n < end → u ≡ get_or us.units n u
+    → UnitsPass v list tables fronts section (headers_of (stretch_of us.units first end)) (n - first) old now
+    → HasUnit (debug_data v) (unit_section_at v u.header.section) u.header
+stretch-there v list tables fronts section us first end n u old now there s from lt is p =
+    let size = stretch-length us.units first end s.rises s.inside in
+    units-there v list tables fronts section (headers_of (stretch_of us.units first end)) (n - first) old now u.header there (omega (arith, size, from, lt))
+    (stretch-header us.units first end n u from lt is) p
 
--- the units of a section that can't be read
-headers-row : (d : DebugData) (z : UnitSection) (before behind : List UnitSection) (r : Refusal) → d.found Info ≡ before ++ z ∷ behind → HeadersRefuse d.base z r
-    → SourcesFail d r
-headers-row d z before behind r split (units_refuse f) = unit_fails z before behind split f
-headers-row d z before behind r split (offsets_refuse f) = relocation z before behind split f
+pub stretch-more : (v : View) (list : List Contribution) (tables : ℕ → Option LineTable) (fronts : List (List ℕ)) (section : ℕ) (us : Units) (first end n : ℕ) (u : ListedUnit)
+    (old now new : List (List ℕ)) → IsUnitSection v section → IsStretch (debug_data v) us (unit_section_at v section) first end → first ≤ n → n < end → u ≡ get_or us.units n u
+    → UnitsPass v list tables fronts section (headers_of (stretch_of us.units first end)) (n - first) old now
+    → new ≡ with_paths fronts now (unit_paths (debug_data v) list tables (unit_section_at v u.header.section) u.header)
+    → UnitsPass v list tables fronts section (headers_of (stretch_of us.units first end)) (n + 1 - first) old new
+stretch-more v list tables fronts section us first end n u old now new there s from lt is p e =
+    let size = stretch-length us.units first end s.rises s.inside in
+    let next : (n - first) + 1 ≡ n + 1 - first = omega (arith, from) in
+    subst (λ (k : ℕ). UnitsPass v list tables fronts section (headers_of (stretch_of us.units first end)) k old new) next
+    (units-more v list tables fronts section (headers_of (stretch_of us.units first end)) (n - first) old now new u.header there (omega (arith, size, from, lt))
+    (stretch-header us.units first end n u from lt is) p e)
 
-pub section-row : (v : View) (section : ℕ) (f : Fault) → IsUnitSection v section → Blames (HeadersRefuse (unit_base v) (unit_section_at v section)) f
-    → Blames (SourcesFail (debug_data v)) f
-section-row v section NoMemory there b = tt
-section-row v section (Refused r) there b =
-    let s : Stands ((debug_data v).found Info) (unit_section_at v section) = stands-section v section there in
-    headers-row (debug_data v) (unit_section_at v section) s.before s.behind r s.is b
+pub stretch-added : (v : View) (list : List Contribution) (tables : ℕ → Option LineTable) (fronts : List (List ℕ)) (section : ℕ) (us : Units) (first end n : ℕ) (old now : List (List ℕ))
+    → IsStretch (debug_data v) us (unit_section_at v section) first end → end ≤ n
+    → UnitsPass v list tables fronts section (headers_of (stretch_of us.units first end)) (n - first) old now
+    → AddsSection (debug_data v) list tables fronts (unit_section_at v section) old now
+stretch-added v list tables fronts section us first end n old now s past p =
+    let size = stretch-length us.units first end s.rises s.inside in
+    record {
+      headers = headers_of (stretch_of us.units first end);
+      units = record {
+        units = s.units;
+        offsets = s.offsets;
+        tables = each-listed (debug_data v) us.tables (headers_of (stretch_of us.units first end)) (stretch_of us.units first end) s.listed;
+      };
+      added = units-end v list tables fronts section (headers_of (stretch_of us.units first end)) (n - first) old now (omega (arith, size, past)) p;
+    }
 
-pub section-added : (d : DebugData) (list : List Contribution) (tables : ℕ → Option LineTable) (fronts : List (List ℕ)) (z : UnitSection) (hs : List UnitHeader)
-    (old new : List (List ℕ)) → AreUnits d.base z hs → HeaderOffsetsRead d.base z → EachTable d hs → new ≡ with_paths fronts old (section_paths d list tables z hs)
-    → AddsSection d list tables fronts z old new
-section-added d list tables fronts z hs old new are read each e = record {
-  headers = hs;
-  units = record { units = are; offsets = read; tables = each };
-  added = e;
-}
-
-pub ruleset section_rules = (section-row, section-added)
+pub ruleset units_rules = (stretch-start)
 
 -- the sections so far: none at first
 pub sections-start : (v : View) (list : List Contribution) (tables : ℕ → Option LineTable) (fronts : List (List ℕ)) (numbers : List ℕ) (old : List (List ℕ))
@@ -303,4 +304,4 @@ pub sections-end : (v : View) (list : List Contribution) (tables : ℕ → Optio
 sections-end v list tables fronts numbers i old now end are p =
     subst (λ (zs : List UnitSection). AddsSections (debug_data v) list tables fronts zs old now) (sections-whole v numbers i are end) p
 
-pub ruleset all_rules = (none-shared, sections-start, sections-end)
+pub ruleset all_rules = (sections-start, sections-end)

@@ -1,8 +1,6 @@
 -- The sources of debug data: the names of the paths that all units name. This project's profile.
 use Rattle.std.specs.Prelude.{◌≡◌, ℕ, ◌==◌, if◌then◌else◌, Option, Some, None, List, [], ◌∷◌, ◌++◌, ⊤}
 use Rattle.dw_base.specs.AbbreviationBytes.{abbreviations_at}
-use Rattle.dw_abbrev.specs.Kept.{AreKept as AreKeptTables}
-use Rattle.dw_base.specs.AbbreviationTables.{Abbreviation}
 use Rattle.dw_base.specs.Cells.{located_cells}
 use Rattle.dw_base.specs.DebugData.{DebugData, DataReadings, line_source}
 use Rattle.dw_base.specs.EntryValues.{HasUnit}
@@ -96,10 +94,6 @@ pub record AreKept (d : DebugData) (tables : ℕ → Option LineTable) : Type 0 
   pub readings : List LineReading
   pub reads : AreTables (line_source d) readings
   pub kept : (n : ℕ) → tables n ≡ started_table (line_source d) readings n
-
--- tables of abbreviations that are kept by their offsets are those of the debug data
-abbrev pub AreShared : DebugData → (ℕ → Option (List Abbreviation)) → Type 0
-AreShared d shared = AreKeptTables d.base.abbrevs.bytes shared
 
 -- the paths of the units of a section, or of sections, are added to names
 pub record AddsSection (d : DebugData) (list : List Contribution) (tables : ℕ → Option LineTable) (fronts : List (List ℕ)) (z : UnitSection) (old new : List (List ℕ)) : Type 0 where

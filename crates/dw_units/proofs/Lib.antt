@@ -1,4 +1,6 @@
 pub mod UnitTableLaws
+pub mod StretchLaws
+pub mod RestLaws
 pub mod PlacedLaws
 pub mod KnownLaws
 pub mod HeaderListLaws

@@ -21,11 +21,13 @@ mod listed_unit;
 mod placed_table;
 mod reading;
 mod section_headers;
+mod stretches;
 mod unit_table;
 mod units;
 
 pub use dw_base::{Fault, NoMemory, UnitHeader};
 pub use listed_unit::ListedUnit;
 pub use reading::read_units;
+pub use stretches::stretch_end;
 pub use unit_table::UnitTable;
 pub use units::Units;

@@ -1,35 +1,53 @@
 -- The next unit of the section, and one more.
-use Rattle.std.proofs.Common.{arith}
+use Rattle.std.proofs.Common.{◌∙◌, List, ap, arith, length, sym}
 use Rattle.std.proofs.lemmas.List.{get_or_default}
-use Rattle.dw_fields.proofs.UnitListLaws.{next-has, next-stands, units-end, units-more, units-start}
+use Rattle.dw_base.specs.LineMeanings.{item_at}
+use Rattle.dw_base.specs.ViewData.{debug_data}
+use Rattle.dw_entries.specs.ViewUnits.{unit_section_at}
+use Rattle.dw_units.specs.declared.listed_unit.ListedUnit.{ListedUnit}
+use Rattle.dw_units.proofs.StretchLaws.{lent-unit, stretch-listed}
+use Rattle.dw_units.proofs.UnitTableLaws.{unit-listed}
+use Rattle.dw_fields.proofs.UnitListLaws.{stretch-has, stretch-more, stretch-over, stretch-stands, stretch-start}
 use Rattle.dw_fields.proofs.units.pass_units.Goals as goal
 
-pub loop-unit-init : goal.loop-unit-init
-loop-unit-init c = record {
-  passed = units-start c.args.view.now c.args.section c.args.units.now c.args.pass c.requires.units c.requires.stands;
-  shared = c.requires.shared;
-}
+pub loop-number-init : goal.loop-number-init
+loop-number-init c = stretch-start c.args.view.now c.args.section c.args.units.now c.args.first c.args.end c.args.pass c.requires.stretch c.requires.stands
 
 pub pass_one-requires-clause-unit : goal.pass_one-requires-clause-unit
 pass_one-requires-clause-unit c =
-    next-has c.args.view.now c.args.section c.args.units.now _ c.loop-unit.unit-index c.args.pass c.loop-unit.now c.requires.there (omega arith)
-    (get_or_default c.args.units.now c.loop-unit.unit-index _ _ (omega arith)) c.loop-unit.invariant.passed
+    let inside = c.requires.stretch.inside in
+    stretch-has c.args.view.now c.args.section c.args.units.now c.args.first c.args.end c.loop-number.number _ c.args.pass c.loop-number.now
+    c.requires.there c.requires.stretch (omega arith) (omega arith) (lent-unit c.all-list.result.now c.args.units.now.units c.loop-number.number _ c.all-list.ensures.units
+    (get_or_default c.all-list.result.now c.loop-number.number _ _ (omega (arith, inside, ap (λ (us : List ListedUnit). length us) c.all-list.ensures.units)))) c.loop-number.invariant
+
+pub pass_one-requires-clause-there : goal.pass_one-requires-clause-there
+pass_one-requires-clause-there c =
+    let inside = c.requires.stretch.inside in
+    ap (λ (u : List ListedUnit). item_at u c.loop-number.number) (sym c.all-list.ensures.units)
+    ∙ unit-listed c.all-list.result.now c.loop-number.number _ (omega (arith, inside, ap (λ (us : List ListedUnit). length us) c.all-list.ensures.units))
+
+pub pass_one-requires-clause-listed : goal.pass_one-requires-clause-listed
+pass_one-requires-clause-listed c =
+    let inside = c.requires.stretch.inside in
+    stretch-listed (debug_data c.args.view.now) c.args.units.now (unit_section_at c.args.view.now c.args.section) c.args.first c.args.end c.loop-number.number
+    _ c.requires.stretch (omega arith) (omega arith) (lent-unit c.all-list.result.now c.args.units.now.units c.loop-number.number _ c.all-list.ensures.units
+    (get_or_default c.all-list.result.now c.loop-number.number _ _ (omega (arith, inside, ap (λ (us : List ListedUnit). length us) c.all-list.ensures.units))))
 
 pub pass_one-requires-clause-stands : goal.pass_one-requires-clause-stands
 pass_one-requires-clause-stands c =
-    next-stands c.args.view.now c.args.section c.args.units.now _ c.loop-unit.unit-index c.args.pass c.loop-unit.now c.requires.there (omega arith)
-    (get_or_default c.args.units.now c.loop-unit.unit-index _ _ (omega arith)) c.loop-unit.invariant.passed
+    let inside = c.requires.stretch.inside in
+    stretch-stands c.args.view.now c.args.section c.args.units.now c.args.first c.args.end c.loop-number.number _ c.args.pass c.loop-number.now
+    c.requires.there c.requires.stretch (omega arith) (omega arith) (lent-unit c.all-list.result.now c.args.units.now.units c.loop-number.number _ c.all-list.ensures.units
+    (get_or_default c.all-list.result.now c.loop-number.number _ _ (omega (arith, inside, ap (λ (us : List ListedUnit). length us) c.all-list.ensures.units)))) c.loop-number.invariant
 
-pub pass_one-requires-clause-shared : goal.pass_one-requires-clause-shared
-pass_one-requires-clause-shared c = c.loop-unit.invariant.shared
-
-pub loop-unit-preserved : goal.loop-unit-preserved
-loop-unit-preserved c = record {
-  passed = units-more c.args.view.now c.args.section c.args.units.now _ c.loop-unit.unit-index c.args.pass c.loop-unit.now c.in_ok-now.now c.requires.there (omega arith)
-      (get_or_default c.args.units.now c.loop-unit.unit-index _ _ (omega arith)) c.loop-unit.invariant.passed c.in_ok-now.ensures.passed;
-  shared = c.in_ok-now.ensures.shared;
-}
+pub loop-number-preserved : goal.loop-number-preserved
+loop-number-preserved c =
+    let inside = c.requires.stretch.inside in
+    stretch-more c.args.view.now c.args.section c.args.units.now c.args.first c.args.end c.loop-number.number _ c.args.pass c.loop-number.now c.in_ok-now.now
+    c.requires.there c.requires.stretch (omega arith) (omega arith) (lent-unit c.all-list.result.now c.args.units.now.units c.loop-number.number _ c.all-list.ensures.units
+    (get_or_default c.all-list.result.now c.loop-number.number _ _ (omega (arith, inside, ap (λ (us : List ListedUnit). length us) c.all-list.ensures.units)))) c.loop-number.invariant c.in_ok-now.ensures.passed
 
 pub returns-clause-passed : goal.returns-clause-passed
 returns-clause-passed c =
-    units-end c.args.view.now c.args.section c.args.units.now c.loop-unit.unit-index c.args.pass c.loop-unit.now (omega arith) c.loop-unit.invariant.passed
+    stretch-over c.args.view.now c.args.section c.args.units.now c.args.first c.args.end c.loop-number.number c.args.pass c.loop-number.now c.requires.stretch (omega arith)
+    c.loop-number.invariant

@@ -3,8 +3,6 @@ use Rattle.std.proofs.Common.{List, Option, sym, ap, ◌∙◌, subst}
 use Rattle.std.proofs.lemmas.Result.{err_from_is_err_and}
 use Rattle.dw_base.specs.ViewData.{debug_data}
 use Rattle.dw_entries.specs.ViewUnits.{unit_section_at}
-use Rattle.std.specs.HashMap.{get}
-use Rattle.std.specs.Prelude.{nat_eq}
 use Rattle.dw_base.specs.FileViews.{section_bytes, view_cells}
 use Rattle.dw_find.specs.EntryTexts.{FoundTexts}
 use Rattle.dw_find.specs.FieldOffsets.{BaseLies, BaseRefuses}
@@ -13,29 +11,15 @@ use Rattle.dw_find.specs.TextPlaces.{base_source, number_said, said_placed}
 use Rattle.dw_find.specs.declared.fields.TextBase.{TextBase}
 use Rattle.dw_find.specs.declared.fields.TextIndex.{TextIndex}
 use Rattle.dw_find.proofs.BaseLaws.{base-placed, base-row, base-taken, unit-lies}
-use Rattle.dw_find.proofs.SharedLaws.{shared-there}
 use Rattle.dw_find.proofs.ScanTextLaws.{unit-there}
-use Rattle.dw_find.proofs.UnitRowLaws.{elsewhere-row, one-row, one-taken, table-row, unit-table}
+use Rattle.dw_find.proofs.UnitRowLaws.{one-row, one-taken}
 use Rattle.dw_find.proofs.sections.one_unit.Goals as goal
-
-pub returns-in_err-at-clause-refused : goal.returns-in_err-at-clause-refused
-returns-in_err-at-clause-refused c =
-    let p = err_from_is_err_and c.from_residual.result c.from_residual.ensures.1 in
-    rw (p.1, p.2) (elsewhere-row (debug_data c.args.view.now) (unit_section_at c.args.view.now c.args.unit.now.section) c.args.unit.now c.in_err-at.field-0.0
-    c.requires.unit c.in_err-at.ensures.refused)
-
-pub returns-in_err-read_table-clause-refused : goal.returns-in_err-read_table-clause-refused
-returns-in_err-read_table-clause-refused c =
-    let p = err_from_is_err_and c.from_residual-in_err-read_table.result c.from_residual-in_err-read_table.ensures.1 in
-    rw (p.1, p.2) (table-row (debug_data c.args.view.now) (unit_section_at c.args.view.now c.args.unit.now.section) c.args.unit.now c.in_ok-at.at c.in_err-read_table.field-0.0
-    c.requires.unit c.in_ok-at.ensures.offset c.in_err-read_table.ensures.refused)
 
 pub returns-in_err-unit_texts-clause-refused : goal.returns-in_err-unit_texts-clause-refused
 returns-in_err-unit_texts-clause-refused c =
-    let p = err_from_is_err_and c.from_residual-in_err-unit_texts.result c.from_residual-in_err-unit_texts.ensures.1 in
+    let p = err_from_is_err_and c.from_residual.result c.from_residual.ensures.1 in
     rw (p.1, p.2) (one-row (debug_data c.args.view.now) (unit_section_at c.args.view.now c.args.unit.now.section) c.args.unit.now c.args.texts.now _ c.in_err-unit_texts.field-0.0
-    c.requires.unit c.requires.texts (unit-table (debug_data c.args.view.now) c.args.unit.now c.in_ok-at.at c.in-Some.table.now c.in_ok-at.ensures.here c.in_ok-at.ensures.offset
-    (shared-there (debug_data c.args.view.now) (λ at. get nat_eq c.read_table.new.shared at) c.in_ok-at.at c.in-Some.table.now c.in_ok-read_table.ensures.shared c.in-Some.ensures.value)) c.in_err-unit_texts.ensures.refused)
+    c.requires.unit c.requires.texts c.requires.table c.in_err-unit_texts.ensures.refused)
 
 pub base_number-requires-clause-there : goal.base_number-requires-clause-there
 base_number-requires-clause-there c = unit-there c.args.view.now c.args.unit.now c.requires.unit
@@ -43,27 +27,24 @@ base_number-requires-clause-there c = unit-there c.args.view.now c.args.unit.now
 pub base_number-requires-clause-field : goal.base_number-requires-clause-field
 base_number-requires-clause-field c =
     subst (BaseLies (section_bytes c.args.view.now c.args.unit.now.section)) (sym (ap (λ (f : FoundTexts). f.base) c.found.view_is))
-    (unit-lies c.args.view.now c.args.unit.now c.args.texts.now c.in-Some.table.now c.args.found.now c.unit_texts.new.found c.requires.unit
-    (unit-table (debug_data c.args.view.now) c.args.unit.now c.in_ok-at.at c.in-Some.table.now c.in_ok-at.ensures.here c.in_ok-at.ensures.offset
-    (shared-there (debug_data c.args.view.now) (λ at. get nat_eq c.read_table.new.shared at) c.in_ok-at.at c.in-Some.table.now c.in_ok-read_table.ensures.shared c.in-Some.ensures.value))
+    (unit-lies c.args.view.now c.args.unit.now c.args.texts.now c.args.table.now c.args.found.now c.unit_texts.new.found c.requires.unit
+    c.requires.table
     c.requires.none c.in_ok-unit_texts.ensures.taken)
 
 pub returns-in_err-base-clause-refused : goal.returns-in_err-base-clause-refused
 returns-in_err-base-clause-refused c =
     let p = err_from_is_err_and c.from_residual-in_err-base.result c.from_residual-in_err-base.ensures.1 in
-    rw (p.1, p.2) (base-row c.args.view.now c.args.unit.now c.args.texts.now c.in-Some.table.now c.args.found.now c.unit_texts.new.found c.in_err-base.field-0.0 c.requires.unit
-    (unit-table (debug_data c.args.view.now) c.args.unit.now c.in_ok-at.at c.in-Some.table.now c.in_ok-at.ensures.here c.in_ok-at.ensures.offset
-    (shared-there (debug_data c.args.view.now) (λ at. get nat_eq c.read_table.new.shared at) c.in_ok-at.at c.in-Some.table.now c.in_ok-read_table.ensures.shared c.in-Some.ensures.value))
+    rw (p.1, p.2) (base-row c.args.view.now c.args.unit.now c.args.texts.now c.args.table.now c.args.found.now c.unit_texts.new.found c.in_err-base.field-0.0 c.requires.unit
+    c.requires.table
     c.requires.none c.in_ok-unit_texts.ensures.taken
     (subst (λ (b : Option TextBase). BaseRefuses c.args.view.now.order c.args.unit.now.section (view_cells c.args.view.now c.args.unit.now.section) b c.in_err-base.field-0.0)
     (ap (λ (f : FoundTexts). f.base) c.found.view_is) c.in_err-base.ensures.refused))
 
 pub returns-clause-taken : goal.returns-clause-taken
 returns-clause-taken c =
-    one-taken (debug_data c.args.view.now) (unit_section_at c.args.view.now c.args.unit.now.section) c.args.unit.now c.args.texts.now c.in-Some.table.now c.args.found.now
+    one-taken (debug_data c.args.view.now) (unit_section_at c.args.view.now c.args.unit.now.section) c.args.unit.now c.args.texts.now c.args.table.now c.args.found.now
     c.unit_texts.new.found c.end_unit.new.self c.args.slots.now c.take.new.self c.requires.texts
-    (unit-table (debug_data c.args.view.now) c.args.unit.now c.in_ok-at.at c.in-Some.table.now c.in_ok-at.ensures.here c.in_ok-at.ensures.offset
-    (shared-there (debug_data c.args.view.now) (λ at. get nat_eq c.read_table.new.shared at) c.in_ok-at.at c.in-Some.table.now c.in_ok-read_table.ensures.shared c.in-Some.ensures.value))
+    c.requires.table
     c.in_ok-unit_texts.ensures.taken
     (base-placed c.args.view.now c.args.unit.now c.unit_texts.new.found.base c.requires.unit
     (sym (ap (λ (f : FoundTexts). said_placed (base_source (debug_data c.args.view.now)) (view_cells c.args.view.now c.args.unit.now.section) f.base) c.found.view_is)

@@ -1,7 +1,7 @@
 -- The starts are those of the view's line tables.
 use Rattle.std.proofs.Common.{◌∙◌}
 use Rattle.dw_find.proofs.FoundPathLaws.{paths-found, tables-start}
-use Rattle.dw_find.proofs.paths.found_paths.Goals as goal
+use Rattle.dw_find.proofs.paths.listed_paths.Goals as goal
 
 pub named_paths-requires-clause-starts : goal.named_paths-requires-clause-starts
 named_paths-requires-clause-starts c =
