@@ -10,6 +10,7 @@ use dw_view::View;
 use elf_file::ElfFile;
 use entry_arena::EntryArena;
 use std::alloc::{AllocError, Global};
+use std::process::Abort;
 use std::test::Fail;
 
 /// A unit whose root has two children, a and c; b stands below a.
@@ -80,6 +81,18 @@ fn arenas_of(
     Ok(arenas)
 }
 
+/// The arenas of the units of a file of these sections.
+#[tactic(auto, using(dw_entries::proofs::CallerLaws::caller_laws))]
+fn arenas_in(rt: &impl Abort, alloc: Global, rows: &[Row]) -> Result<Vec<EntryArena>, Fail> {
+    let file = file_of(alloc, Order::Little, rows)?;
+    assert!(rt; file.len() <= 0x8000_0000);
+    let elf = ElfFile::read(alloc, &file)?;
+    let view = View::one(&elf)?;
+    let info = view.first(DebugSection::Info).ok_or("no units")?;
+    let abbrevs = view.first(DebugSection::Abbrev).ok_or("no abbreviations")?;
+    Ok(arenas_of(alloc, &view, info, view.bytes(abbrevs))?)
+}
+
 /// The nodes of an arena, in the order of a walk.
 fn nodes_of(alloc: Global, arena: &EntryArena) -> Result<Vec<Node>, AllocError> {
     let mut nodes = Vec::new(alloc);
@@ -102,15 +115,8 @@ fn depths_of(alloc: Global, arena: &EntryArena) -> Result<Vec<(u32, u32)>, Alloc
 }
 
 #[test]
-#[tactic(auto, using(dw_entries::proofs::CallerLaws::caller_laws))]
 fn nodes_are_linked_as_their_entries_stand(rt: HostRuntime) -> Result<(), Fail> {
-    let file = file_of(rt.alloc(), Order::Little, &[TREE, BARE])?;
-    assert!(rt; file.len() <= 0x8000_0000);
-    let elf = ElfFile::read(rt.alloc(), &file)?;
-    let view = View::one(&elf)?;
-    let info = view.first(DebugSection::Info).ok_or("no units")?;
-    let abbrevs = view.first(DebugSection::Abbrev).ok_or("no abbreviations")?;
-    let arenas = arenas_of(rt.alloc(), &view, info, view.bytes(abbrevs))?;
+    let arenas = arenas_in(&rt, rt.alloc(), &[TREE, BARE])?;
     assert!(rt; arenas.len() == 1);
     let nodes = nodes_of(rt.alloc(), &arenas[0])?;
     assert_eq!(rt;
@@ -134,15 +140,8 @@ fn nodes_are_linked_as_their_entries_stand(rt: HostRuntime) -> Result<(), Fail> 
 }
 
 #[test]
-#[tactic(auto, using(dw_entries::proofs::CallerLaws::caller_laws))]
 fn roots_are_siblings(rt: HostRuntime) -> Result<(), Fail> {
-    let file = file_of(rt.alloc(), Order::Little, &[ROOTS, BARE])?;
-    assert!(rt; file.len() <= 0x8000_0000);
-    let elf = ElfFile::read(rt.alloc(), &file)?;
-    let view = View::one(&elf)?;
-    let info = view.first(DebugSection::Info).ok_or("no units")?;
-    let abbrevs = view.first(DebugSection::Abbrev).ok_or("no abbreviations")?;
-    let arenas = arenas_of(rt.alloc(), &view, info, view.bytes(abbrevs))?;
+    let arenas = arenas_in(&rt, rt.alloc(), &[ROOTS, BARE])?;
     assert!(rt; arenas.len() == 1);
     let nodes = nodes_of(rt.alloc(), &arenas[0])?;
     assert_eq!(rt;
