@@ -1,0 +1,2 @@
+pub mod ViewCounts
+pub mod Exercises
