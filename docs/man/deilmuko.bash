@@ -2,7 +2,7 @@
 _deilmuko() {
     local word=${COMP_WORDS[COMP_CWORD]} before=${COMP_WORDS[COMP_CWORD-1]} options=
     if [ "$COMP_CWORD" -eq 1 ]; then
-        mapfile -t COMPREPLY < <(compgen -W 'edit split show unstrip run gather' -- "$word")
+        mapfile -t COMPREPLY < <(compgen -W 'edit split show unstrip run gather exercise' -- "$word")
         return
     fi
     case $before in

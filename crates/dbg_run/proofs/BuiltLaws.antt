@@ -33,26 +33,30 @@ NoRun k = (root : List ℕ) (o : Settings) (jobs : ℕ) → k ≡ Run root o job
 abbrev NoGather : Command → Type 0
 NoGather k = (root from dest : List ℕ) (jobs : ℕ) → k ≡ Gather root from dest jobs → ⊥
 
-only_these : (c k : Command) (t : Bool) → is_built c ≡ t → Some k ≡ (if t then Some c else None) → NoEdit k → NoSplit k → NoShow k → NoUnstrip k → NoRun k → NoGather k → ⊥
-only_these c k false e is edit split show unstrip run gather = cc
-only_these (Edit input output o list) k true e is edit split show unstrip run gather = let same : k ≡ Edit input output o list = cc in edit input output o list same
-only_these (Split input stripped debug) k true e is edit split show unstrip run gather = let same : k ≡ Split input stripped debug = cc in split input stripped debug same
-only_these (Run root o jobs) k true e is edit split show unstrip run gather = let same : k ≡ Run root o jobs = cc in run root o jobs same
-only_these (Show file debug) k true e is edit split show unstrip run gather = let same : k ≡ Show file debug = cc in show file debug same
-only_these (Unstrip stripped debug output) k true e is edit split show unstrip run gather =
+abbrev NoExercise : Command → Type 0
+NoExercise k = (seed units : ℕ) → k ≡ Exercise seed units → ⊥
+
+only_these : (c k : Command) (t : Bool) → is_built c ≡ t → Some k ≡ (if t then Some c else None) → NoEdit k → NoSplit k → NoShow k → NoUnstrip k → NoRun k → NoGather k → NoExercise k → ⊥
+only_these c k false e is edit split show unstrip run gather exercise = cc
+only_these (Edit input output o list) k true e is edit split show unstrip run gather exercise = let same : k ≡ Edit input output o list = cc in edit input output o list same
+only_these (Split input stripped debug) k true e is edit split show unstrip run gather exercise = let same : k ≡ Split input stripped debug = cc in split input stripped debug same
+only_these (Run root o jobs) k true e is edit split show unstrip run gather exercise = let same : k ≡ Run root o jobs = cc in run root o jobs same
+only_these (Show file debug) k true e is edit split show unstrip run gather exercise = let same : k ≡ Show file debug = cc in show file debug same
+only_these (Unstrip stripped debug output) k true e is edit split show unstrip run gather exercise =
     let same : k ≡ Unstrip stripped debug output = cc in unstrip stripped debug output same
-only_these (Check input stripped debug maps) k true e is edit split show unstrip run gather = cc
-only_these (Gather root from dest jobs) k true e is edit split show unstrip run gather =
+only_these (Check input stripped debug maps) k true e is edit split show unstrip run gather exercise = cc
+only_these (Gather root from dest jobs) k true e is edit split show unstrip run gather exercise =
     let same : k ≡ Gather root from dest jobs = cc in gather root from dest jobs same
-only_these (Exercise seed units) k true e is edit split show unstrip run gather = cc
+only_these (Exercise seed units) k true e is edit split show unstrip run gather exercise =
+    let same : k ≡ Exercise seed units = cc in exercise seed units same
 
-built_from : (o : Option Command) (k : Command) → Some k ≡ option_and_then if_built o → NoEdit k → NoSplit k → NoShow k → NoUnstrip k → NoRun k → NoGather k → ⊥
-built_from None k is edit split show unstrip run gather = cc
-built_from (Some c) k is edit split show unstrip run gather = only_these c k (is_built c) refl is edit split show unstrip run gather
+built_from : (o : Option Command) (k : Command) → Some k ≡ option_and_then if_built o → NoEdit k → NoSplit k → NoShow k → NoUnstrip k → NoRun k → NoGather k → NoExercise k → ⊥
+built_from None k is edit split show unstrip run gather exercise = cc
+built_from (Some c) k is edit split show unstrip run gather exercise = only_these c k (is_built c) refl is edit split show unstrip run gather exercise
 
-pub built_these : (words : List (List ℕ)) (k : Command) → Some k ≡ built words → NoEdit k → NoSplit k → NoShow k → NoUnstrip k → NoRun k → NoGather k → ⊥
+pub built_these : (words : List (List ℕ)) (k : Command) → Some k ≡ built words → NoEdit k → NoSplit k → NoShow k → NoUnstrip k → NoRun k → NoGather k → NoExercise k → ⊥
 unfolding built
-built_these words k is edit split show unstrip run gather = built_from (command words) k is edit split show unstrip run gather
+built_these words k is edit split show unstrip run gather exercise = built_from (command words) k is edit split show unstrip run gather exercise
 
 -- ### The second output's path is another one than the first's
 

@@ -28,7 +28,7 @@ use Rattle.file_tree.specs.Heard.{Heard}
 use Rattle.file_tree.specs.Seen.{Seen, now_of}
 use Rattle.file_tree.specs.Trees.{TreeMap, found_of, is_below, stands_at, with_node}
 use Rattle.dbg_words.specs.declared.command.Command.{Command}
-use Rattle.dbg_words.specs.declared.command.Command.TheVariants.{Edit, Split, Run, Show, Unstrip, Gather}
+use Rattle.dbg_words.specs.declared.command.Command.TheVariants.{Edit, Split, Run, Show, Unstrip, Gather, Exercise}
 use Rattle.dbg_run.proofs.BuiltLaws.{listed_apart, parts_apart}
 use Rattle.dbg_run.proofs.RootKeptLaws.{root_leaves, root_loads, root_means}
 use Rattle.dbg_run.specs.Built.{built}
@@ -215,6 +215,7 @@ meaning_by (Some (Show file debug)) old new heard said apart d = tt
 meaning_by (Some (Unstrip stripped debug output)) old new heard said apart d = of_rejoined IsRejoined stripped debug output old new (λ b out is. is) d.0
 meaning_by (Some (Run root o jobs)) old new heard said apart d = root_means root o old new heard said d
 meaning_by (Some (Gather root from dest jobs)) old new heard said apart d = tt
+meaning_by (Some (Exercise seed units)) old new heard said apart d = tt
 meaning_by c old new heard said apart d = d
 
 loaded_by : (c : Option Command) (old new : Seen) (heard said : Heard) → OutputsApart c → Done c old new heard said → KeepsLoaded c old new
@@ -229,6 +230,7 @@ loaded_by (Some (Show file debug)) old new heard said apart d = tt
 loaded_by (Some (Unstrip stripped debug output)) old new heard said apart d = of_rejoined LoadedKept stripped debug output old new (λ b out is. is.loaded) d.0
 loaded_by (Some (Run root o jobs)) old new heard said apart d = root_loads root o old new heard said d
 loaded_by (Some (Gather root from dest jobs)) old new heard said apart d = tt
+loaded_by (Some (Exercise seed units)) old new heard said apart d = tt
 loaded_by c old new heard said apart d = d
 
 leaves_by : (c : Option Command) (old new : Seen) (heard said : Heard) → OutputsApart c → Done c old new heard said → LeavesNothing c old new

@@ -11,6 +11,7 @@ pub mod SplitEndLaws
 pub mod UnstripLaws
 pub mod RootLaws
 pub mod GatherLaws
+pub mod ExerciseLaws
 pub mod RootKeptLaws
 pub mod AnswerLaws
 pub mod RootWordLaws

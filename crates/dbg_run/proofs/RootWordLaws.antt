@@ -1,5 +1,5 @@
 -- What the words of a run or of a gather say: 1 to 64 of its jobs are in work at a time, and its seed has no NUL, as no word has one; what a
--- gather asks for may be asked for.
+-- gather asks for may be asked for. An exercise is of 1 to 10,000 units.
 use Rattle.std.proofs.Common.{◌≡◌, ℕ, ◌≤◌, ◌<◌, ◌+◌, Bool, true, false, not, ◌&&◌, ◌||◌, ◌==◌, drop, nat_eq, List, [], ◌∷◌, ◌++◌, map, Option, Some, None, refl, sym, ap, subst, arith, lit≤}
 use Rattle.std.specs.Prelude.{if◌then◌else◌, codes, encode_utf8, is_some, nat_le, option_and_then, unwrap_or, ⊤}
 use Rattle.std.specs.List.{AllByRecursion, list_any, position_or_len, starts_with}
@@ -142,6 +142,7 @@ line-seed ws bs =
 abbrev IsRunFit : Command → Type 0
 IsRunFit (Run root o jobs) = (0 < jobs) × (jobs ≤ 64) × HasKey o
 IsRunFit (Gather root from dest jobs) = (0 < jobs) × (jobs ≤ 64) × IsAsked root from dest
+IsRunFit (Exercise seed units) = (0 < units) × (units ≤ 10000)
 IsRunFit c = ⊤
 
 unwrap-seed : (o : Option (List ℕ)) → All IsBare o → IsBare (unwrap_or o [])
@@ -292,13 +293,13 @@ gather-fit l bs =
     (all_then (λ w. IsBare w.0 × IsBare w.1) IsRunFit (gather_named l) (two_of l.paths) (pair-bare l.paths bs) (λ w b.
     all_then (λ p. IsBare p.1) IsRunFit (gather_paths l) (two_paths w) (paths-bare w b) (λ p bare. gather-apart l p bare))) tt
 
-exercise-none : (l : CommandLine) → All IsRunFit (exercise_of l)
+exercise-fit : (l : CommandLine) → All IsRunFit (exercise_of l)
 unfolding exercise_of
-exercise-none l =
+exercise-fit l =
     all_if IsRunFit (is_bare l) (option_and_then exercise_named (two_of l.paths)) None
     (all_then (λ a. ⊤) IsRunFit exercise_named (two_of l.paths) (any (two_of l.paths)) (λ w _.
     all_then (λ a. ⊤) IsRunFit (exercise_seeded w.1) (number_within 0 18446744073709551615 w.0) (any (number_within 0 18446744073709551615 w.0)) (λ seed _.
-    all_map (λ a. ⊤) IsRunFit (λ units. Exercise seed units) (number_within 1 10000 w.1) (any (number_within 1 10000 w.1)) (λ units _. tt)))) tt
+    all_map (IsIn 1 10000) IsRunFit (λ units. Exercise seed units) (number_within 1 10000 w.1) (within 1 10000 w.1) (λ units is. (is.0, is.1))))) tt
 
 named-fit : (name : List ℕ) (l : CommandLine) → SeedBare l → LineBare l → All IsRunFit (command_named name l)
 unfolding command_named
@@ -310,7 +311,7 @@ named-fit name l b paths =
     (all_if IsRunFit (same_text name (codes "unstrip")) (unstrip_of l) _ (unstrip-none l)
     (all_if IsRunFit (same_text name (codes "check")) (check_of l) _ (check-none l)
     (all_if IsRunFit (same_text name (codes "gather")) (gather_of l) _ (gather-fit l paths)
-    (all_if IsRunFit (same_text name (codes "exercise")) (exercise_of l) None (exercise-none l) tt)))))))
+    (all_if IsRunFit (same_text name (codes "exercise")) (exercise_of l) None (exercise-fit l) tt)))))))
 
 all_both : {A : Type 0} (P Q : A → Type 0) (x : Option A) → All P x → All Q x → All (λ a. P a × Q a) x
 all_both P Q None p q = tt
@@ -344,3 +345,6 @@ run-words-fit words root o jobs is = subst (All IsRunFit) is (built-fit words)
 pub gather-words-fit : (words : List (List ℕ)) (root from dest : List ℕ) (jobs : ℕ) → built words ≡ Some (Gather root from dest jobs)
     → (0 < jobs) × (jobs ≤ 64) × IsAsked root from dest
 gather-words-fit words root from dest jobs is = subst (All IsRunFit) is (built-fit words)
+
+pub exercise-words-fit : (words : List (List ℕ)) (seed units : ℕ) → built words ≡ Some (Exercise seed units) → (0 < units) × (units ≤ 10000)
+exercise-words-fit words seed units is = subst (All IsRunFit) is (built-fit words)

@@ -10,4 +10,4 @@ pub ruleset rewrite_rows = (rewrite.refused, rewrite.memory, keeps.both)
 
 pub ruleset parting_rows = (is_splittable, are_parts, split_blames)
 
-pub ruleset run_rows = (ends.usage, ends.memory, ends.edit, ends.split, ends.show, ends.unstrip, ends.run, ends.gather, no_memory, cuts_memory, memory_starts, none_starts)
+pub ruleset run_rows = (ends.usage, ends.memory, ends.edit, ends.split, ends.show, ends.unstrip, ends.run, ends.gather, ends.exercise, no_memory, cuts_memory, memory_starts, none_starts)

@@ -29,6 +29,7 @@ use Rattle.job_types.specs.Settings.{Settings, most_file}
 use Rattle.dbg_run.specs.Built.{built}
 use Rattle.dbg_run.specs.Edits.{EditEnds, EditDue, ListedEnds, ListedDue}
 use Rattle.dbg_run.proofs.EditLaws.{calm-at, calm_both, edit_completes, listed_completes, same-at, same_both}
+use Rattle.dbg_run.proofs.ExerciseLaws.{exercise_due, exercise_memory}
 use Rattle.dbg_run.proofs.GatherLaws.{gather_memory, gather_wanting, memory_cut}
 use Rattle.dbg_run.proofs.RootLaws.{reported_told, root_memory, starts_wanting}
 use Rattle.dbg_run.proofs.ShowLaws.{show_completes, show_memory}
@@ -38,6 +39,8 @@ use Rattle.dbg_run.specs.Shows.{AreElf, AreLinked, HasBegun, IsShowable, ShowDue
 use Rattle.dbg_run.specs.Shows.{HasBegun as begun_}
 use Rattle.dbg_run.specs.Splits.{IsSplittable, SplitDue, SplitEnds}
 use Rattle.dbg_run.specs.Unstrips.{AreRecords, DoMatch, JoinDue, UnstripDue, UnstripEnds}
+use Rattle.dbg_run.specs.Exercises.{ExerciseCut, ExerciseEnds}
+use Rattle.dbg_run.specs.Exercises.{ExerciseCut as exercise_cut}
 use Rattle.dbg_run.specs.Gathers.{GatherCut, GatherDue, GatherStarts, GatherWays}
 use Rattle.dbg_run.specs.Roots.{IsReported, RootCut, RootDue, RootEnds, RootStarts}
 use Rattle.dbg_run.specs.Edits.{EditEnds as edit, ListedEnds as listed}
@@ -54,7 +57,7 @@ cuts_memory (Some (Show file debug)) t n is = inl (cut.no_memory is)
 cuts_memory (Some (Unstrip stripped debug output)) t n is = cut.no_memory is
 cuts_memory (Some (Check input stripped debug maps)) t n is = cut.no_memory is
 cuts_memory (Some (Gather root from dest jobs)) t n is = subst (λ (k : ℕ). GatherCut root from dest t k) (sym is) (memory_cut root from dest t)
-cuts_memory (Some (Exercise seed units)) t n is = cut.no_memory is
+cuts_memory (Some (Exercise seed units)) t n is = exercise_cut.wanting is
 
 -- of two numbers, one where P holds and one elsewhere, only one can be
 where_two : (P : Type 0) {A B X Y : Type 0} (n m : ℕ) → (A → X → n ≡ m) → (B → Y → n ≡ m) → Where P A B → Where P X Y → n ≡ m
@@ -132,6 +135,7 @@ due-one (Some (Unstrip stripped debug output)) t n k other is also =
     unstrip-one (base_name debug) (stands_at t stripped most_file) (stands_at t debug most_file) (stands_at t output 0) n k is also
 due-one (Some (Run root o jobs)) t n k other is also = absurd (other tt)
 due-one (Some (Gather root from dest jobs)) t n k other is also = absurd (other tt)
+due-one (Some (Exercise seed units)) t n k other is also = is ∙ sym also
 due-one c t n k other is also = is ∙ sym also
 
 -- where nothing is against a command, it is done, or cut
@@ -155,6 +159,11 @@ unwritten n (inr cut) = inr (inl cut)
 wanting : (n : ℕ) → (n ≡ 0) ⊎ (n ≡ 13) → (n ≡ 0) ⊎ (IsCut n ⊎ (n ≡ 7))
 wanting n (inl done) = inl done
 wanting n (inr want) = inr (inl (cut.no_memory want))
+
+written : (n : ℕ) → (n ≡ 0) ⊎ ExerciseCut n → (n ≡ 0) ⊎ (IsCut n ⊎ (n ≡ 7))
+written n (inl done) = inl done
+written n (inr (exercise_cut.wanting want)) = inr (inl (cut.no_memory want))
+written n (inr (exercise_cut.output seven)) = inr (inr seven)
 
 module _ (words : List (List ℕ)) (old new : Seen) (heard said : Heard) (t : TreeMap) (tells : now_of old ≡ Some t) (is : Unopposed (built words) old t)
     (calm : Rose old.faults new.faults → ⊥) (well : OutputFails (built words) heard said → ⊥) where
@@ -185,6 +194,7 @@ module _ (words : List (List ℕ)) (old new : Seen) (heard said : Heard) (t : Tr
   all-complete e (ends.run {root = root} {o = o} {jobs = jobs} command row) starts = wanting (status_of e) (run-completes root o jobs (status_of e) command starts)
   all-complete e (ends.gather {root = root} {from = from} {dest = dest} {jobs = jobs} command row) starts =
       wanting (status_of e) (gather-completes root from dest jobs (status_of e) command starts)
+  all-complete e (ends.exercise {seed = seed} {units = units} command same row) starts = written (status_of e) (exercise_due seed units heard said e row)
 
   -- where nothing is against a command, and no fault came, it is done, want of memory aside
   pub completed : (before after : Heard) (answer : ℕ) → Ended (Ends words old new heard said) before after answer → Starts (built words) old new heard said answer
@@ -295,6 +305,15 @@ pub gather_due : (c : Option Command) (old : Seen) (n : ℕ) (root from dest : L
     → ForSome (now_of old) (λ t. GatherDue root from dest t n ⊎ GatherCut root from dest t n) → ForSome (now_of old) (λ t. Due c t n ⊎ Cuts c t n)
 gather_due c old n root from dest jobs is due = λ t tells. subst (λ (k : Option Command). Due k t n ⊎ Cuts k t n) (sym is) (due t tells)
 
+-- an exercise asks nothing of the tree
+pub exercise_ends : (words : List (List ℕ)) (seen : Seen) (heard said : Heard) (e : End) (seed units : ℕ) → built words ≡ Some (Exercise seed units)
+    → ExerciseEnds seed units heard said e → Ends words seen seen heard said e
+exercise_ends words seen heard said e seed units is row = ends.exercise is refl row
+
+pub exercise_told_due : (c : Option Command) (old : Seen) (n seed units : ℕ) → c ≡ Some (Exercise seed units) → (n ≡ 0) ⊎ ExerciseCut n
+    → ForSome (now_of old) (λ t. Due c t n ⊎ Cuts c t n)
+exercise_told_due c old n seed units is due = λ t tells. subst (λ (k : Option Command). Due k t n ⊎ Cuts k t n) (sym is) due
+
 -- where a command isn't done, and no text of it has begun to go out, it may as well want memory
 ends-memory : (words : List (List ℕ)) (old new : Seen) (heard said : Heard) (e : End) → Ends words old new heard said e → e ≢ end.Done → e ≢ end.OutputFault
     → Ends words old new heard said end.NoMemory
@@ -307,6 +326,8 @@ ends-memory words old new heard said e (ends.unstrip is row silent) undone well 
 ends-memory words old new heard said e (ends.run {root = root} {o = o} is row) undone well = ends.run is (root_memory root o old new heard said e row undone well)
 ends-memory words old new heard said e (ends.gather {root = root} {from = from} {dest = dest} is row) undone well =
     ends.gather is (gather_memory root from dest old new heard said e row undone well)
+ends-memory words old new heard said e (ends.exercise {seed = seed} {units = units} is same row) undone well =
+    ends.exercise is same (exercise_memory seed units heard said e row undone well)
 
 -- what went to the output sink is said by the status that is told
 pub silent_told : (c : Option Command) (e : End) (before after : Heard) (answer : ℕ) → Told e before after answer → (MayWrite c answer → ⊥) → MayWrite c (status_of e) → ⊥
@@ -316,6 +337,8 @@ silent_told (Some (Run root o jobs)) e before after answer (told.as_it_is same g
 silent_told (Some (Run root o jobs)) e before after answer (told.out_of_memory undone well want goes) un begun = reported_told e undone well begun
 silent_told (Some (Gather root from dest jobs)) e before after answer (told.as_it_is same goes) un begun = un (subst IsReported (sym same) begun)
 silent_told (Some (Gather root from dest jobs)) e before after answer (told.out_of_memory undone well want goes) un begun = reported_told e undone well begun
+silent_told (Some (Exercise seed units)) e before after answer (told.as_it_is same goes) un begun = un (subst IsReported (sym same) begun)
+silent_told (Some (Exercise seed units)) e before after answer (told.out_of_memory undone well want goes) un begun = reported_told e undone well begun
 silent_told c e before after answer told un begun = begun
 
 -- so is what a start does

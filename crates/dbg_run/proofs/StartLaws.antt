@@ -4,7 +4,7 @@ use Rattle.std.specs.Prelude.{Option, Some, None, if◌then◌else◌, is_some, 
 use Rattle.std.specs.FinMap as fin
 use Rattle.std.proofs.lemmas.List.{append-nil}
 use Rattle.dbg_words.specs.declared.command.Command.{Command}
-use Rattle.dbg_words.specs.declared.command.Command.TheVariants.{Edit, Split, Run, Show, Unstrip, Gather}
+use Rattle.dbg_words.specs.declared.command.Command.TheVariants.{Edit, Split, Run, Show, Unstrip, Gather, Exercise}
 use Rattle.file_tree.specs.declared.call.Call.{Call}
 use Rattle.file_tree.specs.Heard.{Heard}
 use Rattle.file_tree.specs.Seen.{Past, Seen, map_now, now_of}
@@ -81,6 +81,9 @@ show_starts c old new heard said n file debug is = subst (λ (k : Option Command
 pub unstrip_starts : (c : Option Command) (old new : Seen) (heard said : Heard) (n : ℕ) (stripped debug output : List ℕ) → c ≡ Some (Unstrip stripped debug output)
     → Starts c old new heard said n
 unstrip_starts c old new heard said n stripped debug output is = subst (λ (k : Option Command). Starts k old new heard said n) (sym is) tt
+
+pub exercise_starts : (c : Option Command) (old new : Seen) (heard said : Heard) (n seed units : ℕ) → c ≡ Some (Exercise seed units) → Starts c old new heard said n
+exercise_starts c old new heard said n seed units is = subst (λ (k : Option Command). Starts k old new heard said n) (sym is) tt
 
 -- ### Where there was no memory for the words
 

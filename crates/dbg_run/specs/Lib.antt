@@ -5,4 +5,5 @@ pub mod Splits
 pub mod Unstrips
 pub mod Roots
 pub mod Gathers
+pub mod Exercises
 pub mod Runs

@@ -22,9 +22,10 @@ use Rattle.dbg_ends.specs.declared.end.End.TheVariants as end
 use Rattle.dbg_ends.specs.Due.{IsCut, IsRefusal, IsUnplanned}
 use Rattle.dbg_ends.specs.Steps.{OnlyAtBoth}
 use Rattle.dbg_words.specs.declared.command.Command.{Command}
-use Rattle.dbg_words.specs.declared.command.Command.TheVariants.{Edit, Split, Run, Show, Unstrip, Gather}
+use Rattle.dbg_words.specs.declared.command.Command.TheVariants.{Edit, Split, Run, Show, Unstrip, Gather, Exercise}
 use Rattle.dbg_run.specs.Built.{built}
 use Rattle.dbg_run.specs.Edits.{EditDone, OfFiles, EditEnds, EditDue, EditUnopposed, ListedDone, ListedEnds, ListedDue, ListedUnopposed}
+use Rattle.dbg_run.specs.Exercises.{ExerciseCut, ExerciseDone, ExerciseEnds}
 use Rattle.dbg_run.specs.Gathers.{GatherCut, GatherDone, GatherDue, GatherFinal, GatherMild, GatherStarts, GatherUnopposed, GatherWays}
 use Rattle.dbg_run.specs.Roots.{IsReported, IsUnderwayIn, SettlesIn, OfJobs, OnlyBelow, PartsMean, PassesOver, RootCut, RootDone, RootDue, RootEnds, RootFinal, RootMild, RootStarts, RootSteps, RootUnopposed, ShowsRoot, StaysIn}
 use Rattle.dbg_run.specs.Shows.{HasBegun, ShowDone, ShowEnds, ShowDue, ShowUnopposed, base_name}
@@ -52,6 +53,8 @@ pub data Ends (words : List (List ℕ)) (old new : Seen) (heard said : Heard) : 
       → Ends words old new heard said e
   gather : {root from dest : List ℕ} {jobs : ℕ} {e : End} → built words ≡ Some (Gather root from dest jobs)
       → GatherWays root from dest old new heard said e → Ends words old new heard said e
+  exercise : {seed units : ℕ} {e : End} → built words ≡ Some (Exercise seed units) → new ≡ old → ExerciseEnds seed units heard said e
+      → Ends words old new heard said e
 
 -- the command is done
 abbrev pub Done : Option Command → Seen → Seen → Heard → Heard → Type 0
@@ -62,6 +65,7 @@ Done (Some (Show file debug)) old new heard said = ShowDone file debug old new h
 Done (Some (Unstrip stripped debug output)) old new heard said = UnstripDone stripped debug output old new × (said ≡ heard)
 Done (Some (Run root o jobs)) old new heard said = RootDone root o old new heard said
 Done (Some (Gather root from dest jobs)) old new heard said = GatherDone root from dest old new heard said
+Done (Some (Exercise seed units)) old new heard said = (new ≡ old) × ExerciseDone seed units heard said
 Done c old new heard said = ⊥
 
 -- what the output means is what the input meant, with each source path mapped; a stripped file and its debug file mean what the input
@@ -74,6 +78,7 @@ KeepsMeaning (Some (Show file debug)) old new = ⊤
 KeepsMeaning (Some (Unstrip stripped debug output)) old new = OfRejoined IsRejoined stripped debug output (now_of old) (now_of new)
 KeepsMeaning (Some (Run root o jobs)) old new = OfJobs (MeaningKept o.maps) (PartsMean o.maps) root o old new
 KeepsMeaning (Some (Gather root from dest jobs)) old new = ⊤
+KeepsMeaning (Some (Exercise seed units)) old new = ⊤
 KeepsMeaning c old new = ⊥
 
 -- what is loaded of the output, or of the stripped file, is what was loaded of the input; so it is of the file of both, and of the file
@@ -85,6 +90,7 @@ KeepsLoaded (Some (Show file debug)) old new = ⊤
 KeepsLoaded (Some (Unstrip stripped debug output)) old new = OfRejoined LoadedKept stripped debug output (now_of old) (now_of new)
 KeepsLoaded (Some (Run root o jobs)) old new = OfJobs LoadedKept (λ b name stripped debug. LoadedKept b stripped) root o old new
 KeepsLoaded (Some (Gather root from dest jobs)) old new = ⊤
+KeepsLoaded (Some (Exercise seed units)) old new = ⊤
 KeepsLoaded c old new = ⊥
 
 -- no text is left in the output that none of its fields names, nor in the outputs of each job of a run
@@ -104,6 +110,7 @@ Due (Some (Unstrip stripped debug output)) t n =
     UnstripDue (base_name debug) (stands_at t stripped most_file) (stands_at t debug most_file) (stands_at t output 0) n
 Due (Some (Run root o jobs)) t n = RootDue root o t n
 Due (Some (Gather root from dest jobs)) t n = GatherDue root from dest t n
+Due (Some (Exercise seed units)) t n = n ≡ 0
 Due c t n = n ≡ 2
 
 -- nothing is against the command, where the tree tells that it holds this map; a run may have been stopped in it
@@ -117,6 +124,7 @@ Unopposed (Some (Unstrip stripped debug output)) seen t =
     UnstripUnopposed stripped debug (stands_at t stripped most_file) (stands_at t debug most_file) (stands_at t output 0)
 Unopposed (Some (Run root o jobs)) seen t = RootUnopposed root o seen
 Unopposed (Some (Gather root from dest jobs)) seen t = GatherUnopposed root from dest seen
+Unopposed (Some (Exercise seed units)) seen t = ⊤
 Unopposed c seen t = ⊥
 
 -- the command joins the two files of a file that was split, there is room for the file of both, and a file may be put at the output
@@ -140,6 +148,7 @@ abbrev pub OutputFails : Option Command → Heard → Heard → Type 0
 OutputFails (Some (Show file debug)) heard said = Rose heard.faults said.faults
 OutputFails (Some (Run root o jobs)) heard said = Rose heard.faults said.faults
 OutputFails (Some (Gather root from dest jobs)) heard said = Rose heard.faults said.faults
+OutputFails (Some (Exercise seed units)) heard said = Rose heard.faults said.faults
 OutputFails c heard said = ⊥
 
 -- the command is one that writes to the output sink, and may have done so where it ends with this status
@@ -147,6 +156,7 @@ abbrev pub MayWrite : Option Command → ℕ → Type 0
 MayWrite (Some (Show file debug)) n = HasBegun n
 MayWrite (Some (Run root o jobs)) n = IsReported n
 MayWrite (Some (Gather root from dest jobs)) n = IsReported n
+MayWrite (Some (Exercise seed units)) n = IsReported n
 MayWrite c n = ⊥
 
 -- statuses at which the command leaves the tree as it was: of a run those that come before it has a plan, since it may refuse a file when it
@@ -157,11 +167,13 @@ KeptBy (Some (Gather root from dest jobs)) n = IsUnplanned n
 KeptBy c n = IsRefusal n
 
 -- statuses that may come in place of the one that is due, where the tree tells that it holds this map: of a fault of the tree, of want of
--- memory, and, where the command writes to the output sink, of a fault of that; of a run also those of its planned jobs
+-- memory, and, where the command writes to the output sink, of a fault of that; of a run also those of its planned jobs; an exercise asks
+-- nothing of the tree
 abbrev pub Cuts : Option Command → TreeMap → ℕ → Type 0
 Cuts (Some (Show file debug)) t n = IsCut n ⊎ (n ≡ 7)
 Cuts (Some (Run root o jobs)) t n = RootCut root o t n
 Cuts (Some (Gather root from dest jobs)) t n = GatherCut root from dest t n
+Cuts (Some (Exercise seed units)) t n = ExerciseCut n
 Cuts c t n = IsCut n
 
 -- ### A run that may be stopped at any moment, and started again by the same words

@@ -16,7 +16,7 @@ fn moves_paths(options: &Options) -> bool
 }
 
 /// Whether the command is carried out: an edit that moves no path which would grow, a split, a run over a build root, a
-/// gathering of its sources, a showing, or a joining.
+/// gathering of its sources, a showing, a joining, or an exercise.
 fn is_built(command: &Command) -> bool
     ensures value { result ≡ is_built command.now }
 {
@@ -27,6 +27,7 @@ fn is_built(command: &Command) -> bool
         Command::Show { .. } => true,
         Command::Unstrip { .. } => true,
         Command::Gather { .. } => true,
+        Command::Exercise { .. } => true,
         _ => false,
     }
 }

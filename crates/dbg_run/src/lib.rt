@@ -20,6 +20,7 @@
 
 pub mod built;
 pub mod edit;
+pub mod exercise;
 pub mod gather;
 pub mod run;
 pub mod run_root;

@@ -15,6 +15,7 @@ ghost use Rattle.dbg_run.specs.Runs.{Cuts, EditWays, Ends, EndsFinal, EndsMild, 
 
 use crate::built::built;
 use crate::edit::{edit, edit_listed};
+use crate::exercise::exercise;
 use crate::gather::gather_into;
 use crate::run_root::run_over;
 use crate::show::show;
@@ -121,6 +122,7 @@ fn run_command<T: Tree, O: Sink>(alloc: Global, words: &[String], tree: &mut T, 
             dest,
             jobs,
         } => gather_into(alloc, &root, &from, &dest, jobs, tree, out),
+        Command::Exercise { seed, units } => exercise(alloc, seed, units, out),
         _ => End::Usage,
     }
 }
@@ -206,7 +208,7 @@ pub fn run_words<T: Tree, O: Sink, E: Sink>(
     ensures passed { RefusesPlanned (built (texts words.now)) result (T.seen tree.old) }
 
     // At every status all but the command's outputs is as it was. To the output sink nothing went, but where a showing is done, or was cut
-    // after it had begun to write, and where a run has come to its end.
+    // after it had begun to write, and where a run or an exercise has come to its end.
     ensures others { OnlyOutputs (built (texts words.now)) (T.seen tree.old) (T.seen tree.new) }
     ensures silent { (MayWrite (built (texts words.now)) result → ⊥) → O.heard out.new ≡ O.heard out.old }
     ensures tells { (T.seen tree.new).tells ≡ (T.seen tree.old).tells }

@@ -1,4 +1,4 @@
--- The edit, the split, the showing, the joining, the run and the gather of the words, and that no other command is carried out.
+-- The edit, the split, the showing, the joining, the run, the gather and the exercise of the words, and that no other command is carried out.
 use Rattle.std.proofs.Common.{◌≡◌, ℕ, List, false, Some, sym, ap, ◌∙◌, subst}
 use Rattle.dw_base.specs.Texts.{has_nul}
 use Rattle.dbg_words.specs.declared.command.Command.{Command}
@@ -6,18 +6,18 @@ use Rattle.dbg_words.specs.Words.{texts}
 use Rattle.dbg_run.specs.Shows.{base_name}
 use Rattle.dbg_run.proofs.BareLaws.{debug-name-bare}
 use Rattle.dbg_run.proofs.BuiltLaws.{built_these}
-use Rattle.dbg_run.proofs.RootWordLaws.{gather-words-fit, run-words-fit}
-use Rattle.dbg_run.proofs.RunLaws.{edit_ends, gather_due, gather_ends, run_due, run_ends, show_ends, split_ends, unstrip_ends}
-use Rattle.dbg_run.proofs.StartLaws.{edit_starts, gather_starts, run_starts, show_starts, split_starts, unstrip_starts}
+use Rattle.dbg_run.proofs.RootWordLaws.{exercise-words-fit, gather-words-fit, run-words-fit}
+use Rattle.dbg_run.proofs.RunLaws.{edit_ends, exercise_ends, exercise_told_due, gather_due, gather_ends, run_due, run_ends, show_ends, split_ends, unstrip_ends}
+use Rattle.dbg_run.proofs.StartLaws.{edit_starts, exercise_starts, gather_starts, run_starts, show_starts, split_starts, unstrip_starts}
 use Rattle.dbg_run.proofs.run.run_command.Goals as goal
 
 pub returns-clause-ends : goal.returns-clause-ends
 returns-clause-ends g c =
-    absurd (built_these (texts c.args.words.now) c.in-Some.command (sym c.in-Some.is ∙ c.in-Ok.ensures.command) c.in_default-command.not-Edit c.in_default-command.not-Split c.in_default-command.not-Show c.in_default-command.not-Unstrip c.in_default-command.not-Run c.in_default-command.not-Gather)
+    absurd (built_these (texts c.args.words.now) c.in-Some.command (sym c.in-Some.is ∙ c.in-Ok.ensures.command) c.in_default-command.not-Edit c.in_default-command.not-Split c.in_default-command.not-Show c.in_default-command.not-Unstrip c.in_default-command.not-Run c.in_default-command.not-Gather c.in_default-command.not-Exercise)
 
 pub returns-clause-usage : goal.returns-clause-usage
 returns-clause-usage g c =
-    absurd (built_these (texts c.args.words.now) c.in-Some.command (sym c.in-Some.is ∙ c.in-Ok.ensures.command) c.in_default-command.not-Edit c.in_default-command.not-Split c.in_default-command.not-Show c.in_default-command.not-Unstrip c.in_default-command.not-Run c.in_default-command.not-Gather)
+    absurd (built_these (texts c.args.words.now) c.in-Some.command (sym c.in-Some.is ∙ c.in-Ok.ensures.command) c.in_default-command.not-Edit c.in_default-command.not-Split c.in_default-command.not-Show c.in_default-command.not-Unstrip c.in_default-command.not-Run c.in_default-command.not-Gather c.in_default-command.not-Exercise)
 
 pub returns-in-Run-clause-due : goal.returns-in-Run-clause-due
 returns-in-Run-clause-due g c =
@@ -106,3 +106,24 @@ pub returns-in-Gather-clause-starts : goal.returns-in-Gather-clause-starts
 returns-in-Gather-clause-starts g c =
     gather_starts _ _ _ _ _ _ c.in-Gather.root c.in-Gather.from c.in-Gather.dest c.in-Gather.jobs
     (sym c.in-Ok.ensures.command ∙ c.in-Some.is ∙ ap (λ (k : Command). Some k) c.in-Gather.is) c.gather_into.ensures.starts
+
+pub exercise-requires : goal.exercise-requires
+exercise-requires g c =
+    let fit = exercise-words-fit (texts c.args.words.now) c.in-Exercise.seed c.in-Exercise.units
+    (sym c.in-Ok.ensures.command ∙ c.in-Some.is ∙ ap (λ (k : Command). Some k) c.in-Exercise.is) in
+    record { some = fit.0; few = fit.1 }
+
+pub returns-in-Exercise-clause-ends : goal.returns-in-Exercise-clause-ends
+returns-in-Exercise-clause-ends g c =
+    exercise_ends (texts c.args.words.now) _ _ _ _ c.in-Exercise.seed c.in-Exercise.units
+    (sym c.in-Ok.ensures.command ∙ c.in-Some.is ∙ ap (λ (k : Command). Some k) c.in-Exercise.is) c.exercise.ensures.ends
+
+pub returns-in-Exercise-clause-due : goal.returns-in-Exercise-clause-due
+returns-in-Exercise-clause-due g c =
+    exercise_told_due _ (g.T.Tree.seen c.args.tree.now) _ c.in-Exercise.seed c.in-Exercise.units
+    (sym c.in-Ok.ensures.command ∙ c.in-Some.is ∙ ap (λ (k : Command). Some k) c.in-Exercise.is) c.exercise.ensures.due
+
+pub returns-in-Exercise-clause-starts : goal.returns-in-Exercise-clause-starts
+returns-in-Exercise-clause-starts g c =
+    exercise_starts _ _ _ _ _ _ c.in-Exercise.seed c.in-Exercise.units
+    (sym c.in-Ok.ensures.command ∙ c.in-Some.is ∙ ap (λ (k : Command). Some k) c.in-Exercise.is)
