@@ -7,5 +7,6 @@ pub mod KnownValueLaws
 pub mod KnownPartLaws
 pub mod TextLaws
 pub mod TableLaws
+pub mod ImageLaws
 pub mod VerdictLaws
 pub mod WorkedVerdicts

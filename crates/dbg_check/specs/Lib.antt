@@ -3,3 +3,4 @@ pub mod Verdicts
 pub mod Entries
 pub mod Slashes
 pub mod Tables
+pub mod Images
