@@ -1,5 +1,5 @@
 -- Laws of records that are moved: one after another they are those of the new table.
-use Rattle.std.proofs.Common.{◌≡◌, ◌≢◌, ◌⊎◌, ◌↔◌, ℕ, ℤ, zero, suc, ◌+◌, ◌*◌, ◌/◌, ◌^◌, ◌<◌, ◌≤◌, ◌==◌, Bool, true, false, if◌then◌else◌, List, [], ◌∷◌, length, Option, Some, None, inl, inr, refl, sym, ap, ◌∙◌, subst, arith, get_or, Fits, w8}
+use Rattle.std.proofs.Common.{◌≡◌, ◌≢◌, ◌⊎◌, ◌↔◌, ℕ, ℤ, zero, suc, ◌+◌, ◌-◌, ◌*◌, ◌/◌, ◌^◌, ◌<◌, ◌≤◌, ◌==◌, Bool, true, false, if◌then◌else◌, List, [], ◌∷◌, length, Option, Some, None, inl, inr, refl, sym, ap, ◌∙◌, subst, arith, get_or, Fits, w8}
 use Rattle.std.specs.Bool.{MatchBool, ⊤}
 use Rattle.std.specs.Prelude.{IfSome, slice_index_or}
 use Rattle.std.specs.Int.RustNames.{FitsSigned}
@@ -223,3 +223,59 @@ field-absent fields place i gap = sym (for-absent fields place (λ k lt e. by_or
     ]
 
 pub ruleset field_rules = (field-found, field-absent)
+
+-- a field near a place, or a gap there
+start-same : (fields : List Patch) (i : ℕ) (d e : Patch) → i < length fields → field_start (slice_index_or fields i d) ≡ field_start (slice_index_or fields i e)
+start-same fields i d e lt = ap field_start (get_or_default fields i d e lt)
+
+pub near-here : (fields : List Patch) (place i : ℕ) (d : Patch) → i < length fields → (slice_index_or fields i d).at ≡ place → HasKey field_start fields place i
+near-here fields place i d lt is = record { inside = lt; is = λ e. start-same fields i e d lt ∙ is }
+
+near-after : (fields : List Patch) (place i k : ℕ) (d e : Patch) → FieldsRise fields → place < (slice_index_or fields i d).at → i ≤ k → k < length fields
+    → place < field_start (slice_index_or fields k e)
+near-after fields place i k d e rises more le lt = elim (cases_lt i k) [
+  | inl below ↦
+      let less = rises.rise i k below lt in
+      let own = start-same fields i d no_field (omega (arith, le, lt)) in
+      let there = start-same fields k e no_field lt in
+      omega (arith, more, less, own, there)
+  | inr above ↦
+      let same : i ≡ k = omega (arith, le, above) in
+      let here : field_start (slice_index_or fields i no_field) ≡ field_start (slice_index_or fields k no_field) = ap (λ (n : ℕ). field_start (slice_index_or fields n no_field)) same in
+      let own = start-same fields i d no_field (omega (arith, le, lt)) in
+      let there = start-same fields k e no_field lt in
+      omega (arith, more, here, own, there)
+]
+
+pub near-first : (fields : List Patch) (place : ℕ) (d : Patch) → FieldsRise fields → 0 < length fields → place < (slice_index_or fields 0 d).at → IsGap field_start fields place 0
+near-first fields place d rises lt more = record {
+  inside = omega (arith, lt);
+  before = λ e k below. absurd (omega (arith, below));
+  behind = λ e k le inside. near-after fields place 0 k d e rises more le inside;
+}
+
+near-before : (fields : List Patch) (place i k : ℕ) (d e : Patch) → FieldsRise fields → (slice_index_or fields i d).at < place → k ≤ i → i < length fields
+    → field_start (slice_index_or fields k e) < place
+near-before fields place i k d e rises less le lt = elim (cases_lt k i) [
+  | inl below ↦
+      let rise = rises.rise k i below lt in
+      let own = start-same fields i d no_field lt in
+      let there = start-same fields k e no_field (omega (arith, le, lt)) in
+      omega (arith, less, rise, own, there)
+  | inr above ↦
+      let same : k ≡ i = omega (arith, le, above) in
+      let here : field_start (slice_index_or fields k no_field) ≡ field_start (slice_index_or fields i no_field) = ap (λ (n : ℕ). field_start (slice_index_or fields n no_field)) same in
+      let own = start-same fields i d no_field lt in
+      let there = start-same fields k e no_field (omega (arith, le, lt)) in
+      omega (arith, less, here, own, there)
+]
+
+pub near-between : (fields : List Patch) (place i : ℕ) (d e : Patch) → FieldsRise fields → i < length fields → place < (slice_index_or fields i d).at
+    → 0 < i → (slice_index_or fields (i - 1) e).at < place → IsGap field_start fields place i
+near-between fields place i d e rises lt more some less = record {
+  inside = omega (arith, lt);
+  before = λ x k below. near-before fields place (i - 1) k e x rises less (omega (arith, below, some)) (omega (arith, lt, some));
+  behind = λ x k le inside. near-after fields place i k d x rises more le inside;
+}
+
+pub ruleset near_rules = (near-here, near-first, near-between)

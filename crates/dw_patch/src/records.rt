@@ -2,7 +2,7 @@
 //!
 //! This file promises: each record moves with the byte at which its relocation begins; one with an addend whose field is to say another
 //! offset has the addend that makes it, where it hasn't already; symbols, types, and records of no relocation stay. The cost grows with the
-//! number of records, and with the logarithms of those of runs and fields. No memory.
+//! number of records, and with the logarithms of those of runs and, where records aren't in order of places, of fields. No memory.
 //! Read first: `specs/RecordMoves.antt`.
 
 ghost use Rattle.std.specs.Prelude.{◌≡◌, ◌↔◌, ◌<◌, ◌^◌, length, IfErr, IfOk, IfSome, IsTrue, Some};
@@ -31,14 +31,23 @@ pub fn move_records(source: &RelocSource, runs: &[Run], fields: &[Patch], out: &
     requires places { PlacesFit source.now runs.now }
     ensures moved { out.new ≡ moved_table source.now runs.now fields.now }
 {
+    let mut near = 0;
     for index in 0..record_count(source) {
-        move_record(source, runs, fields, index, out);
+        near = move_record(source, runs, fields, near, index, out);
     }
 }
 
-/// Puts in the record of a number.
+/// Puts in the record of a number, and gives a field near its place: records mostly stand in the order of their places, so the search of
+/// the next one begins there.
 #[tactic(auto, using(crate::proofs::RecordMoveLaws::record_rules))]
-fn move_record(source: &RelocSource, runs: &[Run], fields: &[Patch], index: u64, out: &mut [u8])
+fn move_record(
+    source: &RelocSource,
+    runs: &[Run],
+    fields: &[Patch],
+    near: usize,
+    index: u64,
+    out: &mut [u8],
+) -> usize
     requires there { index < length (records_in source.now) }
     requires long { length out.old ≡ length source.now.table }
     requires runs { RunsRise runs.now }
@@ -53,11 +62,12 @@ fn move_record(source: &RelocSource, runs: &[Run], fields: &[Patch], index: u64,
     match record(source, index) {
         Some(reloc) => {
             if is_none_type(source, reloc.kind) {
-                return;
+                return near;
             }
-            put_record(source, runs, fields, index, &reloc, out);
+            put_record(source, runs, fields, near, index, &reloc, out);
+            near_behind(fields, near, reloc.offset)
         }
-        None => {}
+        None => near,
     }
 }
 
@@ -67,6 +77,7 @@ fn put_record(
     source: &RelocSource,
     runs: &[Run],
     fields: &[Patch],
+    near: usize,
     index: u64,
     reloc: &Reloc,
     out: &mut [u8],
@@ -84,7 +95,7 @@ fn put_record(
     ensures others { OthersStay source.now index out.old out.new }
 {
     let place = place_by(runs, reloc.offset);
-    let addend = addend_after(source, fields, reloc);
+    let addend = addend_after(source, fields, near, reloc);
     if has_both(reloc, place, addend) {
         return;
     }
@@ -108,29 +119,56 @@ fn has_both(reloc: &Reloc, place: u64, addend: Option<i64>) -> bool
 
 /// The addend of a record when the fields say their offsets.
 #[tactic(auto, using(crate::proofs::RecordMoveLaws::addend_rules))]
-fn addend_after(source: &RelocSource, fields: &[Patch], reloc: &Reloc) -> Option<i64>
+fn addend_after(source: &RelocSource, fields: &[Patch], near: usize, reloc: &Reloc) -> Option<i64>
     requires fields { FieldsRise fields.now }
     requires sized { AllSized fields.now }
     requires fits { IfSome reloc.now.addend (FitsSigned (word_width source.now.class)) }
     ensures addend { result ≡ addend_after source.now fields.now reloc.now }
     ensures fits { IfSome result (FitsSigned (word_width source.now.class)) }
 {
-    match patch_for(fields, reloc.offset) {
+    match patch_for(fields, near, reloc.offset) {
         Some(field) => offset_addend(source, reloc, field.size, field.value),
         None => reloc.addend,
     }
 }
 
+/// The number of a field near the places behind one.
+fn near_behind(fields: &[Patch], near: usize, place: u64) -> usize {
+    if near < fields.len() && fields[near].at <= place {
+        return near + 1;
+    }
+    near
+}
+
 /// The field at a place. `None` exactly where there is none.
 #[tactic(auto, using(crate::proofs::RecordMoveLaws::field_rules))]
-fn patch_for(fields: &[Patch], place: u64) -> Option<Patch>
+fn patch_for(fields: &[Patch], near: usize, place: u64) -> Option<Patch>
     requires fields { FieldsRise fields.now }
     ensures field { result ≡ patch_for fields.now place }
 {
-    match field_at(fields, place) {
+    match field_near(fields, near, place) {
         Ok(at) => Some(fields[at]),
         Err(_) => None,
     }
+}
+
+/// The same as `field_at`, by two comparisons where the one of a number begins there, or would stand in front of it.
+#[tactic(auto, using(crate::proofs::RecordMoveLaws::near_rules))]
+fn field_near(fields: &[Patch], near: usize, place: u64) -> Result<usize, usize>
+    requires rise { FieldsRise fields.now }
+    ensures found { IfOk result (HasKey field_start fields.now place) }
+    ensures absent { IfErr result (IsGap field_start fields.now place) }
+{
+    if near >= fields.len() || fields[near].at < place {
+        return field_at(fields, place);
+    }
+    if fields[near].at == place {
+        return Ok(near);
+    }
+    if near > 0 && fields[near - 1].at >= place {
+        return field_at(fields, place);
+    }
+    Err(near)
 }
 
 /// Which field begins at a place, or where it would stand.
