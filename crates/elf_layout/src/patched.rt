@@ -29,17 +29,19 @@ pub(crate) fn push_patched<'a>(
     requires room { length out.old + vec_len made + length old.now ≤ output_limit }
     ensures pushed { OnOk result (out.new ≡ out.old ++ (made.items ++ with_patches order old.now fields.items)) }
 {
-    sort(&mut fields);
+    sort(&mut fields)?;
     push_sorted(alloc, out, made, old, order, &fields)?;
     Ok(())
 }
 
-/// Puts fields in order of their places.
-fn sort(list: &mut Vec<Patch>)
+/// Puts fields in order of their places. They come kind by kind, each kind in order: such stretches are kept, and put
+/// together in one pass.
+fn sort(list: &mut Vec<Patch>) -> Result<(), AllocError>
     ensures permutation { IsPermutation list.old.items list.new.items }
-    ensures sorted { IsNonDecreasingBy field_start list.new.items }
+    ensures sorted { OnOk result (IsNonDecreasingBy field_start list.new.items) }
 {
-    list.sort_unstable_by_key(|f| f.at);
+    list.sort_by_key(|f| f.at)?;
+    Ok(())
 }
 
 /// The same of fields that stand in order.
