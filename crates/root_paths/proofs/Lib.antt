@@ -4,3 +4,4 @@ pub mod NameLaws
 pub mod SearchLaws
 pub mod PlaceLaws
 pub mod TakenLaws
+pub mod EachLookLaws

@@ -10,7 +10,7 @@ use Rattle.file_tree.specs.declared.node.TreeErr.TheVariants as tree
 use Rattle.file_tree.specs.Seen.{Seen, Past, Happened, adds, now_of}
 use Rattle.file_tree.specs.Causes.{HasCause, Rose}
 use Rattle.file_tree.specs.Moments.{LooksOnly, is_look}
-use Rattle.root_paths.specs.Looks.{Looked}
+use Rattle.root_paths.specs.Looks.{LookedAt, Looked}
 
 -- one look more
 one_look : (old new : Past) (c : Call) → is_look (record { call = c; effect = effect.Same }) ≡ true → new ≡ adds old c effect.Same → LooksOnly old new
@@ -56,7 +56,12 @@ pub looked_read : {X : Type 0} (old new : Seen) (path : List ℕ) (r : Result X 
     → HasCause old new r → now_of new ≡ now_of old → new.tells ≡ old.tells → Looked old new
 looked_read old new path = looked_by old new (call.Read path) refl
 
-pub ruleset look_rules = (looked_list, looked_read)
+pub each_read : {X : Type 0} (old new : Seen) (path : List ℕ) (r : Result X TreeErr) → (old.tells ≡ true → OnOk r (new.past ≡ adds old.past (call.Read path) effect.Same))
+    → OnOk r (LookedAt old new (path ∷ []))
+each_read old new path (Ok x) done = record { log = λ t. ap (λ (p : Past). p.log) (done t) }
+each_read old new path (Err e) done = tt
+
+pub ruleset look_rules = (looked_list, looked_read, each_read)
 
 -- ### One after another
 
@@ -90,5 +95,3 @@ looked_then a b c x y = record {
 -- a fault behind looks is one since the first of them
 pub rose_since : (a b c : Seen) → Looked a b → Rose b.faults c.faults → Rose a.faults c.faults
 rose_since a b c looked rose = omega (arith, looked.later, rose)
-
-pub ruleset each_rules = (looked_none, looked_then, rose_since)

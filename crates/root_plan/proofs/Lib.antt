@@ -1,4 +1,5 @@
 pub use Rattle.root_paths.proofs.LookLaws
+pub use Rattle.root_paths.proofs.EachLookLaws
 pub use Rattle.root_paths.proofs.PlaceLaws
 pub mod PathLaws
 pub mod CountLaws
@@ -10,6 +11,7 @@ pub mod ListLaws
 pub mod MakerLaws
 pub mod PlanLaws
 pub mod MadeLaws
+pub mod NewLookLaws
 pub mod UnionLaws
 pub mod JobLaws
 pub mod WholeLaws

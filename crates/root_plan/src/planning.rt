@@ -5,8 +5,9 @@ ghost use Rattle.std.specs.Prelude.{◌≡◌, ◌≤◌, map, length, IfOk, IfE
 ghost use Rattle.std.specs.String.{string_bytes};
 ghost use Rattle.file_tree.specs.Seen.{now_of};
 ghost use Rattle.work_texts.specs.Rules.{text_limit};
-ghost use Rattle.root_paths.specs.Looks.{Looked};
-ghost use Rattle.root_plan.specs.Targets.{new_paths};
+ghost use Rattle.root_paths.specs.Looks.{Looked, LookedAt, LookedLast};
+ghost use Rattle.root_paths.specs.Roots.{in_root};
+ghost use Rattle.root_plan.specs.Targets.{new_paths, new_paths_of};
 ghost use Rattle.root_plan.specs.Reports.{report_text};
 ghost use Rattle.root_plan.specs.Plans.{key_of, plan_of, plan_length, IsLongPlan, CanBeMade, NewEnds, LookEnds, IsTalliedPlan, IsPlanOf, IsRunPlan, PlanEnds, OnlyCut};
 ghost use Rattle.root_plan.specs.Jobs.{Serves};
@@ -134,6 +135,7 @@ fn look_at_job<T: Tree>(
 ) -> Result<(), PlanErr>
     ensures ends { IfErr result (LookEnds (T.seen tree.old) (T.seen tree.new)) }
     ensures looked { Looked (T.seen tree.old) (T.seen tree.new) }
+    ensures each { OnOk result (LookedAt (T.seen tree.old) (T.seen tree.new) (map (in_root root.now) (new_paths_of job.now))) }
 {
     let mut paths = Vec::new(alloc);
     push_paths(alloc, root, job, &mut paths)?;
@@ -151,6 +153,7 @@ fn look_at_new<T: Tree>(
 ) -> Result<(), PlanErr>
     ensures ends { IfErr result (LookEnds (T.seen tree.old) (T.seen tree.new)) }
     ensures looked { Looked (T.seen tree.old) (T.seen tree.new) }
+    ensures each { OnOk result (LookedAt (T.seen tree.old) (T.seen tree.new) (new_paths root.now jobs.now)) }
 {
     for job in jobs {
         look_at_job(alloc, tree, root, job)?;
@@ -190,6 +193,7 @@ fn plan_root<T: Tree, J: Judge>(
     ensures plan { IfOk result (IsPlanOf (now_of (T.seen tree.old)) root.now (map string_bytes present.now) options.now (J.view judge.now) (J.fails judge.now)) }
     ensures ends { IfErr result (PlanEnds (T.seen tree.old) (T.seen tree.new) root.now (map string_bytes present.now) options.now (J.view judge.now) (J.fails judge.now)) }
     ensures looked { Looked (T.seen tree.old) (T.seen tree.new) }
+    ensures last { IfOk result (λ plan. LookedLast (T.seen tree.old) (T.seen tree.new) (new_paths root.now plan.jobs)) }
 {
     let plan = tallied_plan(alloc, tree, root, present, options, judge)?;
     check_new(alloc, root, present, &plan)?;
@@ -200,7 +204,7 @@ fn plan_root<T: Tree, J: Judge>(
 
 /// The plan of a build root: what becomes of its files, of which these are the paths in byte order, and all
 /// that is made of them. It is refused where a limit is passed, where a file is refused that isn't to be
-/// skipped, and where a path that is to be made is taken.
+/// skipped, and where a path that is to be made is taken. Each path that is to be made is looked at in the end.
 #[tactic(auto, using(crate::proofs::WholeLaws::serve_rules, crate::proofs::RunPlanLaws::run_rules))]
 pub fn make_plan<T: Tree, J: Judge>(
     alloc: Global,
@@ -216,6 +220,7 @@ pub fn make_plan<T: Tree, J: Judge>(
     ensures looked { Looked (T.seen tree.old) (T.seen tree.new) }
     ensures whole { IfErr result (OnlyCut (T.seen tree.old) root.now (map string_bytes present.now) options.now (J.view judge.now) (J.fails judge.now)) }
     ensures serves { IfOk result (Serves (now_of (T.seen tree.old)) root.now (map string_bytes present.now) options.now (J.view judge.now)) }
+    ensures last { IfOk result (λ plan. LookedLast (T.seen tree.old) (T.seen tree.new) (new_paths root.now plan.jobs)) }
 {
     let plan = plan_root(alloc, tree, root, present, options, judge)?;
     Ok(plan)

@@ -1,6 +1,9 @@
 -- A plan of all paths is the plan of the root once its checks pass, and why it isn't.
+use Rattle.std.proofs.Common.{ap}
 use Rattle.std.proofs.lemmas.Result.{err_from_is_err_and}
+use Rattle.root_paths.proofs.EachLookLaws.{each_at}
 use Rattle.root_paths.proofs.LookLaws.{looked_then}
+use Rattle.root_plan.specs.Targets.{new_paths}
 use Rattle.root_plan.proofs.MadeLaws.{plan_made, new_ends, text_ends, look_ends}
 use Rattle.root_plan.proofs.planning.plan_root.Goals as goal
 
@@ -33,3 +36,10 @@ returns-clause-plan g c = plan_made _ _ _ _ _ _ _ c.in_ok-plan.ensures.plan c.in
 
 pub returns-clause-looked : goal.returns-clause-looked
 returns-clause-looked g c = looked_then _ _ _ c.tallied_plan.ensures.looked c.look_at_new.ensures.looked
+
+pub returns-clause-last : goal.returns-clause-last
+returns-clause-last g c = record {
+  mid = _;
+  before = c.tallied_plan.ensures.looked;
+  each = each_at _ _ _ _ (ap (new_paths c.args.root.now) c.as_slice.ensures.value) c.in_ok-look_at_new.ensures.each;
+}
