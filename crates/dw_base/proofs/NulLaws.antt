@@ -1,9 +1,12 @@
--- Laws of where the last NUL of a string table stands.
-use Rattle.std.proofs.Common.{◌≡◌, ◌≢◌, ℕ, zero, suc, ◌+◌, ◌-◌, ◌<◌, ◌≤◌, ◌==◌, true, false, nat_lt, List, [], ◌∷◌, length, drop, slice_index, refl, sym, ap, ◌∙◌, arith, inl, inr}
+-- Laws of where the first and the last NUL of a string table stand.
+use Rattle.std.proofs.Common.{◌≡◌, ◌≢◌, ℕ, zero, suc, ◌+◌, ◌-◌, ◌<◌, ◌≤◌, ◌==◌, Bool, true, false, nat_lt, List, [], ◌∷◌, Option, None, Some, length, drop, slice_index, refl, sym, ap, ◌∙◌, arith, inl, inr}
+use Rattle.std.specs.List.{position, position_or_len}
+use Rattle.std.proofs.lemmas.List.Sums.{position_or_len_is}
 use Rattle.std.proofs.lemmas.List.{drop_more, drop-drop, get_or-drop, length-drop}
 use Rattle.std.proofs.lemmas.List.Folds.{list_any_at}
 use Rattle.std.proofs.lemmas.Bool.{cases_lt}
 use Rattle.dw_base.specs.Texts.{has_nul, ends_in, IsNulEnd}
+use Rattle.memchr.specs.Find.{IsFirstByte, is_byte}
 
 not_below : (m n : ℕ) → n ≤ m → nat_lt m n ≡ false
 not_below m n h = grind arith
@@ -72,3 +75,22 @@ name-ends table end place is lt = is.ends place ∙ below place end lt
 -- one that doesn't begin before it has no end
 pub name-unended : (table : List ℕ) (end place : ℕ) → IsNulEnd table end → end ≤ place → ends_in table place ≡ false
 name-unended table end place is le = is.ends place ∙ not_below place end le
+
+-- ### The first NUL
+
+not_true : (b : Bool) → (b ≡ true → ⊥) → b ≡ false
+not_true false none = refl
+not_true true none = absurd (none refl)
+
+first-none : (xs : List ℕ) → position_or_len (λ b. b == 0) xs ≡ length xs → position (λ b. b == 0) xs ≡ None
+first-none xs is = rw (is, not_below (length xs) (length xs) (omega arith)) refl
+
+first-some : (xs : List ℕ) (k : ℕ) → k < length xs → position_or_len (λ b. b == 0) xs ≡ k → position (λ b. b == 0) xs ≡ Some k
+first-some xs k lt is = rw (is, below k (length xs) lt) refl
+
+-- what a search for a NUL found is where the first stands
+pub first-nul : (xs : List ℕ) (found : Option ℕ) → IsFirstByte (is_byte 0) xs found → found ≡ position (λ b. b == 0) xs
+first-nul xs None none =
+    sym (first-none xs (position_or_len_is (λ b. b == 0) xs (length xs) 0 (omega arith) (λ k lt. not_true (slice_index xs k == 0) (none k (omega arith) lt)) (λ lt. absurd (omega (arith, lt)))))
+first-nul xs (Some k) first =
+    sym (first-some xs k first.0.high (position_or_len_is (λ b. b == 0) xs k 0 (omega (arith, first.0.high)) (λ j lt. not_true (slice_index xs j == 0) (first.0.before j (omega arith) lt)) (λ lt. first.1)))

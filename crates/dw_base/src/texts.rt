@@ -4,6 +4,8 @@
 ghost use Rattle.std.specs.Prelude.{◌≡◌, ◌==◌, position};
 ghost use Rattle.dw_base.specs.Texts.{IsNulEnd};
 
+use memchr::memchr;
+
 /// A table that holds texts (DWARF 5, 7.5.5, class string).
 #[derive(Clone, Copy, Debug, PartialEq, Eq)]
 pub enum TextSection {
@@ -26,7 +28,7 @@ pub struct TextField {
 pub fn nul_in(bytes: &[u8]) -> Option<usize>
     ensures value { result ≡ position (λ b. b == 0) bytes.now }
 {
-    bytes.iter().position(|b| *b == 0)
+    memchr(0, bytes)
 }
 
 /// The place behind the last NUL of a string table, 0 where there is none, in bytes from its start: a
