@@ -1,6 +1,6 @@
 //! Numbers of 1 to 8 bytes at a place, in either byte order (gABI ch. 4 "Data Representation").
 
-ghost use Rattle.std.specs.Prelude.{◌≡◌, ◌<◌, ◌≤◌, ◌+◌, ◌++◌, ◌^◌, ◌↔◌, length, IsTrue, IfSome, OnOk, OnSome};
+ghost use Rattle.std.specs.Prelude.{◌≡◌, ◌<◌, ◌≤◌, ◌+◌, ◌++◌, ◌^◌, ◌↔◌, drop, length, IsTrue, IfSome, OnOk, OnSome};
 ghost use Rattle.std.specs.Bool.{OnTrue, OnFalse};
 ghost use Rattle.dw_base.specs.Numbers.{number_at, number_bytes, number_of, spelled, with_number, NumberFits};
 ghost use Rattle.dw_base.specs.declared.shared.Order.TheVariants.{Little, Big};
@@ -99,10 +99,25 @@ pub fn put_number(order: Order, bytes: &mut [u8], at: u64, size: u8, value: u64)
     }
     let field = &mut bytes[at as usize..];
     match order {
-        Order::Little => LittleEndian::write_uint(field, value, size as usize),
+        Order::Little => put_lowest_first(field, value, size),
         Order::Big => BigEndian::write_uint(field, value, size as usize),
     }
     true
+}
+
+/// Puts a number into the first `size` bytes, the lowest first. The usual sizes are put at once.
+fn put_lowest_first(field: &mut [u8], value: u64, size: u8)
+    requires some { 0 < size }
+    requires wide { size ≤ 8 }
+    requires inside { size ≤ length field.old }
+    requires fits { value < 256 ^ size }
+    ensures put { field.new ≡ number_bytes Little size value ++ drop size field.old }
+{
+    match size {
+        4 => LittleEndian::write_u32(field, value as u32),
+        8 => LittleEndian::write_u64(field, value),
+        _ => LittleEndian::write_uint(field, value, size as usize),
+    }
 }
 
 /// Whether a number fits `size` bytes.
