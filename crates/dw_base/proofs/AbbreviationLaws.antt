@@ -23,11 +23,11 @@ pair-read a list bytes at name form next s =
     ∙ ap (λ (n : ℕ). after_all (after_pair a name form list) (drop n bytes)) (sym s.behind)
 
 -- a pair without zeros
-pair-some : (a : Abbreviation) (list : List Abbreviation) (name form : ℕ) → name ≢ 0 → form ≢ 0
+pub pair-some : (a : Abbreviation) (list : List Abbreviation) (name form : ℕ) → name ≢ 0 → form ≢ 0
     → after_pair a name form list ≡ at_place (after_form a name form) list
 pair-some a list name form n f = rw (ne_eqb name 0 n, ne_eqb form 0 f) refl
 
-form-plain : (a : Abbreviation) (name form : ℕ) → form ≢ DW_FORM_implicit_const → after_form a name form ≡ name_next (with_spec a name form (pos 0))
+pub form-plain : (a : Abbreviation) (name form : ℕ) → form ≢ DW_FORM_implicit_const → after_form a name form ≡ name_next (with_spec a name form (pos 0))
 form-plain a name form f = rw (ne_eqb form DW_FORM_implicit_const f) refl
 
 -- a code that has no abbreviation yet

@@ -20,7 +20,7 @@ takes_number ended = false
 takes_number broken = false
 takes_number p = true
 
-abbrev unfinished : TablePlace → List ℕ → List Abbreviation → TableState
+abbrev pub unfinished : TablePlace → List ℕ → List Abbreviation → TableState
 unfinished p t list = record { place = p; number = t; list = list }
 
 -- after a byte of a number
@@ -114,7 +114,7 @@ sleb-front_of (b ∷ bs) v e = by_low (nat_lt b 128) (sleb bs) refl (λ w f. sle
     by_low false (Some w) is g e = signed-more b bs w v is (g w refl) e
 
 -- a number is read of its own bytes
-within-some : (o : Option (ℕ × ℕ)) (v : ℕ × ℕ) → uleb_within o ≡ Some v → o ≡ Some v
+pub within-some : (o : Option (ℕ × ℕ)) (v : ℕ × ℕ) → uleb_within o ≡ Some v → o ≡ Some v
 within-some None v e = absurd cc
 within-some (Some w) v e = by_fits (nat_lt w.0 (2 ^ 64)) e
   where
@@ -122,7 +122,7 @@ within-some (Some w) v e = by_fits (nat_lt w.0 (2 ^ 64)) e
     by_fits true e = e
     by_fits false e = absurd cc
 
-signed_within-some : (o : Option (ℤ × ℕ)) (v : ℤ × ℕ) → sleb_within o ≡ Some v → o ≡ Some v
+pub signed_within-some : (o : Option (ℤ × ℕ)) (v : ℤ × ℕ) → sleb_within o ≡ Some v → o ≡ Some v
 signed_within-some None v e = absurd cc
 signed_within-some (Some w) v e = by_fits (fits_i64 w.0) e
   where
@@ -131,7 +131,7 @@ signed_within-some (Some w) v e = by_fits (fits_i64 w.0) e
     by_fits false e = absurd cc
 
 -- the bytes behind a front of them
-split-front : (n at : ℕ) (bytes : List ℕ) → drop at bytes ≡ take n (drop at bytes) ++ drop (at + n) bytes
+pub split-front : (n at : ℕ) (bytes : List ℕ) → drop at bytes ≡ take n (drop at bytes) ++ drop (at + n) bytes
 split-front n at bytes =
     sym (take-append-drop n (drop at bytes)) ∙ ap (λ (bs : List ℕ). take n (drop at bytes) ++ bs) (drop-drop n at bytes)
 
@@ -168,7 +168,7 @@ unsigned-takes (tag_next code) e = refl
 unsigned-takes (name_next a) e = refl
 unsigned-takes (form_next a name) e = refl
 
-unsigned-after : (p : TablePlace) (t : List ℕ) (list : List Abbreviation) → takes_unsigned p ≡ true
+pub unsigned-after : (p : TablePlace) (t : List ℕ) (list : List Abbreviation) → takes_unsigned p ≡ true
     → after_bytes p t list ≡ if_number p list (uleb_within (uleb t))
 unsigned-after (flag_next code tag) t list e = absurd cc
 unsigned-after (number_next a name) t list e = absurd cc

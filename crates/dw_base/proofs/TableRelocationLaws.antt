@@ -28,7 +28,7 @@ among-record g (x ∷ xs) (suc i) d lt counts = by_type (is_none_type g.machine 
     by_type false h = among-further (placed g x) (relocations_among g xs) (placed g (get_or xs i d)) h
 
 -- and those of two at one place begin together
-together-further : (x : PlacedRelocation) (xs : List PlacedRelocation) (r q : PlacedRelocation) → BeginTogether xs r q → BeginTogether (x ∷ xs) r q
+pub together-further : (x : PlacedRelocation) (xs : List PlacedRelocation) (r q : PlacedRelocation) → BeginTogether xs r q → BeginTogether (x ∷ xs) r q
 together-further x xs r q h = record {
   before = x ∷ h.before;
   between = h.between;
@@ -37,7 +37,7 @@ together-further x xs r q h = record {
   place = h.place;
 }
 
-together-first : (x : PlacedRelocation) (xs : List PlacedRelocation) (q : PlacedRelocation) → IsAmong xs q → x.place ≡ q.place → BeginTogether (x ∷ xs) x q
+pub together-first : (x : PlacedRelocation) (xs : List PlacedRelocation) (q : PlacedRelocation) → IsAmong xs q → x.place ≡ q.place → BeginTogether (x ∷ xs) x q
 together-first x xs q h same = record {
   before = [];
   between = h.before;

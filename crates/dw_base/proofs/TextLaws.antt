@@ -238,6 +238,19 @@ ends_in-place_in kept ts t e =
     let p = drop-place_in ts t e in
     ap has_nul (drop-place_in_behind kept ts t ∙ p.1) ∙ has_nul-append_nul t p.0
 
+-- so do laid texts alone
+pub text_in-laid : (ts : List (List ℕ)) (t : List ℕ) → is_in ts t ≡ true → has_nul t ≡ false → text_in (laid_texts ts) (place_in ts t) ≡ t
+unfolding text_in
+text_in-laid ts t e bare =
+    let p = drop-place_in ts t e in
+    ap text p.1 ∙ text-append_nul t p.0 bare
+
+pub ends_in-laid : (ts : List (List ℕ)) (t : List ℕ) → is_in ts t ≡ true → ends_in (laid_texts ts) (place_in ts t) ≡ true
+unfolding ends_in
+ends_in-laid ts t e =
+    let p = drop-place_in ts t e in
+    ap has_nul p.1 ∙ has_nul-append_nul t p.0
+
 -- and the place lies within the table
 pub place_in-lt : (ts : List (List ℕ)) (t : List ℕ) → is_in ts t ≡ true → place_in ts t + length t < length (laid_texts ts)
 place_in-lt ts t e =

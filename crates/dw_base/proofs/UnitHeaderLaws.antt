@@ -105,7 +105,7 @@ places-lie true width at kind size h = record { address = omega arith; abbrevs =
 places-lie false width at kind size h = record { address = omega arith; abbrevs = omega arith; further = h }
 
 -- the places of a header of version 5, or of one before it
-abbrev places_if : Bool → Width → ℕ → HeaderPlaces
+abbrev pub places_if : Bool → Width → ℕ → HeaderPlaces
 places_if new width at =
     if new then record { address = at + 3; abbrevs = at + 4; behind = at + 4 + width_size width }
     else record { address = at + 2 + width_size width; abbrevs = at + 2; behind = at + 3 + width_size width }

@@ -76,7 +76,6 @@ pub mod LineOperations
 pub mod LineRegisters
 pub mod LineReadings
 pub mod LineMeanings
-pub mod LineChanges
 pub mod TableStarts
 pub mod TableRecords
 pub mod Symbols

@@ -1,6 +1,6 @@
 -- The texts that pieces of units name, and what becomes of the pieces when the tables of texts change. The offset in a field
 -- is read and written by words of their own.
-use Rattle.std.specs.Prelude.{Bool, ℕ, List, [], ◌∷◌, ◌++◌, get_or, if◌then◌else◌, IsTrue, ⊤, Option, Some, None}
+use Rattle.std.specs.Prelude.{Bool, ℕ, List, [], ◌∷◌, ◌++◌, get_or, IsTrue, ⊤, Option, Some, None}
 use Rattle.dw_base.specs.Cells.{Cell, bytes_of, with_bytes, offset_of}
 use Rattle.dw_base.specs.DebugData.{Around, line_table, table_of}
 use Rattle.dw_base.specs.Readings.{Readings}
@@ -11,7 +11,7 @@ use Rattle.dw_base.specs.Pieces.{Piece}
 use Rattle.dw_base.specs.LineMeanings.{is_there}
 use Rattle.dw_base.specs.LineReadings.{starts_from}
 use Rattle.dw_base.specs.Roles.{Role, fixed, offset, inline_path, line_start, role_of}
-use Rattle.dw_base.specs.StringTables.{Mention, Plan, new_place}
+use Rattle.dw_base.specs.StringTables.{Mention, new_place}
 use Rattle.dw_base.specs.Texts.{text, text_in, ends_in}
 use Rattle.dw_base.specs.UnitStates.{UnitState}
 use Rattle.dw_base.specs.declared.debug_sections.DebugSection.{DebugSection}
@@ -42,15 +42,10 @@ abbrev pub all_mentions : TextSection → Around → Readings → List Mention
 all_mentions table around [] = []
 all_mentions table around (r ∷ rs) = mentions_of table around r.pieces ++ all_mentions table around rs
 
--- what becomes of a table: its plan, and its new texts
-pub record TableChange : Type 0 where
-  pub plan : Plan
-  pub texts : List (List ℕ)
-
--- what is new in the sections of a kind that others name: what becomes of a table of texts, and the new line tables
+-- what is new in the sections of a kind that others name: the new texts of a table of texts, and the new line tables
 abbrev pub Changed : DebugSection → Type 0
-Changed Str = TableChange
-Changed LineStr = TableChange
+Changed Str = List (List ℕ)
+Changed LineStr = List (List ℕ)
 Changed Line = List (List ℕ)
 Changed s = ⊤
 
@@ -59,14 +54,14 @@ pub record TableChanges : Type 0 where
   pub map : PathMap
   pub new : (s : DebugSection) → Changed s
 
-abbrev pub change_of : TableChanges → TextSection → TableChange
+-- the new texts of a table
+abbrev pub change_of : TableChanges → TextSection → List (List ℕ)
 change_of changes InStr = changes.new Str
 change_of changes InLineStr = changes.new LineStr
 
--- a field whose mention asks for a new place has it
-abbrev pub moved_field : TableChange → PathMap → Order → Mention → List Cell → List Cell
-moved_field change m order mention p =
-    if change.plan.asks mention then with_offset order p (new_place change.plan m change.texts mention) else p
+-- a field has the new place of its mention
+abbrev pub moved_field : List (List ℕ) → PathMap → Order → Mention → List Cell → List Cell
+moved_field texts m order mention p = with_offset order p (new_place m texts mention)
 
 -- the start of a line table in a field becomes the new one
 abbrev pub moved_start : List ℕ → Order → Option ℕ → List Cell → List Cell

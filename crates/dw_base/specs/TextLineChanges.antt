@@ -1,16 +1,14 @@
 -- What an edit makes of all texts of a line table that offsets name or that stand in it (DWARF 5, 6.2.4), its paths and those beside them, and
--- which texts it so mentions: a path is mapped or follows its text, and another text that an offset names follows its text alone, where it gets
--- a new place; one that stands in the table stays.
-use Rattle.std.specs.Prelude.{ℕ, ◌+◌, ◌==◌, if◌then◌else◌, List, [], ◌∷◌, ◌++◌, length, Option}
+-- which texts it so mentions: a path that stands in the table is mapped there, one that an offset names follows its mapped text, and another
+-- text that an offset names follows its text; one that stands in the table stays.
+use Rattle.std.specs.Prelude.{ℕ, ◌+◌, ◌==◌, if◌then◌else◌, List, [], ◌∷◌, ◌++◌, length, Option, Some}
 use Rattle.dw_base.specs.LineReadings.{LineReading, table_read}
 use Rattle.dw_base.specs.LineSources.{LineSource}
 use Rattle.dw_base.specs.LineTables.{LineTable}
 use Rattle.dw_base.specs.Paths.{PathMap}
-use Rattle.dw_base.specs.StringTables.{Mention}
+use Rattle.dw_base.specs.StringTables.{Mention, new_place}
 use Rattle.dw_base.specs.TableTexts.{as_path}
-use Rattle.dw_base.specs.TextChanges.{TableChange}
 use Rattle.dw_base.specs.Texts.{text_in}
-use Rattle.dw_base.specs.LineChanges.{asked_place}
 use Rattle.dw_base.specs.WrittenLines.{Change, behind_lengths, changed, length_bytes, length_size, offset_changes, path_changes, with_header_length, with_program}
 use Rattle.dw_base.specs.declared.line_tables.LineText.{LineText}
 use Rattle.dw_base.specs.declared.line_tables.TextPlace.{TextPlace}
@@ -55,10 +53,10 @@ abbrev pub all_texts_mentions : LineSource → TextSection → List LineReading 
 all_texts_mentions g table [] = []
 all_texts_mentions g table (r ∷ rs) = texts_mentions g table (table_read g r).texts ++ all_texts_mentions g table rs
 
--- the new place of a text that asks for one
-abbrev pub text_place : PathMap → TableChange → TableChange → LineSource → LineText → Option ℕ
+-- the new place of a text that an offset names
+abbrev pub text_place : PathMap → List (List ℕ) → List (List ℕ) → LineSource → LineText → Option ℕ
 text_place m str line_str g x =
-    if x.place.section == g.str.number then asked_place str m (text_mention g.str.bytes x) else asked_place line_str m (text_mention g.line_str.bytes x)
+    if x.place.section == g.str.number then Some (new_place m str (text_mention g.str.bytes x)) else Some (new_place m line_str (text_mention g.line_str.bytes x))
 
 -- the new header by all texts, from behind its length up to the program
 unfoldable pub header_by_texts : LineSource → PathMap → (LineText → Option ℕ) → LineTable → List ℕ
@@ -80,7 +78,7 @@ unfoldable pub program_by_texts : LineSource → PathMap → (LineText → Optio
 program_by_texts g m places t = length_size t.width + length (front_by_texts g m places t)
 
 -- the new tables
-abbrev pub tables_by_texts : PathMap → TableChange → TableChange → LineSource → List LineReading → List (List ℕ)
+abbrev pub tables_by_texts : PathMap → List (List ℕ) → List (List ℕ) → LineSource → List LineReading → List (List ℕ)
 tables_by_texts m str line_str g [] = []
 tables_by_texts m str line_str g (r ∷ rs) =
     table_by_texts g m (text_place m str line_str g) (table_read g r) ∷ tables_by_texts m str line_str g rs

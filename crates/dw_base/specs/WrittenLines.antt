@@ -12,7 +12,7 @@ use Rattle.dw_base.specs.declared.shared.Width.{Width}
 use Rattle.dw_base.specs.declared.shared.Width.TheVariants.{W32, W64}
 use Rattle.dw_base.specs.declared.line_tables.TextPlace.{TextPlace}
 use Rattle.dw_base.specs.LineHeaders.{length_place}
-use Rattle.dw_base.specs.LineTables.{LineTable, texts_of}
+use Rattle.dw_base.specs.LineTables.{LineTable}
 
 -- the bytes from a place up to another
 abbrev pub part : List ℕ → ℕ → ℕ → List ℕ
@@ -65,10 +65,6 @@ path_changes g m places width x =
 abbrev pub all_changes : LineSource → PathMap → (TextPlace → Option ℕ) → Width → List TextPlace → List Change
 all_changes g m places width [] = []
 all_changes g m places width (x ∷ xs) = path_changes g m places width x ++ all_changes g m places width xs
-
--- the paths of a header: of its directories, then of its files
-abbrev pub paths_of : LineTable → List TextPlace
-paths_of t = t.dirs ++ texts_of t.files
 
 -- where the version stands: behind the length, whose field has 4 or 12 bytes (DWARF 5, 7.4)
 abbrev pub length_size : Width → ℕ

@@ -189,7 +189,7 @@ string-names (at_string width left end) v rs p h = h
 string-names (at_rest end) v rs p h = tt
 string-names no_names v rs p h = tt
 
-all-names : (v : View) (rs : DataReadings) (xs : List (Piece NameState)) → EachPiece (λ x. StringNamesBy x.state.mode v x.cells) xs
+pub all-names : (v : View) (rs : DataReadings) (xs : List (Piece NameState)) → EachPiece (λ x. StringNamesBy x.state.mode v x.cells) xs
     → NameTexts name_role (around_of (debug_data v) rs) xs
 all-names v rs [] h = tt
 all-names v rs (x ∷ xs) h = (string-names x.state.mode v rs x.cells h.0, all-names v rs xs h.1)

@@ -78,12 +78,7 @@ alike-put order p n = by_first (first_relocation p) refl
 
 edited-alike : (r : Role) (c : TableChanges) (around : Around) (p : List Cell) → AllAlike p (edited_by r c around p)
 edited-alike fixed c around p = alike-self p
-edited-alike (offset table path) c around p = by_asks ((change_of c table).plan.asks (mention_at around table path p))
-  where
-    by_asks : (b : Bool) → AllAlike p (if b then with_offset around.lasting.base.order p
-        (new_place (change_of c table).plan c.map (change_of c table).texts (mention_at around table path p)) else p)
-    by_asks true = alike-put around.lasting.base.order p _
-    by_asks false = alike-self p
+edited-alike (offset table path) c around p = alike-put around.lasting.base.order p (new_place c.map (change_of c table) (mention_at around table path p))
 edited-alike inline_path c around p = alike-bytes p _
 edited-alike line_start c around p = by_table (line_table around p)
   where

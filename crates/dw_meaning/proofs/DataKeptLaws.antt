@@ -11,7 +11,7 @@ use Rattle.dw_base.specs.LineSources.{LineSource}
 use Rattle.dw_base.specs.MacroMeanings.{macro_meanings}
 use Rattle.dw_base.specs.MacroReadings.{MacroReading, EachMacro, MacroStart, MacroPlaces, macro_starts, first_macros}
 use Rattle.dw_base.specs.TableStarts.{HasStartForm, macro_value_by, macro_value_in, NamesUnitIf, NamesMacro, NamesImport}
-use Rattle.dw_base.specs.Texts.{ends_in}
+use Rattle.dw_base.specs.Texts.{ends_in, laid_texts}
 use Rattle.dw_base.specs.MappedSlots.{unit_slots, mapped_slots}
 use Rattle.dw_base.specs.MappedUnits.{mapped_unit, mapped_units}
 use Rattle.dw_base.specs.NamePieces.{NameState, at_table, names_at}
@@ -22,8 +22,8 @@ use Rattle.dw_base.specs.Readings.{Readings, EachReading}
 use Rattle.dw_base.specs.Roles.{use_of, role_of_kind, role_of, role_of_mode}
 use Rattle.dw_base.specs.SectionTexts.{slot_role, name_role, macro_role, mentions_with, macro_mentions, file_mentions, NameTexts}
 use Rattle.dw_base.specs.SlotTexts.{contributions_in, slot_texts, name_parts}
-use Rattle.dw_base.specs.StringTables.{Mention, texts_after, new_table}
-use Rattle.dw_base.specs.TextChanges.{TableChanges, change_of, mentions_of, all_mentions, edited_by, edited_all, NamesTextBy, NamesText, InlineFits}
+use Rattle.dw_base.specs.StringTables.{Mention, texts_after}
+use Rattle.dw_base.specs.TextChanges.{TableChanges, mentions_of, all_mentions, edited_by, edited_all, NamesTextBy, NamesText, InlineFits}
 use Rattle.dw_base.specs.TextLineChanges.{all_texts_mentions, text_place}
 use Rattle.dw_base.specs.TextIndexes.{Indexing, IndexUse, SaidBase, bases_in, all_bases, uses_in, index_uses, EachUse, NamesSlot}
 use Rattle.dw_base.specs.UnitHeaders.{UnitBase, UnitSection}
@@ -58,7 +58,7 @@ use Rattle.dw_meaning.proofs.MacroEditLaws.{AllMacrosChanged, all-macros-can, ed
 use Rattle.dw_meaning.proofs.OffsetMoveLaws.{RolesChanged, names-can, offsets-can, roles-length, names-becomes, roles-named, offsets-reads, names-reads}
 use Rattle.dw_meaning.proofs.SlotMeaningLaws.{units-slots}
 use Rattle.dw_meaning.proofs.TextCellLaws.{text_tables-bytes}
-use Rattle.dw_meaning.proofs.TextEditLaws.{EachBelow, rebuilding-keeps, LinesMove, TablesMove, TextsAre, behind_piece, Moves, PlainPiece, pieces-move, SlotMoves, edited-changed, roles-changed, shift_of, moved_table}
+use Rattle.dw_meaning.proofs.TextEditLaws.{EachBelow, LinesMove, TablesMove, TextsAre, behind_piece, Moves, PlainPiece, pieces-move, SlotMoves, edited-changed, roles-changed, shift_of, moved_table}
 use Rattle.dw_meaning.proofs.UnitMeaningLaws.{units-changed}
 use Rattle.dw_meaning.proofs.DataParts.{found_with, kept_with, stands_with}
 
@@ -150,13 +150,13 @@ readings-edited lc base c around ts us first (z ∷ zs) (r ∷ rs) ms ns t all r
     let lines : List Mention = mentions_of InLineStr around r.pieces in
     let rest : TextsAre c ts us (heres ++ (all_mentions InStr around rs ++ ms)) (lines ++ (all_mentions InLineStr around rs ++ ns)) =
     record {
-      str = all.str ∙ ap (texts_after (c.new Str).plan c.map ts) (append_assoc heres (all_mentions InStr around rs) ms);
-      line_str = all.line_str ∙ ap (texts_after (c.new LineStr).plan c.map us) (append_assoc lines (all_mentions InLineStr around rs) ns);
+      str = all.str ∙ ap (texts_after c.map ts) (append_assoc heres (all_mentions InStr around rs) ms);
+      line_str = all.line_str ∙ ap (texts_after c.map us) (append_assoc lines (all_mentions InLineStr around rs) ns);
     } in (
       refl,
       edited-changed lc base c around ts us (before_unit z.number z.kind (length z.contents) 0 first) r.pieces (all_mentions InStr around rs ++ ms)
           (all_mentions InLineStr around rs ++ ns) t rest reads.1.chain moves.0 names.0 fits.0 slots.0,
-      readings-edited lc base c around (texts_after (c.new Str).plan c.map ts heres) (texts_after (c.new LineStr).plan c.map us lines) (first + units_in r.pieces) zs rs ms ns t
+      readings-edited lc base c around (texts_after c.map ts heres) (texts_after c.map us lines) (first + units_in r.pieces) zs rs ms ns t
           (behind_piece c ts us heres lines (all_mentions InStr around rs ++ ms) (all_mentions InLineStr around rs ++ ns) rest)
           reads.2 moves.1 names.1 fits.1 slots.1,
     )
@@ -164,7 +164,7 @@ readings-edited lc base c around ts us first (z ∷ zs) (r ∷ rs) ms ns t all r
 -- the texts behind the mentions of all unit sections
 behind_units : (c : TableChanges) (around : Around) (ts us : List (List ℕ)) (rs : Readings) (ms ns : List Mention)
     → TextsAre c ts us (all_mentions InStr around rs ++ ms) (all_mentions InLineStr around rs ++ ns)
-    → TextsAre c (texts_after (c.new Str).plan c.map ts (all_mentions InStr around rs)) (texts_after (c.new LineStr).plan c.map us (all_mentions InLineStr around rs)) ms ns
+    → TextsAre c (texts_after c.map ts (all_mentions InStr around rs)) (texts_after c.map us (all_mentions InLineStr around rs)) ms ns
 behind_units c around ts us rs ms ns all = behind_piece c ts us (all_mentions InStr around rs) (all_mentions InLineStr around rs) ms ns all
 
 -- all sections are pieces after the change
@@ -269,8 +269,8 @@ pub record DataMoves (m : PathMap) (d : DebugData) (r : DataReadings) : Type 0 w
   pub map : IsPathMap m
   pub reads : DataReads d r
   pub fits : DataFits m d r
-  pub str : length (new_table (table_change m InStr (around_of d r) r).plan (table_change m InStr (around_of d r) r).texts) ≤ 2 ^ 32
-  pub line_str : length (new_table (table_change m InLineStr (around_of d r) r).plan (table_change m InLineStr (around_of d r) r).texts) ≤ 2 ^ 32
+  pub str : length (laid_texts (table_change m InStr (around_of d r) r)) ≤ 2 ^ 32
+  pub line_str : length (laid_texts (table_change m InLineStr (around_of d r) r)) ≤ 2 ^ 32
   pub lines : length (all_lines (new_lines m (around_of d r) r)) ≤ 2 ^ 32
   pub lines_clear : EachClear (line_source d) r.lines
   pub apart : TablesApart (line_source d) r.lines
@@ -301,16 +301,16 @@ behind_units_in table d r = slots_in table d r ++ behind_slots_in table d r
 
 -- the new texts after the mentions of units, of slots, of line tables, and of macro units
 abbrev units_texts : PathMap → TextSection → DebugData → DataReadings → List (List ℕ)
-units_texts m table d r = texts_after (change_of (changes_of m (around_of d r) r) table).plan m [] (all_mentions table (around_of d r) r.units)
+units_texts m table d r = texts_after m [] (all_mentions table (around_of d r) r.units)
 
 abbrev slots_texts : PathMap → TextSection → DebugData → DataReadings → List (List ℕ)
-slots_texts m table d r = texts_after (change_of (changes_of m (around_of d r) r) table).plan m (units_texts m table d r) (slots_in table d r)
+slots_texts m table d r = texts_after m (units_texts m table d r) (slots_in table d r)
 
 abbrev lines_texts : PathMap → TextSection → DebugData → DataReadings → List (List ℕ)
-lines_texts m table d r = texts_after (change_of (changes_of m (around_of d r) r) table).plan m (slots_texts m table d r) (lines_in table d r)
+lines_texts m table d r = texts_after m (slots_texts m table d r) (lines_in table d r)
 
 abbrev macros_texts : PathMap → TextSection → DebugData → DataReadings → List (List ℕ)
-macros_texts m table d r = texts_after (change_of (changes_of m (around_of d r) r) table).plan m (lines_texts m table d r) (macros_in table d r)
+macros_texts m table d r = texts_after m (lines_texts m table d r) (macros_in table d r)
 
 texts-are : (m : PathMap) (d : DebugData) (r : DataReadings)
     → TextsAre (changes_of m (around_of d r) r) [] [] (file_mentions InStr (around_of d r) r) (file_mentions InLineStr (around_of d r) r)
@@ -342,13 +342,8 @@ behind-macros m d r =
     (names_in InStr d r) (names_in InLineStr d r) (behind-lines m d r)
 
 -- line tables, changed
-both-move : (m : PathMap) (d : DebugData) (r : DataReadings) → DataMoves m d r → BothMove (changes_of m (around_of d r) r) (line_source d)
-unfolding table_change
-both-move m d r w = record {
-  map = w.map;
-  str = record { keeps = rebuilding-keeps m (d.found Str).bytes; small = w.str };
-  line_str = record { keeps = rebuilding-keeps m (d.found LineStr).bytes; small = w.line_str };
-}
+both-move : (m : PathMap) (d : DebugData) (r : DataReadings) → DataMoves m d r → BothMove (changes_of m (around_of d r) r)
+both-move m d r w = record { map = w.map; str = w.str; line_str = w.line_str }
 
 each-can : (m : PathMap) (d : DebugData) (r : DataReadings) (rs : List LineReading) → EachWritable m (changes_of m (around_of d r) r) (around_of d r) rs
     → EachCan (line_source d) m (changes_of m (around_of d r) r) rs
@@ -365,7 +360,7 @@ new-line-bytes m d r = text_tables-bytes (changes_of m (around_of d r) r) (line_
 
 pub lines-data : (m : PathMap) (d : DebugData) (r : DataReadings) → DataMoves m d r → LinesAfter m d r
 lines-data m d r w =
-    subst (λ (bs : List ℕ). LinesMoved (line_source d) (edited_with (line_source d) bs (new_line_cells (changes_of m (around_of d r) r) d r) (new_table (table_change m InStr (around_of d r) r).plan (table_change m InStr (around_of d r) r).texts) (new_table (table_change m InLineStr (around_of d r) r).plan (table_change m InLineStr (around_of d r) r).texts)) m 0
+    subst (λ (bs : List ℕ). LinesMoved (line_source d) (edited_with (line_source d) bs (new_line_cells (changes_of m (around_of d r) r) d r) (laid_texts (table_change m InStr (around_of d r) r)) (laid_texts (table_change m InLineStr (around_of d r) r))) m 0
     (length (all_lines (new_lines m (around_of d r) r))) (new_lines m (around_of d r) r) r.lines)
     (sym (new-line-bytes m d r))
     (section-moved (changes_of m (around_of d r) r) (line_source d) (slots_texts m InStr d r) (slots_texts m InLineStr d r) (behind_lines_in InStr d r) (behind_lines_in InLineStr d r) r.lines
@@ -405,13 +400,7 @@ abbrev pub after_reads : (m : PathMap) (d : DebugData) (r : DataReadings) → Da
 after_reads m d r w = edited_reads (changes_of m (around_of d r) r) d r (lines-data m d r w).readings
 
 tables-move : (m : PathMap) (d : DebugData) (r : DataReadings) → DataMoves m d r → TablesMove (changes_of m (around_of d r) r) (around_of d r)
-unfolding table_change
-tables-move m d r w = record {
-  map = w.map;
-  lines = lines-move m d r w;
-  str = record { keeps = rebuilding-keeps m (d.found Str).bytes; small = w.str };
-  line_str = record { keeps = rebuilding-keeps m (d.found LineStr).bytes; small = w.line_str };
-}
+tables-move m d r w = record { map = w.map; lines = lines-move m d r w; str = w.str; line_str = w.line_str }
 
 -- the change as one of what stands around
 abbrev pub data_shift : PathMap → DebugData → DataReadings → Shift
@@ -451,8 +440,8 @@ names-changed-all m d r w =
     roles-changed (new_line_cells (changes_of m (around_of d r) r) d r) name_role (changes_of m (around_of d r) r) (around_of d r) (macros_texts m InStr d r) (macros_texts m InLineStr d r)
     r.names [] [] (tables-move m d r w)
     (record {
-      str = all.str ∙ ap (texts_after ((changes_of m (around_of d r) r).new Str).plan m (macros_texts m InStr d r)) (sym (append-nil (names_in InStr d r)));
-      line_str = all.line_str ∙ ap (texts_after ((changes_of m (around_of d r) r).new LineStr).plan m (macros_texts m InLineStr d r)) (sym (append-nil (names_in InLineStr d r)));
+      str = all.str ∙ ap (texts_after m (macros_texts m InStr d r)) (sym (append-nil (names_in InStr d r)));
+      line_str = all.line_str ∙ ap (texts_after m (macros_texts m InLineStr d r)) (sym (append-nil (names_in InLineStr d r)));
     })
     (names-can (changes_of m (around_of d r) r) (around_of d r) d.base.order (names_at (length (d.found Names).contents) 0 at_table) r.names w.reads.names.chain w.fits.addends.names)
     w.reads.name_texts

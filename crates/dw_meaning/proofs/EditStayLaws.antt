@@ -19,8 +19,8 @@ use Rattle.dw_base.specs.Relocs.{word_width}
 use Rattle.dw_base.specs.Roles.{Role, fixed, inline_path, line_start, offset, role_of}
 use Rattle.dw_base.specs.SectionRelocations.{RelocationSource}
 use Rattle.dw_base.specs.SectionTexts.{edited_with}
-use Rattle.dw_base.specs.StringTables.{new_place}
 use Rattle.dw_base.specs.NewOffsets.{by_addend, moved_addend, moved_relocation, symbol_value, with_offset, with_offset_by, with_relocation}
+use Rattle.dw_base.specs.StringTables.{new_place}
 use Rattle.dw_base.specs.TextChanges.{TableChanges, change_of, edited_all, edited_by, mention_at, moved_start}
 use Rattle.dw_base.specs.UnitStates.{UnitState}
 use Rattle.dw_base.specs.declared.debug_sections.DebugSection.TheVariants.{Line}
@@ -162,12 +162,8 @@ put-stays g order p n h = by_first (first_relocation p) refl
 -- what becomes of cells of a role
 pub edited-stays : (r : Role) (g : RelocationSource) (c : TableChanges) (around : Around) (p : List Cell) → AllFit g p → AllStay g p (edited_by r c around p)
 edited-stays fixed g c around p h = all-self g p h
-edited-stays (offset table path) g c around p h = by_asks ((change_of c table).plan.asks (mention_at around table path p))
-  where
-    by_asks : (b : Bool) → AllStay g p (if b then with_offset around.lasting.base.order p
-        (new_place (change_of c table).plan c.map (change_of c table).texts (mention_at around table path p)) else p)
-    by_asks true = put-stays g around.lasting.base.order p _ h
-    by_asks false = all-self g p h
+edited-stays (offset table path) g c around p h =
+    put-stays g around.lasting.base.order p (new_place c.map (change_of c table) (mention_at around table path p)) h
 edited-stays inline_path g c around p h = all-bytes g p _ h
 edited-stays line_start g c around p h = by_table (line_table around p)
   where

@@ -1,9 +1,9 @@
 -- What cells need so that an offset into a section can be put into them: where a relocation begins at them, it is of their size, its symbol
 -- is defined in that section, and its addend can make the offset. What reads has such fields.
-use Rattle.std.proofs.Common.{Bool, true, false, ◌≡◌, ℕ, zero, suc, ◌^◌, ◌<◌, ◌≤◌, ◌==◌, ◌||◌, if◌then◌else◌, List, [], ◌∷◌, ◌++◌, length, drop, Option, None, Some, refl, sym, ap, ◌∙◌, subst, arith}
+use Rattle.std.proofs.Common.{Bool, true, false, ◌≡◌, ℕ, zero, suc, ◌^◌, ◌<◌, ◌≤◌, ◌==◌, ◌||◌, if◌then◌else◌, List, [], ◌∷◌, ◌++◌, length, drop, Option, None, Some, refl, ap, ◌∙◌, subst, arith}
 use Rattle.std.specs.Bool.{⊤}
 use Rattle.std.specs.Prelude.{pos, ℤ, ◌+ℤ◌}
-use Rattle.std.proofs.lemmas.Bool.{eq-eqb, eqb-true}
+use Rattle.std.proofs.lemmas.Bool.{eqb-true}
 use Rattle.dw_base.specs.Cells.{Cell, Located, Relocation, addend_of, bytes_of, field_by, field_of, first_relocation, is_placed, offset_into, offset_of, relocated, symbol_field, targeted, with_bytes, wrapped}
 use Rattle.dw_base.specs.Forms.{width_size}
 use Rattle.dw_base.specs.Numbers.{number_bytes, spelled}
@@ -14,7 +14,6 @@ use Rattle.dw_base.specs.declared.shared.Width.TheVariants.{W32, W64}
 use Rattle.dw_base.specs.declared.view_fields.Field.{Field}
 use Rattle.dw_base.specs.declared.view_fields.Field.TheVariants.{Into, Num, Sym}
 use Rattle.dw_base.proofs.OffsetPutLaws.{AddendFits, PutsBy, length-with_bytes, offset-put-any}
-use Rattle.dw_base.proofs.RelocationFieldLaws.{field_by-into}
 use Rattle.dw_meaning.specs.NewAddends.{AddendMakes, Makes}
 
 pub record PlacesIn (r : Relocation) (section size : ℕ) : Type 0 where
@@ -44,31 +43,6 @@ place-put order z p n h some fits makes =
     puts None t m = tt
     puts (Some r) t m =
         record { value = t.value; own = t.own; target = t.target; addend = makes-addend r r.addend z.number t.value (length p) n t.target m }
-
--- the offset is the same whatever the section's bytes are
-into-own : (z : Located) (section n : ℕ) → section ≡ z.number → offset_into z (Into section n) ≡ n
-into-own z section n same = by_test (section == z.number) (eq-eqb section z.number same)
-  where
-    by_test : (b : Bool) → b ≡ true → (if b then n else length z.bytes) ≡ n
-    by_test true e = refl
-    by_test false e = absurd cc
-
-pub place-same : (order : Order) (z w : Located) (p : List Cell) → IsPlace z.number p → w.number ≡ z.number → offset_of order w p ≡ offset_of order z p
-unfolding offset_of field_of
-place-same order z w p h same = by_first (first_relocation p) h.by_relocation
-  where
-    number : ℕ
-    number = spelled order (bytes_of p) 0 (length p)
-
-    by_first : (o : Option Relocation) → PlacesBy o z.number (length p)
-        → offset_into w (field_by o (length p) (spelled order (bytes_of p) 0 (length p))) ≡ offset_into z (field_by o (length p) (spelled order (bytes_of p) 0 (length p)))
-    by_first None t = refl
-    by_first (Some r) t =
-        let n : ℕ = wrapped (pos t.value +ℤ addend_of r.addend (spelled order (bytes_of p) 0 (length p))) (length p) in
-        let into = field_by-into r (z.number, t.value) (length p) (spelled order (bytes_of p) 0 (length p)) t.own t.target in
-        ap (offset_into w) into
-        ∙ into-own w z.number (wrapped (pos t.value +ℤ addend_of r.addend (spelled order (bytes_of p) 0 (length p))) (length p)) (sym same)
-        ∙ sym (ap (offset_into z) into ∙ into-own z z.number (wrapped (pos t.value +ℤ addend_of r.addend (spelled order (bytes_of p) 0 (length p))) (length p)) refl)
 
 -- A field that reads as an offset which lies in its section is such a place.
 pub place-read : (order : Order) (z : Located) (p : List Cell) → is_placed (field_of order p) ≡ true → offset_of order z p < length z.bytes

@@ -8,7 +8,7 @@ use Rattle.dw_base.specs.DebugData.{Around, DataReadings, around_of, line_source
 use Rattle.dw_base.specs.TextLineChanges.{all_texts_mentions, tables_by_texts}
 use Rattle.dw_base.specs.LineReadings.{LineReading, TablesTo, all_lines}
 use Rattle.dw_base.specs.MacroReadings.{MacroReading}
-use Rattle.dw_base.specs.Texts.{ends_in}
+use Rattle.dw_base.specs.Texts.{ends_in, laid_texts}
 use Rattle.dw_base.specs.DebugSections.{debug_section, name_of}
 use Rattle.dw_base.specs.Elf.{e_shoff, e_type, nth_section, section_count, section_name, contents_of, contents_at, is_empty_kind}
 use Rattle.dw_meaning.specs.FileMeanings.{file_data, file_body, FileReads, new_body}
@@ -16,7 +16,6 @@ use Rattle.dw_meaning.specs.RelocatedBodies.{new_cells, relocated_body}
 use Rattle.dw_base.specs.FileViews.{view_of, section_named, section_after}
 use Rattle.dw_base.specs.LayoutReads.{ReadsBack}
 use Rattle.dw_base.specs.Paths.{PathMap, IsPathMap}
-use Rattle.dw_base.specs.StringTables.{new_table}
 use Rattle.dw_base.specs.TextChanges.{TableChanges, edited_by}
 use Rattle.dw_base.specs.Pieces.{Piece, joined}
 use Rattle.dw_base.specs.Roles.{Role}
@@ -41,7 +40,7 @@ use Rattle.dw_meaning.proofs.LineColumnLaws.{texts_in}
 use Rattle.dw_meaning.proofs.TextNoneLaws.{all_texts-none}
 use Rattle.dw_meaning.proofs.LineSectionLaws.{TablesApart, no-tables}
 use Rattle.std.proofs.lemmas.List.{length-append}
-use Rattle.dw_meaning.proofs.TableKeptLaws.{FoundAt, found-named, TablePlace, nowhere, lies_at, table-place, new_table-none, drop-at, found-back, sections-self}
+use Rattle.dw_meaning.proofs.TableKeptLaws.{FoundAt, found-named, TablePlace, nowhere, lies_at, table-place, table-none, drop-at, found-back, sections-self}
 
 -- a file, a list of bytes, that can be read and mapped
 pub record CanMap (m : PathMap) (b : List ℕ) (r : DataReadings) : Type 0 where
@@ -58,10 +57,10 @@ changes_file m b r = changes_of m (around_of (file_data b) r) r
 
 -- the new bytes of the two tables
 abbrev pub new_str : PathMap → List ℕ → DataReadings → List ℕ
-new_str m b r = new_table (table_change m InStr (around_of (file_data b) r) r).plan (table_change m InStr (around_of (file_data b) r) r).texts
+new_str m b r = laid_texts (table_change m InStr (around_of (file_data b) r) r)
 
 abbrev pub new_line_str : PathMap → List ℕ → DataReadings → List ℕ
-new_line_str m b r = new_table (table_change m InLineStr (around_of (file_data b) r) r).plan (table_change m InLineStr (around_of (file_data b) r) r).texts
+new_line_str m b r = laid_texts (table_change m InLineStr (around_of (file_data b) r) r)
 
 -- the new cells of string offsets and of name tables
 abbrev pub new_offsets : PathMap → List ℕ → DataReadings → List Cell
@@ -184,12 +183,12 @@ lines_no m table b r w none =
 
 -- a table that isn't there has no new bytes
 pub str-none : (m : PathMap) (b : List ℕ) (r : DataReadings) → CanMap m b r → ((file_data b).found Str).bytes ≡ [] → new_str m b r ≡ []
-str-none m b r w none = new_table-none m InStr (around_of (file_data b) r) r none w.reads.data_reads.texts w.reads.data_reads.slot_texts w.reads.data_reads.name_texts
+str-none m b r w none = table-none m InStr (around_of (file_data b) r) r none w.reads.data_reads.texts w.reads.data_reads.slot_texts w.reads.data_reads.name_texts
     w.reads.data_reads.macro_texts
     (lines_no m InStr b r w none)
 
 pub line-none : (m : PathMap) (b : List ℕ) (r : DataReadings) → CanMap m b r → ((file_data b).found LineStr).bytes ≡ [] → new_line_str m b r ≡ []
-line-none m b r w none = new_table-none m InLineStr (around_of (file_data b) r) r none w.reads.data_reads.texts w.reads.data_reads.slot_texts w.reads.data_reads.name_texts
+line-none m b r w none = table-none m InLineStr (around_of (file_data b) r) r none w.reads.data_reads.texts w.reads.data_reads.slot_texts w.reads.data_reads.name_texts
     w.reads.data_reads.macro_texts
     (lines_no m InLineStr b r w none)
 

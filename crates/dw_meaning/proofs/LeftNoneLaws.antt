@@ -5,7 +5,8 @@ use Rattle.dw_base.specs.Layout.{output_limit}
 use Rattle.dw_base.specs.LayoutReads.{ReadsBack}
 use Rattle.dw_base.specs.Paths.{PathMap}
 use Rattle.dw_base.specs.SectionTexts.{file_mentions}
-use Rattle.dw_base.specs.StringTables.{Mention, new_table, new_texts, rebuilding}
+use Rattle.dw_base.specs.StringTables.{Mention, new_texts}
+use Rattle.dw_base.specs.Texts.{laid_texts}
 use Rattle.dw_base.specs.declared.texts.TextSection.{TextSection}
 use Rattle.dw_base.specs.declared.texts.TextSection.TheVariants.{InStr, InLineStr}
 use Rattle.dw_meaning.specs.DataOutput.{changes_of, table_change}
@@ -23,7 +24,7 @@ use Rattle.dw_meaning.proofs.RebuiltLaws.{rebuilt-table}
 -- the tables after the edit have the new bytes
 new-bytes : (m : PathMap) (d : DebugData) (r : DataReadings) (w : DataMoves m d r) (table : TextSection)
     → (table_of (around_of (edited_data (changes_of m (around_of d r) r) d r) (after_reads m d r w)) table).bytes
-    ≡ new_table rebuilding (new_texts rebuilding m (file_mentions table (around_of d r) r))
+    ≡ laid_texts (new_texts m (file_mentions table (around_of d r) r))
 unfolding table_change
 new-bytes m d r w InStr = refl
 new-bytes m d r w InLineStr = refl
@@ -37,7 +38,7 @@ tables-rebuilt m d r w table =
     subst (λ (ms : List Mention). AreBare (texts_said ms)) (file-after m d r w table)
     (bare-file table (around_of (edited_data (changes_of m (around_of d r) r) d r) (after_reads m d r w)) (after_reads m d r w)) in
     subst (λ (bs : List ℕ). IsRebuilt bs (file_mentions table (around_of (edited_data (changes_of m (around_of d r) r) d r) (after_reads m d r w)) (after_reads m d r w))) (sym (new-bytes m d r w table))
-    (subst (λ (ms : List Mention). IsRebuilt (new_table rebuilding (new_texts rebuilding m (file_mentions table (around_of d r) r))) ms) (sym (file-after m d r w table))
+    (subst (λ (ms : List Mention). IsRebuilt (laid_texts (new_texts m (file_mentions table (around_of d r) r))) ms) (sym (file-after m d r w table))
     (rebuilt-table m (file_mentions table (around_of d r) r) bare))
 
 -- they can be read in one way, so nothing is left in them

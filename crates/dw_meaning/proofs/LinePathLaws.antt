@@ -1,20 +1,17 @@
 -- The paths of a line table that was read: each stands in its section, or ends in the table of texts that its offset is of; and where the
--- tables of texts change, each text of a table stays where it is or has a new place, with its new text.
-use Rattle.std.proofs.Common.{Bool, true, false, ◌≡◌, ◌≢◌, ℕ, ◌+◌, ◌<◌, ◌==◌, List, [], ◌∷◌, ◌++◌, length, Option, Some, None, refl, sym, ap, ◌∙◌, subst, arith, if◌then◌else◌, append_assoc}
+-- tables of texts change, each text that an offset names has a new place, with its new text.
+use Rattle.std.proofs.Common.{Bool, true, false, ◌≡◌, ◌≢◌, ℕ, ◌+◌, ◌^◌, ◌≤◌, ◌==◌, List, [], ◌∷◌, ◌++◌, length, Option, Some, None, refl, sym, ap, ◌∙◌, subst, arith, if◌then◌else◌, append_assoc}
 use Rattle.std.specs.Prelude.{⊤, Ok}
 use Rattle.std.proofs.lemmas.Bool.{eq-eqb, ne_eqb}
-use Rattle.std.proofs.lemmas.List.{length-append}
-use Rattle.dw_base.specs.Cells.{Located}
 use Rattle.dw_base.specs.Forms.{width_size}
-use Rattle.dw_base.specs.LineChanges.{path_in, mention_in, paths_mentions, line_mentions, asked_place}
 use Rattle.dw_base.specs.LineEntries.{first_of, with_column, columns}
-use Rattle.dw_base.specs.LineReadings.{LineReading, TablesTo, table_read}
+use Rattle.dw_base.specs.LineReadings.{LineReading, table_read}
 use Rattle.dw_base.specs.LineSources.{LineSource}
 use Rattle.dw_base.specs.LineTables.{HasLists, old_lists, new_lists, texts_of}
 use Rattle.dw_base.specs.LineTexts.{inline_text, text_of}
 use Rattle.dw_base.specs.Paths.{PathMap, IsPathMap}
-use Rattle.dw_base.specs.StringTables.{Mention, new_text, new_table, new_place, place_in, with_mention, texts_after}
-use Rattle.dw_base.specs.TextChanges.{TableChange, TableChanges}
+use Rattle.dw_base.specs.StringTables.{Mention, new_text, new_place, place_in, texts_after}
+use Rattle.dw_base.specs.TextChanges.{TableChanges}
 use Rattle.dw_base.specs.TextLineChanges.{mention_of, on_paths, text_mention, text_place, texts_mentions}
 use Rattle.dw_base.specs.Texts.{text_in, ends_in, is_in, laid_texts}
 use Rattle.dw_base.specs.declared.line_numbers.TheConstants.{DW_LNCT_path}
@@ -26,8 +23,8 @@ use Rattle.dw_base.specs.declared.line_tables.LineText.{LineText}
 use Rattle.dw_base.specs.declared.line_tables.TextPlace.{TextPlace}
 use Rattle.dw_base.specs.declared.shared.Width.{Width}
 use Rattle.dw_base.specs.declared.values.Spec.{Spec}
-use Rattle.dw_base.proofs.TableLaws.{is_in-texts_after, is_in-with_mention}
-use Rattle.dw_base.proofs.TextLaws.{has_nul-text_in, ends_in-append, ends_in-inside, text_in-append, text_in-place_in, ends_in-place_in, place_in-lt}
+use Rattle.dw_base.proofs.TableLaws.{is_in-mentioned}
+use Rattle.dw_base.proofs.TextLaws.{has_nul-text_in, ends_in-inside, text_in-laid, ends_in-laid, place_in-lt}
 use Rattle.dw_base.specs.RelocationFields.{relocation_at}
 use Rattle.dw_base.specs.declared.debug_sections.DebugSection.TheVariants.{Str, LineStr}
 use Rattle.dw_base.specs.declared.texts.TextSection.{TextSection}
@@ -39,7 +36,7 @@ use Rattle.dw_meaning.proofs.LineEntryLaws.{EachMoves, text_with, column-step, e
 use Rattle.dw_meaning.proofs.LineListLaws.{entry-is, list-is}
 use Rattle.dw_meaning.proofs.LineReadLaws.{inline-inside}
 use Rattle.dw_meaning.proofs.LineWalkLaws.{OldDirs, OldFiles, NewFiles, dirs-of, files-of}
-use Rattle.dw_meaning.proofs.TextEditLaws.{TableMoves, TextsAre, behind_piece, has_nul-new_text, offset-fits}
+use Rattle.dw_meaning.proofs.TextEditLaws.{TextsAre, behind_piece, has_nul-new_text, offset-fits}
 
 -- a path that stands in the section of line tables, or that an offset names
 pub data PathIs (g : LineSource) : TextPlace → Type 0 where
@@ -107,15 +104,15 @@ lists-paths g h table dirs files behind (new_lists ds fs place e five d f) =
     each-append g (texts_of ds) (texts_of files) (new-paths g h table a.format.0 (a.format.1 + a.count.1) ds place a.are)
     (new-paths g h table b.format.0 (b.format.1 + b.count.1) files behind b.are)
 
--- where a table of texts has no bytes, no path is in it
-pub path-none : (g : LineSource) (table : TextSection) (x : TextPlace) → ((at : ℕ) → ends_in g.line_str.bytes at ≡ true → g.line_str.number ≢ g.str.number)
-    → (texts_in g table).bytes ≡ [] → PathIs g x → mention_in g table x ≡ []
-path-none g table x apart none (stands_there y is) = by_table table
+-- where a table of texts has no bytes, no text is in it
+pub text-none : (g : LineSource) (table : TextSection) (x : TextPlace) (path : Bool) → ((at : ℕ) → ends_in g.line_str.bytes at ≡ true → g.line_str.number ≢ g.str.number)
+    → (texts_in g table).bytes ≡ [] → PathIs g x → mention_of g table (record { place = x; path = path }) ≡ []
+text-none g table x path apart none (stands_there y is) = by_table table
   where
-    by_table : (z : TextSection) → mention_in g z x ≡ []
+    by_table : (z : TextSection) → mention_of g z (record { place = x; path = path }) ≡ []
     by_table InStr = rw (eq-eqb x.section g.number is) refl
     by_table InLineStr = rw (eq-eqb x.section g.number is) refl
-path-none g table x apart none (named_there z at field e) = by_own table none z e (((texts_in g z).number) == g.number)
+text-none g table x path apart none (named_there z at field e) = by_own table none z e (((texts_in g z).number) == g.number)
   where
     clash : (bytes : List ℕ) → bytes ≡ [] → ends_in bytes at ≡ true → ⊥
     clash bytes empty ends =
@@ -123,33 +120,25 @@ path-none g table x apart none (named_there z at field e) = by_own table none z 
         omega (arith, ends_in-inside [] at inside)
 
     by_own : (table : TextSection) → (texts_in g table).bytes ≡ [] → (z : TextSection) → ends_in (texts_in g z).bytes at ≡ true → (own : Bool)
-        → mention_in g table (text_of (texts_in g z) at field) ≡ []
+        → mention_of g table (record { place = text_of (texts_in g z) at field; path = path }) ≡ []
     by_own InStr none InStr e own = absurd (clash g.str.bytes none e)
     by_own InStr none InLineStr e own = by (g.line_str.number == g.number)
       where
-        by : (b : Bool) → (if b then [] else (if g.line_str.number == g.str.number then path_in g.str.bytes (text_of g.line_str at field) ∷ [] else [])) ≡ []
+        there : LineText
+        there = record { place = text_of g.line_str at field; path = path }
+
+        by : (b : Bool) → (if b then [] else (if g.line_str.number == g.str.number then text_mention g.str.bytes there ∷ [] else [])) ≡ []
         by true = refl
-        by false = ap (λ (c : Bool). if c then path_in g.str.bytes (text_of g.line_str at field) ∷ [] else []) (ne_eqb g.line_str.number g.str.number (apart at e))
+        by false = ap (λ (c : Bool). if c then text_mention g.str.bytes there ∷ [] else []) (ne_eqb g.line_str.number g.str.number (apart at e))
     by_own InLineStr none InStr e own = by (g.str.number == g.number)
       where
-        by : (b : Bool) → (if b then [] else (if g.str.number == g.str.number then [] else path_in g.line_str.bytes (text_of g.str at field) ∷ [])) ≡ []
+        there : LineText
+        there = record { place = text_of g.str at field; path = path }
+
+        by : (b : Bool) → (if b then [] else (if g.str.number == g.str.number then [] else text_mention g.line_str.bytes there ∷ [])) ≡ []
         by true = refl
-        by false = ap (λ (c : Bool). if c then [] else path_in g.line_str.bytes (text_of g.str at field) ∷ []) (eq-eqb g.str.number g.str.number refl)
+        by false = ap (λ (c : Bool). if c then [] else text_mention g.line_str.bytes there ∷ []) (eq-eqb g.str.number g.str.number refl)
     by_own InLineStr none InLineStr e own = absurd (clash g.line_str.bytes none e)
-
-paths-none : (g : LineSource) (table : TextSection) (xs : List TextPlace) → ((at : ℕ) → ends_in g.line_str.bytes at ≡ true → g.line_str.number ≢ g.str.number)
-    → (texts_in g table).bytes ≡ [] → EachPath g xs → paths_mentions g table xs ≡ []
-paths-none g table [] apart none h = refl
-paths-none g table (x ∷ xs) apart none h =
-    ap (λ (ms : List Mention). ms ++ paths_mentions g table xs) (path-none g table x apart none h.0) ∙ paths-none g table xs apart none h.1
-
-pub lines-none : (g : LineSource) (table : TextSection) (p e : ℕ) (rs : List LineReading) → ((at : ℕ) → ends_in g.line_str.bytes at ≡ true → g.line_str.number ≢ g.str.number)
-    → (texts_in g table).bytes ≡ [] → TablesTo g p rs e → line_mentions g table rs ≡ []
-lines-none g table p e [] apart none reads = refl
-lines-none g table p e (r ∷ rs) apart none reads =
-    ap (λ (ms : List Mention). ms ++ line_mentions g table rs)
-    (paths-none g table (r.dirs ++ texts_of r.files) apart none (lists-paths g r.header (Rattle.dw_base.specs.LineTables.table_bytes g r.header) r.dirs r.files r.behind reads.0.lists))
-    ∙ lines-none g table r.header.end e rs apart none reads.1
 
 -- so it is with each text
 abbrev pub EachText : LineSource → List LineText → Type 0
@@ -160,51 +149,22 @@ pub texts-append : (g : LineSource) (xs ys : List LineText) → EachText g xs �
 texts-append g [] ys h k = k
 texts-append g (x ∷ xs) ys h k = (h.0, texts-append g xs ys h.1 k)
 
--- one that an offset names ends in its table of texts
-named-ends : (g : LineSource) (x : TextPlace) (b : Bool) → ((at : ℕ) → ends_in g.line_str.bytes at ≡ true → g.line_str.number ≢ g.str.number) → PathIs g x → (x.section == g.number) ≡ false
-    → (x.section == g.str.number) ≡ b → ends_in (if b then g.str.bytes else g.line_str.bytes) x.at ≡ true
-named-ends g x b apart (stands_there y is) other own = absurd (clash (eq-eqb x.section g.number is) other)
-  where
-    clash : {c : Bool} → c ≡ true → c ≡ false → ⊥
-    clash e f = cc
-named-ends g x b apart (named_there InStr at field e) other own =
-    subst (λ (c : Bool). ends_in (if c then g.str.bytes else g.line_str.bytes) at ≡ true) (sym (eq-eqb g.str.number g.str.number refl) ∙ own) e
-named-ends g x b apart (named_there InLineStr at field e) other own =
-    subst (λ (c : Bool). ends_in (if c then g.str.bytes else g.line_str.bytes) at ≡ true) (sym (ne_eqb g.line_str.number g.str.number (apart at e)) ∙ own) e
+-- a text that an offset names has its place among the new texts of its table
+place-moves : (m : PathMap) (ts : List (List ℕ)) (bytes : List ℕ) (w : Width) (x : LineText) → IsPathMap m → length (laid_texts ts) ≤ 2 ^ 32
+    → is_in ts (new_text m (text_mention bytes x)) ≡ true → OffsetMoves m x.path w bytes (laid_texts ts) x.place.at (Some (new_place m ts (text_mention bytes x)))
+place-moves m ts bytes w x is small there =
+    let bare = has_nul-new_text m x.path (text_in bytes x.place.at) is (has_nul-text_in bytes x.place.at) in
+    let within = place_in-lt ts (new_text m (text_mention bytes x)) there in (
+      offset-fits w (width_size w) (place_in ts (new_text m (text_mention bytes x))) (length (laid_texts ts)) refl (omega (arith, within)) small,
+      ends_in-laid ts (new_text m (text_mention bytes x)) there,
+      text_in-laid ts (new_text m (text_mention bytes x)) there bare,
+    )
 
--- a text that an offset names under a change of its table
-asked-moves : (m : PathMap) (c : TableChange) (z : Located) (w : Width) (x : LineText) → IsPathMap m → TableMoves m c z → ends_in z.bytes x.place.at ≡ true
-    → (c.plan.asks (text_mention z.bytes x) ≡ true → is_in c.texts (new_text m (text_mention z.bytes x)) ≡ true)
-    → OffsetMoves m x.path w z.bytes (new_table c.plan c.texts) x.place.at (asked_place c m (text_mention z.bytes x))
-asked-moves m c z w x is t ends there = by_asks (c.plan.asks (text_mention z.bytes x)) refl
-  where
-    by_asks : (b : Bool) → c.plan.asks (text_mention z.bytes x) ≡ b
-        → OffsetMoves m x.path w z.bytes (new_table c.plan c.texts) x.place.at (if b then Some (new_place c.plan m c.texts (text_mention z.bytes x)) else None)
-    by_asks true e =
-        let u : List ℕ = new_text m (text_mention z.bytes x) in
-        let here = there e in
-        let bare = has_nul-new_text m x.path (text_in z.bytes x.place.at) is (has_nul-text_in z.bytes x.place.at) in
-        let whole = length-append c.plan.kept (laid_texts c.texts) in
-        let within = place_in-lt c.texts (new_text m (text_mention z.bytes x)) here in
-        let below : length c.plan.kept + place_in c.texts (new_text m (text_mention z.bytes x)) < length (new_table c.plan c.texts) = omega arith in (
-          offset-fits w (width_size w) (length c.plan.kept + place_in c.texts (new_text m (text_mention z.bytes x))) (length (new_table c.plan c.texts)) refl below t.small,
-          ends_in-place_in c.plan.kept c.texts (new_text m (text_mention z.bytes x)) here,
-          text_in-place_in c.plan.kept c.texts (new_text m (text_mention z.bytes x)) here bare,
-        )
-    by_asks false e =
-        let same : new_table c.plan c.texts ≡ z.bytes ++ laid_texts c.texts =
-        ap (λ (k : List ℕ). k ++ laid_texts c.texts) (t.keeps.kept (text_mention z.bytes x) e) in
-        let inside : x.place.at < length z.bytes = ends_in-inside z.bytes x.place.at ends in (
-          ap (λ (k : List ℕ). ends_in k x.place.at) same ∙ ends_in-append z.bytes (laid_texts c.texts) x.place.at (omega arith) ends,
-          ap (λ (k : List ℕ). text_in k x.place.at) same ∙ text_in-append z.bytes (laid_texts c.texts) x.place.at (omega arith) ends
-              ∙ sym (t.keeps.text (text_mention z.bytes x) e),
-        )
-
--- what holds of the changes of both
-pub record BothMove (c : TableChanges) (g : LineSource) : Type 0 where
+-- what holds of both new tables: they have at most 2^32 bytes
+pub record BothMove (c : TableChanges) : Type 0 where
   pub map : IsPathMap c.map
-  pub str : TableMoves c.map (c.new Str) g.str
-  pub line_str : TableMoves c.map (c.new LineStr) g.line_str
+  pub str : length (laid_texts (c.new Str)) ≤ 2 ^ 32
+  pub line_str : length (laid_texts (c.new LineStr)) ≤ 2 ^ 32
 
 -- and the records of relocations at offsets can make the new places
 abbrev pub TakesIn : LineSource → Width → ℕ → Option ℕ → Bool → Type 0
@@ -220,47 +180,42 @@ AllTake g places [] = ⊤
 AllTake g places (r ∷ rs) = EachTakes g places r.header.width (table_read g r).texts × AllTake g places rs
 
 text-moves : (c : TableChanges) (g : LineSource) (w : Width) (ts us : List (List ℕ)) (ms ns : List Mention) (x : LineText)
-    → ((at : ℕ) → ends_in g.line_str.bytes at ≡ true → g.line_str.number ≢ g.str.number) → PathIs g x.place → BothMove c g
-    → TextsAre c ts us (mention_of g InStr x ++ ms) (mention_of g InLineStr x ++ ns)
+    → BothMove c → TextsAre c ts us (mention_of g InStr x ++ ms) (mention_of g InLineStr x ++ ns)
     → TakesIn g w x.place.field (text_place c.map (c.new Str) (c.new LineStr) g x) (x.place.section == g.number)
-    → TextMoves g c.map (new_table (c.new Str).plan (c.new Str).texts) (new_table (c.new LineStr).plan (c.new LineStr).texts) w (text_place c.map (c.new Str) (c.new LineStr) g) x
-text-moves c g w ts us ms ns x apart there both all takes =
-    by_section (x.place.section == g.number) (x.place.section == g.str.number) (λ b other own. named-ends g x.place b apart there other own) all takes
+    → TextMoves g c.map (laid_texts (c.new Str)) (laid_texts (c.new LineStr)) w (text_place c.map (c.new Str) (c.new LineStr) g) x
+text-moves c g w ts us ms ns x both all takes =
+    by_section (x.place.section == g.number) (x.place.section == g.str.number) all takes
   where
     by_section : (a b : Bool)
-        → ((d : Bool) → a ≡ false → b ≡ d → ends_in (if d then g.str.bytes else g.line_str.bytes) x.place.at ≡ true)
         → TextsAre c ts us ((if a then [] else (if b then text_mention g.str.bytes x ∷ [] else [])) ++ ms) ((if a then [] else (if b then [] else text_mention g.line_str.bytes x ∷ [])) ++ ns)
-        → TakesIn g w x.place.field (if b then asked_place (c.new Str) c.map (text_mention g.str.bytes x) else asked_place (c.new LineStr) c.map (text_mention g.line_str.bytes x)) a
-        → MovesIn g c.map (new_table (c.new Str).plan (c.new Str).texts) (new_table (c.new LineStr).plan (c.new LineStr).texts) w x
-        (if b then asked_place (c.new Str) c.map (text_mention g.str.bytes x) else asked_place (c.new LineStr) c.map (text_mention g.line_str.bytes x)) a b
-    by_section true b ends all takes = tt
-    by_section false true ends all takes = (
-      asked-moves c.map (c.new Str) g.str w x both.map both.str (ends true refl refl) (λ asks.
-          subst (λ (vs : List (List ℕ)). is_in vs (new_text c.map (text_mention g.str.bytes x)) ≡ true) (sym all.str)
-          (is_in-texts_after (c.new Str).plan c.map (with_mention (c.new Str).plan c.map ts (text_mention g.str.bytes x)) ms (new_text c.map (text_mention g.str.bytes x))
-          (is_in-with_mention (c.new Str).plan c.map ts (text_mention g.str.bytes x) asks))),
+        → TakesIn g w x.place.field (if b then Some (new_place c.map (c.new Str) (text_mention g.str.bytes x)) else Some (new_place c.map (c.new LineStr) (text_mention g.line_str.bytes x))) a
+        → MovesIn g c.map (laid_texts (c.new Str)) (laid_texts (c.new LineStr)) w x
+        (if b then Some (new_place c.map (c.new Str) (text_mention g.str.bytes x)) else Some (new_place c.map (c.new LineStr) (text_mention g.line_str.bytes x))) a b
+    by_section true b all takes = tt
+    by_section false true all takes = (
+      place-moves c.map (c.new Str) g.str.bytes w x both.map both.str
+          (subst (λ (vs : List (List ℕ)). is_in vs (new_text c.map (text_mention g.str.bytes x)) ≡ true) (sym all.str)
+          (is_in-mentioned c.map ts (text_mention g.str.bytes x) ms)),
       takes,
     )
-    by_section false false ends all takes = (
-      asked-moves c.map (c.new LineStr) g.line_str w x both.map both.line_str (ends false refl refl) (λ asks.
-          subst (λ (vs : List (List ℕ)). is_in vs (new_text c.map (text_mention g.line_str.bytes x)) ≡ true) (sym all.line_str)
-          (is_in-texts_after (c.new LineStr).plan c.map (with_mention (c.new LineStr).plan c.map us (text_mention g.line_str.bytes x)) ns (new_text c.map (text_mention g.line_str.bytes x))
-          (is_in-with_mention (c.new LineStr).plan c.map us (text_mention g.line_str.bytes x) asks))),
+    by_section false false all takes = (
+      place-moves c.map (c.new LineStr) g.line_str.bytes w x both.map both.line_str
+          (subst (λ (vs : List (List ℕ)). is_in vs (new_text c.map (text_mention g.line_str.bytes x)) ≡ true) (sym all.line_str)
+          (is_in-mentioned c.map us (text_mention g.line_str.bytes x) ns)),
       takes,
     )
 
 pub texts-move : (c : TableChanges) (g : LineSource) (w : Width) (ts us : List (List ℕ)) (ms ns : List Mention) (xs : List LineText)
-    → ((at : ℕ) → ends_in g.line_str.bytes at ≡ true → g.line_str.number ≢ g.str.number) → EachText g xs → BothMove c g
-    → TextsAre c ts us (texts_mentions g InStr xs ++ ms) (texts_mentions g InLineStr xs ++ ns) → EachTakes g (text_place c.map (c.new Str) (c.new LineStr) g) w xs
-    → EachMoves g c.map (new_table (c.new Str).plan (c.new Str).texts) (new_table (c.new LineStr).plan (c.new LineStr).texts) w (text_place c.map (c.new Str) (c.new LineStr) g) xs
-texts-move c g w ts us ms ns [] apart there both all takes = tt
-texts-move c g w ts us ms ns (x ∷ xs) apart there both all takes =
+    → BothMove c → TextsAre c ts us (texts_mentions g InStr xs ++ ms) (texts_mentions g InLineStr xs ++ ns) → EachTakes g (text_place c.map (c.new Str) (c.new LineStr) g) w xs
+    → EachMoves g c.map (laid_texts (c.new Str)) (laid_texts (c.new LineStr)) w (text_place c.map (c.new Str) (c.new LineStr) g) xs
+texts-move c g w ts us ms ns [] both all takes = tt
+texts-move c g w ts us ms ns (x ∷ xs) both all takes =
     let here : TextsAre c ts us (mention_of g InStr x ++ (texts_mentions g InStr xs ++ ms)) (mention_of g InLineStr x ++ (texts_mentions g InLineStr xs ++ ns)) = record {
-      str = all.str ∙ ap (texts_after (c.new Str).plan c.map ts) (append_assoc (mention_of g InStr x) (texts_mentions g InStr xs) ms);
-      line_str = all.line_str ∙ ap (texts_after (c.new LineStr).plan c.map us) (append_assoc (mention_of g InLineStr x) (texts_mentions g InLineStr xs) ns);
+      str = all.str ∙ ap (texts_after c.map ts) (append_assoc (mention_of g InStr x) (texts_mentions g InStr xs) ms);
+      line_str = all.line_str ∙ ap (texts_after c.map us) (append_assoc (mention_of g InLineStr x) (texts_mentions g InLineStr xs) ns);
     } in (
-      text-moves c g w ts us (texts_mentions g InStr xs ++ ms) (texts_mentions g InLineStr xs ++ ns) x apart there.0 both here takes.0,
-      texts-move c g w (texts_after (c.new Str).plan c.map ts (mention_of g InStr x)) (texts_after (c.new LineStr).plan c.map us (mention_of g InLineStr x)) ms ns xs apart there.1 both
+      text-moves c g w ts us (texts_mentions g InStr xs ++ ms) (texts_mentions g InLineStr xs ++ ns) x both here takes.0,
+      texts-move c g w (texts_after c.map ts (mention_of g InStr x)) (texts_after c.map us (mention_of g InLineStr x)) ms ns xs both
           (behind_piece c ts us (mention_of g InStr x) (mention_of g InLineStr x) (texts_mentions g InStr xs ++ ms) (texts_mentions g InLineStr xs ++ ns) here) takes.1,
     )
 

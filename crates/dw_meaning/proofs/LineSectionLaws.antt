@@ -6,10 +6,9 @@ use Rattle.dw_base.specs.Cells.{Cell, bytes_of}
 use Rattle.dw_base.specs.LineMeanings.{LineMeaning, line_meaning, line_meanings, mapped_line, mapped_lines}
 use Rattle.dw_base.specs.LineReadings.{LineReading, ReadsTable, TablesTo, table_read, table_starts, starts_from, all_lines}
 use Rattle.dw_base.specs.LineSources.{LineSource}
-use Rattle.dw_base.specs.LineTables.{table_bytes}
 use Rattle.dw_base.specs.Paths.{PathMap}
-use Rattle.dw_base.specs.StringTables.{Mention, new_table, texts_after}
-use Rattle.dw_base.specs.Texts.{ends_in}
+use Rattle.dw_base.specs.StringTables.{Mention, texts_after}
+use Rattle.dw_base.specs.Texts.{ends_in, laid_texts}
 use Rattle.dw_base.specs.TextChanges.{TableChanges}
 use Rattle.dw_base.specs.TextLineChanges.{all_texts_mentions, rest_by_texts, table_by_texts, tables_by_texts, text_place, texts_mentions}
 use Rattle.dw_base.specs.TextWriteFails.{CanWriteTexts}
@@ -27,7 +26,6 @@ use Rattle.dw_meaning.specs.TextLineCells.{all_cells_by_texts, table_cells_by_te
 use Rattle.dw_meaning.proofs.CellLaidLaws.{stand-behind}
 use Rattle.dw_meaning.proofs.ClearLaws.{NoneOver, over-start}
 use Rattle.dw_meaning.proofs.TextCellLaws.{text_table-bytes, text_tables-bytes}
-use Rattle.dw_meaning.proofs.TextNoneLaws.{lists-texts}
 use Rattle.dw_meaning.proofs.LineClearLaws.{EachClear}
 use Rattle.dw_meaning.proofs.LineTableLaws.{header-places}
 use Rattle.dw_meaning.proofs.LineColumnLaws.{edited_with, SourceMoves}
@@ -92,27 +90,26 @@ pub record LinesMoved (g k : LineSource) (m : PathMap) (q e : ℕ) (ts : List (L
   pub tails : TailsStay g k rs readings
 
 pub lines-moved : (c : TableChanges) (g : LineSource) (bytes : List ℕ) (cells more_cells : List Cell) (ts us : List (List ℕ)) (ms ns : List Mention) (p e q : ℕ) (rs : List LineReading)
-    → SourceMoves g c.map (new_table (c.new Str).plan (c.new Str).texts) (new_table (c.new LineStr).plan (c.new LineStr).texts) → BothMove c g → TablesTo g p rs e → EachCan g c.map c rs
+    → SourceMoves g c.map (laid_texts (c.new Str)) (laid_texts (c.new LineStr)) → BothMove c → TablesTo g p rs e → EachCan g c.map c rs
     → TextsAre c ts us (all_texts_mentions g InStr rs ++ ms) (all_texts_mentions g InLineStr rs ++ ns)
     → StandsAt bytes (all_lines (tables_by_texts c.map (c.new Str) (c.new LineStr) g rs)) q → bytes_of cells ≡ bytes
     → drop q cells ≡ all_cells_by_texts g c.map (text_place c.map (c.new Str) (c.new LineStr) g) rs ++ more_cells → OverIf cells q rs → EachClear g rs
     → AllTake g (text_place c.map (c.new Str) (c.new LineStr) g) rs
-    → LinesMoved g (edited_with g bytes cells (new_table (c.new Str).plan (c.new Str).texts) (new_table (c.new LineStr).plan (c.new LineStr).texts)) c.map q
+    → LinesMoved g (edited_with g bytes cells (laid_texts (c.new Str)) (laid_texts (c.new LineStr))) c.map q
     (q + length (all_lines (tables_by_texts c.map (c.new Str) (c.new LineStr) g rs))) (tables_by_texts c.map (c.new Str) (c.new LineStr) g rs) rs
 lines-moved c g bytes cells more_cells ts us ms ns p e q [] w both reads can all st own there over clear takes =
     record { readings = []; are = omega arith; starts = refl; says = refl; mentions = λ table. refl; some = tt; count = refl; clear = tt; tails = tt }
 lines-moved c g bytes cells more_cells ts us ms ns p e q (r ∷ rs) w both reads can all st own there over clear takes =
-    let s : List ℕ = new_table (c.new Str).plan (c.new Str).texts in
-    let l : List ℕ = new_table (c.new LineStr).plan (c.new LineStr).texts in
+    let s : List ℕ = laid_texts (c.new Str) in
+    let l : List ℕ = laid_texts (c.new LineStr) in
     let xs : List LineText = (table_read g r).texts in
     let t : List ℕ = table_by_texts g c.map (text_place c.map (c.new Str) (c.new LineStr) g) (table_read g r) in
     let rest : List (List ℕ) = tables_by_texts c.map (c.new Str) (c.new LineStr) g rs in
     let here : TextsAre c ts us (texts_mentions g InStr xs ++ (all_texts_mentions g InStr rs ++ ms)) (texts_mentions g InLineStr xs ++ (all_texts_mentions g InLineStr rs ++ ns)) = record {
-      str = all.str ∙ ap (texts_after (c.new Str).plan c.map ts) (append_assoc (texts_mentions g InStr xs) (all_texts_mentions g InStr rs) ms);
-      line_str = all.line_str ∙ ap (texts_after (c.new LineStr).plan c.map us) (append_assoc (texts_mentions g InLineStr xs) (all_texts_mentions g InLineStr rs) ns);
+      str = all.str ∙ ap (texts_after c.map ts) (append_assoc (texts_mentions g InStr xs) (all_texts_mentions g InStr rs) ms);
+      line_str = all.line_str ∙ ap (texts_after c.map us) (append_assoc (texts_mentions g InLineStr xs) (all_texts_mentions g InLineStr rs) ns);
     } in
-    let moves = texts-move c g r.header.width ts us (all_texts_mentions g InStr rs ++ ms) (all_texts_mentions g InLineStr rs ++ ns) xs w.tables
-    (lists-texts g r.header (table_bytes g r.header) r.dirs r.files r.behind reads.0.lists) both here takes.0 in
+    let moves = texts-move c g r.header.width ts us (all_texts_mentions g InStr rs ++ ms) (all_texts_mentions g InLineStr rs ++ ns) xs both here takes.0 in
     let here_cells : drop q cells ≡ table_cells_by_texts g c.map (text_place c.map (c.new Str) (c.new LineStr) g) (table_read g r)
     ++ (all_cells_by_texts g c.map (text_place c.map (c.new Str) (c.new LineStr) g) rs ++ more_cells) =
     there ∙ append_assoc (table_cells_by_texts g c.map (text_place c.map (c.new Str) (c.new LineStr) g) (table_read g r)) (all_cells_by_texts g c.map (text_place c.map (c.new Str) (c.new LineStr) g) rs) more_cells in
@@ -125,7 +122,7 @@ lines-moved c g bytes cells more_cells ts us ms ns p e q (r ∷ rs) w both reads
     ∙ stand-behind cells (table_cells_by_texts g c.map (text_place c.map (c.new Str) (c.new LineStr) g) (table_read g r)) (all_cells_by_texts g c.map (text_place c.map (c.new Str) (c.new LineStr) g) rs ++ more_cells) q here_cells in
     let one = table-moved g c.map (text_place c.map (c.new Str) (c.new LineStr) g) bytes cells (all_cells_by_texts g c.map (text_place c.map (c.new Str) (c.new LineStr) g) rs ++ more_cells) s l p q r w reads.0
     (record { table = can.0.table; header = can.0.header }) moves can.0.defined (stands-first bytes t (all_lines rest) q st) own here_cells over clear.0 in
-    let more = lines-moved c g bytes cells more_cells (texts_after (c.new Str).plan c.map ts (texts_mentions g InStr xs)) (texts_after (c.new LineStr).plan c.map us (texts_mentions g InLineStr xs)) ms ns
+    let more = lines-moved c g bytes cells more_cells (texts_after c.map ts (texts_mentions g InStr xs)) (texts_after c.map us (texts_mentions g InLineStr xs)) ms ns
     r.header.end e (q + length t) rs w both reads.1 can.1
     (behind_piece c ts us (texts_mentions g InStr xs) (texts_mentions g InLineStr xs) (all_texts_mentions g InStr rs ++ ms) (all_texts_mentions g InLineStr rs ++ ns) here)
     (stands-next bytes t (all_lines rest) q st) own behind_cells (over-if g cells (q + length t) e r.header.end rs clear.1 reads.1 one.over) clear.1 takes.1 in
@@ -183,16 +180,16 @@ no-tables g (r ∷ rs) none reads =
 
 -- the new section
 pub section-moved : (c : TableChanges) (g : LineSource) (ts us : List (List ℕ)) (ms ns : List Mention) (rs : List LineReading) → g.is_read ≡ true → bytes_of g.cells ≡ g.bytes
-    → EachClear g rs → AllTake g (text_place c.map (c.new Str) (c.new LineStr) g) rs → BothMove c g → TablesApart g rs → ((at : ℕ) → ends_in g.line_str.bytes at ≡ true → g.line_str.number ≢ g.str.number) → TablesTo g 0 rs (length g.bytes) → EachCan g c.map c rs
+    → EachClear g rs → AllTake g (text_place c.map (c.new Str) (c.new LineStr) g) rs → BothMove c → TablesApart g rs → ((at : ℕ) → ends_in g.line_str.bytes at ≡ true → g.line_str.number ≢ g.str.number) → TablesTo g 0 rs (length g.bytes) → EachCan g c.map c rs
     → TextsAre c ts us (all_texts_mentions g InStr rs ++ ms) (all_texts_mentions g InLineStr rs ++ ns)
     → LinesMoved g (edited_with g (all_lines (tables_by_texts c.map (c.new Str) (c.new LineStr) g rs)) (all_cells_by_texts g c.map (text_place c.map (c.new Str) (c.new LineStr) g) rs)
-    (new_table (c.new Str).plan (c.new Str).texts) (new_table (c.new LineStr).plan (c.new LineStr).texts)) c.map 0 (length (all_lines (tables_by_texts c.map (c.new Str) (c.new LineStr) g rs)))
+    (laid_texts (c.new Str)) (laid_texts (c.new LineStr))) c.map 0 (length (all_lines (tables_by_texts c.map (c.new Str) (c.new LineStr) g rs)))
     (tables_by_texts c.map (c.new Str) (c.new LineStr) g rs) rs
 section-moved c g ts us ms ns [] read own clear takes both apart tables reads can all =
     record { readings = []; are = refl; starts = refl; says = refl; mentions = λ table. refl; some = tt; count = refl; clear = tt; tails = tt }
 section-moved c g ts us ms ns (r ∷ rs) read own clear takes both apart tables reads can all =
     subst (λ (e : ℕ). LinesMoved g (edited_with g (all_lines (tables_by_texts c.map (c.new Str) (c.new LineStr) g (r ∷ rs))) (all_cells_by_texts g c.map (text_place c.map (c.new Str) (c.new LineStr) g) (r ∷ rs))
-    (new_table (c.new Str).plan (c.new Str).texts) (new_table (c.new LineStr).plan (c.new LineStr).texts)) c.map 0 e (tables_by_texts c.map (c.new Str) (c.new LineStr) g (r ∷ rs)) (r ∷ rs))
+    (laid_texts (c.new Str)) (laid_texts (c.new LineStr))) c.map 0 e (tables_by_texts c.map (c.new Str) (c.new LineStr) g (r ∷ rs)) (r ∷ rs))
     (zero-plus (length (all_lines (tables_by_texts c.map (c.new Str) (c.new LineStr) g (r ∷ rs)))))
     (lines-moved c g (all_lines (tables_by_texts c.map (c.new Str) (c.new LineStr) g (r ∷ rs))) (all_cells_by_texts g c.map (text_place c.map (c.new Str) (c.new LineStr) g) (r ∷ rs)) [] ts us ms ns 0 (length g.bytes) 0 (r ∷ rs)
     (record { map = both.map; read = read; own = own; apart_str = apart.0; apart_line = apart.1; tables = tables }) both reads can all

@@ -20,7 +20,6 @@ use Rattle.dw_base.specs.declared.shared.Width.TheVariants.{W32, W64}
 use Rattle.dw_base.proofs.PieceFrameLaws.{Preserves, chain-changed}
 use Rattle.dw_base.proofs.PlainCellLaws.{IsPlain}
 use Rattle.dw_base.proofs.UnitEditLaws.{Shift, Becomes, length-becomes}
-use Rattle.dw_base.specs.declared.debug_sections.DebugSection.TheVariants.{Str, LineStr}
 use Rattle.dw_base.specs.declared.texts.TextSection.TheVariants.{InStr, InLineStr}
 use Rattle.dw_meaning.specs.NewAddends.{MakesRole}
 use Rattle.dw_meaning.proofs.OffsetMoveLaws.{RolesChanged, roles-named}
@@ -221,13 +220,13 @@ macros-edited lc order c around ts us (z ∷ zs) (r ∷ rs) ms ns t all reads mo
     let lines : List Mention = mentions_with macro_role InLineStr around r.pieces in
     let rest : TextsAre c ts us (heres ++ (macro_mentions InStr around rs ++ ms)) (lines ++ (macro_mentions InLineStr around rs ++ ns)) =
     record {
-      str = all.str ∙ ap (texts_after (c.new Str).plan c.map ts) (append_assoc heres (macro_mentions InStr around rs) ms);
-      line_str = all.line_str ∙ ap (texts_after (c.new LineStr).plan c.map us) (append_assoc lines (macro_mentions InLineStr around rs) ns);
+      str = all.str ∙ ap (texts_after c.map ts) (append_assoc heres (macro_mentions InStr around rs) ms);
+      line_str = all.line_str ∙ ap (texts_after c.map us) (append_assoc lines (macro_mentions InLineStr around rs) ns);
     } in (
       refl,
       roles-changed lc macro_role c around ts us r.pieces (macro_mentions InStr around rs ++ ms) (macro_mentions InLineStr around rs ++ ns) t rest
           moves.0 names.0,
-      macros-edited lc order c around (texts_after (c.new Str).plan c.map ts heres) (texts_after (c.new LineStr).plan c.map us lines) zs rs ms ns t
+      macros-edited lc order c around (texts_after c.map ts heres) (texts_after c.map us lines) zs rs ms ns t
           (behind_piece c ts us heres lines (macro_mentions InStr around rs ++ ms) (macro_mentions InLineStr around rs ++ ns) rest)
           reads.2 moves.1 names.1,
     )

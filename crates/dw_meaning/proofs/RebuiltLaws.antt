@@ -1,13 +1,13 @@
 -- A table that is built from the fields that name its texts has each of these once, and no other.
 use Rattle.std.proofs.Common.{Bool, true, false, ◌≡◌, ℕ, ◌==◌, ◌||◌, List, [], ◌∷◌, ◌++◌, refl, sym, ap, ◌∙◌, subst, if◌then◌else◌}
 use Rattle.dw_base.specs.Paths.{PathMap}
-use Rattle.dw_base.specs.StringTables.{Mention, rebuilding, new_text, with_text, texts_after, new_texts, new_table, new_place}
+use Rattle.dw_base.specs.StringTables.{Mention, new_text, with_text, texts_after, new_texts, new_place}
 use Rattle.dw_base.specs.Texts.{has_nul, is_in, same_text, laid_texts, text_in}
-use Rattle.dw_base.proofs.TextLaws.{is_in-append, is_in-with_text, is_in-with_text_kept, same_text-true, same_text-refl, text_in-place_in}
+use Rattle.dw_base.proofs.TextLaws.{is_in-append, is_in-with_text, is_in-with_text_kept, same_text-true, same_text-refl, text_in-laid}
 use Rattle.dw_meaning.specs.RebuiltTables.{first_texts, all_after, texts_said, AreOnce, AreBare, with_byte, cut_texts, IsRebuilt}
 
--- the new texts of a table that is rebuilt are those of the mapped mentions, each once
-pub texts-after : (m : PathMap) (ts : List (List ℕ)) (xs : List Mention) → texts_after rebuilding m ts xs ≡ first_texts ts (texts_said (all_after m xs))
+-- the new texts of a table are those of the mapped mentions, each once
+pub texts-after : (m : PathMap) (ts : List (List ℕ)) (xs : List Mention) → texts_after m ts xs ≡ first_texts ts (texts_said (all_after m xs))
 texts-after m ts [] = refl
 texts-after m ts (x ∷ xs) = texts-after m (with_text ts (new_text m x)) xs
 
@@ -122,11 +122,11 @@ cut-laid (t ∷ ts) bare = cut-text t (laid_texts ts) bare.0 ∙ ap (λ (us : Li
 
 -- the table that is built from mentions holds exactly the texts that fields name once these are mapped
 pub rebuilt-table : (m : PathMap) (xs : List Mention) → AreBare (texts_said (all_after m xs))
-    → IsRebuilt (new_table rebuilding (new_texts rebuilding m xs)) (all_after m xs)
+    → IsRebuilt (laid_texts (new_texts m xs)) (all_after m xs)
 rebuilt-table m xs bare =
     let us : List (List ℕ) = texts_said (all_after m xs) in
-    let is : new_table rebuilding (new_texts rebuilding m xs) ≡ laid_texts (first_texts [] us) = ap laid_texts (texts-after m [] xs) in
-    let cut : cut_texts (new_table rebuilding (new_texts rebuilding m xs)) ≡ first_texts [] us =
+    let is : laid_texts (new_texts m xs) ≡ laid_texts (first_texts [] us) = ap laid_texts (texts-after m [] xs) in
+    let cut : cut_texts (laid_texts (new_texts m xs)) ≡ first_texts [] us =
     ap cut_texts is ∙ cut-laid (first_texts [] us) (bare-first [] us tt bare) in
     record {
       is = is;
@@ -136,6 +136,6 @@ rebuilt-table m xs bare =
     }
 
 -- and each mention's new place names its new text there
-pub place-named : (m : PathMap) (xs : List Mention) (x : Mention) → is_in (new_texts rebuilding m xs) (new_text m x) ≡ true → has_nul (new_text m x) ≡ false
-    → text_in (new_table rebuilding (new_texts rebuilding m xs)) (new_place rebuilding m (new_texts rebuilding m xs) x) ≡ new_text m x
-place-named m xs x there bare = text_in-place_in [] (new_texts rebuilding m xs) (new_text m x) there bare
+pub place-named : (m : PathMap) (xs : List Mention) (x : Mention) → is_in (new_texts m xs) (new_text m x) ≡ true → has_nul (new_text m x) ≡ false
+    → text_in (laid_texts (new_texts m xs)) (new_place m (new_texts m xs) x) ≡ new_text m x
+place-named m xs x there bare = text_in-laid (new_texts m xs) (new_text m x) there bare

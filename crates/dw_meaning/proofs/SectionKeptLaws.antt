@@ -11,7 +11,6 @@ use Rattle.dw_base.specs.FileViews.{ViewSection}
 use Rattle.dw_base.specs.LineReadings.{starts_from}
 use Rattle.dw_base.specs.Roles.{Role, fixed, offset, inline_path, line_start}
 use Rattle.dw_base.specs.StringTables.{new_place}
-use Rattle.dw_base.specs.NewOffsets.{with_offset}
 use Rattle.dw_base.specs.TextChanges.{TableChanges, change_of, mention_at, moved_start, edited_by}
 use Rattle.dw_base.specs.UnitHeaders.{UnitBase, SectionKind}
 use Rattle.dw_base.specs.ViewData.{unit_kind, unit_section, unit_sections_from}
@@ -37,13 +36,8 @@ with_bytes-keeps (c ∷ cs) (b ∷ bs) h =
 pub edited-plain : (r : Role) (c : TableChanges) (around : Around) (p : List Cell) → IsPlain p → IsPlain (edited_by r c around p)
 edited-plain fixed c around p h = h
 edited-plain inline_path c around p h = with_bytes-keeps p _ h
-edited-plain (offset table path) c around p h = by_asks ((change_of c table).plan.asks (mention_at around table path p))
-  where
-    by_asks : (b : Bool) → IsPlain (if b then with_offset around.lasting.base.order p
-        (new_place (change_of c table).plan c.map (change_of c table).texts (mention_at around table path p)) else p)
-    by_asks true = subst IsPlain (sym (with_offset-is around.lasting.base.order p
-        (new_place (change_of c table).plan c.map (change_of c table).texts (mention_at around table path p)) h)) (plain_cells-plain _)
-    by_asks false = h
+edited-plain (offset table path) c around p h =
+    subst IsPlain (sym (with_offset-is around.lasting.base.order p (new_place c.map (change_of c table) (mention_at around table path p)) h)) (plain_cells-plain _)
 edited-plain line_start c around p h = by_table (line_table around p)
   where
     by_table : (o : Option ℕ) → IsPlain (moved_start (starts_from 0 (c.new Line)) around.lasting.base.order o p)
@@ -59,12 +53,8 @@ length-with_bytes (c ∷ cs) (b ∷ bs) = ap suc (length-with_bytes cs bs)
 pub edited-size : (r : Role) (c : TableChanges) (around : Around) (p : List Cell) → length (edited_by r c around p) ≡ length p
 edited-size fixed c around p = refl
 edited-size inline_path c around p = length-with_bytes p _
-edited-size (offset table path) c around p = by_asks ((change_of c table).plan.asks (mention_at around table path p))
-  where
-    by_asks : (b : Bool) → length (if b then with_offset around.lasting.base.order p
-        (new_place (change_of c table).plan c.map (change_of c table).texts (mention_at around table path p)) else p) ≡ length p
-    by_asks true = length-put around.lasting.base.order p _
-    by_asks false = refl
+edited-size (offset table path) c around p =
+    length-put around.lasting.base.order p (new_place c.map (change_of c table) (mention_at around table path p))
 edited-size line_start c around p = by_table (line_table around p)
   where
     by_table : (o : Option ℕ) → length (moved_start (starts_from 0 (c.new Line)) around.lasting.base.order o p) ≡ length p

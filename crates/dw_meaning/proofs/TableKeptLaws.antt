@@ -15,9 +15,9 @@ use Rattle.dw_base.specs.Paths.{PathMap}
 use Rattle.dw_base.specs.Pieces.{Piece, EachPiece}
 use Rattle.dw_base.specs.Roles.{Role, fixed, offset, inline_path, line_start, role_of}
 use Rattle.dw_base.specs.SectionTexts.{slot_role, name_role, macro_role, mentions_with, macro_mentions, file_mentions, NameTexts}
-use Rattle.dw_base.specs.StringTables.{Mention, new_table, new_texts, rebuilding}
+use Rattle.dw_base.specs.StringTables.{Mention, new_texts}
 use Rattle.dw_base.specs.TextChanges.{offset_in, mentions_by, mentions_of, all_mentions, NamesText, NamesTextBy}
-use Rattle.dw_base.specs.Texts.{same_text, ends_in}
+use Rattle.dw_base.specs.Texts.{same_text, ends_in, laid_texts}
 use Rattle.dw_base.specs.UnitStates.{UnitState}
 use Rattle.dw_base.specs.ViewData.{located, located_at}
 use Rattle.dw_base.specs.declared.debug_sections.DebugSection.{DebugSection}
@@ -157,12 +157,12 @@ macros-none table around [] none names = refl
 macros-none table around (r ∷ rs) none names =
     ap (λ (ms : List Mention). ms ++ macro_mentions table around rs) (with-none macro_role table around r.pieces none names.0) ∙ macros-none table around rs none names.1
 
-pub new_table-none : (m : PathMap) (table : TextSection) (around : Around) (r : DataReadings) → (table_of around table).bytes ≡ []
+pub table-none : (m : PathMap) (table : TextSection) (around : Around) (r : DataReadings) → (table_of around table).bytes ≡ []
     → EachReading (NamesText around) r.units → NameTexts (slot_role (path_slots around)) around r.offsets → NameTexts name_role around r.names
     → EachMacro (λ x. NamesTextBy (macro_role x.state) around x.cells) r.macros → all_texts_mentions (source_around around) table r.lines ≡ []
-    → new_table (table_change m table around r).plan (table_change m table around r).texts ≡ []
+    → laid_texts (table_change m table around r) ≡ []
 unfolding table_change
-new_table-none m table around r none texts slots names macros lines_none =
+table-none m table around r none texts slots names macros lines_none =
     let slots_none : mentions_with (slot_role (path_slots around)) table around r.offsets ≡ [] = with-none (slot_role (path_slots around)) table around r.offsets none slots in
     let names_none : mentions_with name_role table around r.names ≡ [] = with-none name_role table around r.names none names in
     let all : file_mentions table around r ≡ [] =
@@ -171,4 +171,4 @@ new_table-none m table around r none texts slots names macros lines_none =
     ∙ ap (λ (ms : List Mention). ms ++ (all_texts_mentions (source_around around) table r.lines ++ (macro_mentions table around r.macros ++ mentions_with name_role table around r.names))) slots_none
     ∙ ap (λ (ms : List Mention). ms ++ (macro_mentions table around r.macros ++ mentions_with name_role table around r.names)) lines_none
     ∙ ap (λ (ms : List Mention). ms ++ mentions_with name_role table around r.names) (macros-none table around r.macros none macros) ∙ names_none in
-    ap (λ (ms : List Mention). new_table rebuilding (new_texts rebuilding m ms)) all
+    ap (λ (ms : List Mention). laid_texts (new_texts m ms)) all

@@ -1,5 +1,5 @@
--- The text law, for both plans of tables of texts: where the tables change, each field of an offset names the new text of
--- its mention, and each path that stands in its value is mapped there.
+-- The text law: where the tables of texts change, each field of an offset names the new text of its mention, and each path that
+-- stands in its value is mapped there.
 use Rattle.std.proofs.Common.{Bool, true, false, ◌≡◌, ℕ, ◌+◌, ◌^◌, ◌<◌, ◌≤◌, List, [], ◌∷◌, ◌++◌, length, drop, get_or, ◌==◌, ◌||◌, Option, IsTrue, sym, ap, ◌∙◌, refl, subst, arith, if◌then◌else◌, None, Some, append_assoc}
 use Rattle.std.specs.Bool.{⊤}
 use Rattle.std.proofs.lemmas.List.{length-append, drop_all}
@@ -12,9 +12,9 @@ use Rattle.dw_base.specs.SectionTexts.{mentions_with, edited_with}
 use Rattle.dw_base.specs.Paths.{PathMap, IsPathMap}
 use Rattle.dw_base.specs.Pieces.{Piece, Chain, EachPiece}
 use Rattle.dw_base.specs.Roles.{Role, fixed, offset, inline_path, line_start, is_line_start, role_of_kind, role_of_mode, role_of, is_path_use, use_of}
-use Rattle.dw_base.specs.StringTables.{Mention, Plan, new_text, rebuilding, with_mention, texts_after, place_in, new_table, new_place}
+use Rattle.dw_base.specs.StringTables.{Mention, new_text, texts_after, place_in, new_place}
 use Rattle.dw_base.specs.NewOffsets.{with_offset}
-use Rattle.dw_base.specs.TextChanges.{mention_at, mentions_by, mentions_of, TableChange, TableChanges, change_of, moved_field, moved_start, edited_by, edited_all, NamesTextBy, NamesText, InlineFitsBy, InlineFits}
+use Rattle.dw_base.specs.TextChanges.{mention_at, mentions_by, mentions_of, TableChanges, change_of, moved_field, moved_start, edited_by, edited_all, NamesTextBy, NamesText, InlineFitsBy, InlineFits}
 use Rattle.dw_base.specs.Texts.{text, has_nul, text_in, ends_in, is_in, laid_texts}
 use Rattle.dw_base.specs.UnitHeaders.{UnitBase}
 use Rattle.dw_base.specs.UnitPieces.{IsValue, FitsKind, FitsMode, unit_grammar}
@@ -31,15 +31,15 @@ use Rattle.dw_base.specs.LineReadings.{starts_from, all_lines}
 use Rattle.std.proofs.lemmas.Bool.{eqb-true}
 use Rattle.dw_base.specs.declared.values.ValueClass.{ValueClass}
 use Rattle.dw_meaning.specs.NewAddends.{Makes, MakesNew, MakesRole, new_offset, start_place}
-use Rattle.dw_meaning.proofs.FieldPutLaws.{IsPlace, front-bytes, length-put, place-inside, place-put, place-same, sized-some, width-some}
+use Rattle.dw_meaning.proofs.FieldPutLaws.{IsPlace, front-bytes, length-put, place-inside, place-put, sized-some, width-some}
 use Rattle.dw_meaning.proofs.LineStartLaws.{EachSome, start-end, start-found, number-below}
 use Rattle.dw_base.proofs.FormSizeLaws.{is_sized, offset_sized, offset-size, is_offset_sized, section_offset-sized}
 use Rattle.dw_base.proofs.InlineLaws.{has_nul-mapped_inline, length-mapped_inline}
 use Rattle.dw_base.proofs.PathLaws.{has_nul-mapped_path}
 use Rattle.dw_base.proofs.PieceFrameLaws.{AllChanged}
 use Rattle.dw_base.proofs.PlainCellLaws.{IsPlain, first-plain}
-use Rattle.dw_base.proofs.TableLaws.{is_in-texts_after, is_in-with_mention}
-use Rattle.dw_base.proofs.TextLaws.{has_nul-append, text-append_nul, has_nul-text, drop-text, has_nul-text_in, text_in-append, ends_in-append, ends_in-inside, text_in-place_in, ends_in-place_in, place_in-lt}
+use Rattle.dw_base.proofs.TableLaws.{is_in-mentioned, texts_after-append}
+use Rattle.dw_base.proofs.TextLaws.{has_nul-append, text-append_nul, has_nul-text, drop-text, has_nul-text_in, ends_in-inside, text_in-laid, ends_in-laid, place_in-lt}
 use Rattle.dw_base.proofs.UnitEditLaws.{Shift, Restarted, Rewritten, Becomes, PieceSlot, UnitsChanged, length-bytes_of, number-there}
 use Rattle.dw_base.specs.declared.debug_sections.DebugSection.TheVariants.{Str, LineStr, StrOffsets, Line}
 use Rattle.dw_base.specs.declared.texts.TextSection.{TextSection}
@@ -47,15 +47,6 @@ use Rattle.dw_base.specs.declared.texts.TextSection.TheVariants.{InStr, InLineSt
 use Rattle.dw_base.specs.declared.values.AttributeUse.{AttributeUse}
 use Rattle.dw_base.specs.declared.values.AttributeUse.TheVariants.{NamesLineTable}
 use Rattle.dw_meaning.proofs.DataParts.{stands_with}
-
--- a plan under which a mention that asks for no place keeps its text, which stays where it is
-pub record KeepsTexts (plan : Plan) (m : PathMap) (table : List ℕ) : Type 0 where
-  pub text : (x : Mention) → plan.asks x ≡ false → new_text m x ≡ x.text
-  pub kept : (x : Mention) → plan.asks x ≡ false → plan.kept ≡ table
-
--- where a table is built anew, each mention asks for a place
-pub rebuilding-keeps : (m : PathMap) (table : List ℕ) → KeepsTexts rebuilding m table
-rebuilding-keeps m table = record { text = λ x e. cc; kept = λ x e. cc }
 
 -- the new text of a mention has no NUL
 pub has_nul-new_text : (m : PathMap) (path : Bool) (t : List ℕ) → IsPathMap m → has_nul t ≡ false → has_nul (new_text m (record { path = path; text = t })) ≡ false
@@ -68,13 +59,8 @@ offset-fits W32 size n most is lt fits = subst (λ (k : ℕ). n < 256 ^ k) (sym 
 offset-fits W64 size n most is lt fits = subst (λ (k : ℕ). n < 256 ^ k) (sym is) (omega arith)
 
 -- a table after its change
-abbrev pub moved_table : Located → TableChange → Located
-moved_table z c = record { number = z.number; bytes = new_table c.plan c.texts }
-
--- what holds of the change of a table: it keeps the texts, and the new table has at most 2^32 bytes
-pub record TableMoves (m : PathMap) (c : TableChange) (z : Located) : Type 0 where
-  pub keeps : KeepsTexts c.plan m z.bytes
-  pub small : length (new_table c.plan c.texts) ≤ 2 ^ 32
+abbrev pub moved_table : Located → List (List ℕ) → Located
+moved_table z ts = record { number = z.number; bytes = laid_texts ts }
 
 -- each of a list is below a number
 abbrev pub EachBelow : ℕ → List ℕ → Type 0
@@ -89,82 +75,53 @@ pub record LinesMove (c : TableChanges) (around : Around) : Type 0 where
   pub small : length (all_lines (c.new Line)) ≤ 2 ^ 32
   pub below : EachBelow (length (around.stands Line).located.bytes) (around.stands Line).starts
 
--- and of the changes of all tables
+-- and of the changes of all tables: each new table of texts has at most 2^32 bytes
 pub record TablesMove (c : TableChanges) (around : Around) : Type 0 where
   pub map : IsPathMap c.map
   pub lines : LinesMove c around
-  pub str : TableMoves c.map (c.new Str) (around.stands Str)
-  pub line_str : TableMoves c.map (c.new LineStr) (around.stands LineStr)
+  pub str : length (laid_texts (c.new Str)) ≤ 2 ^ 32
+  pub line_str : length (laid_texts (c.new LineStr)) ≤ 2 ^ 32
 
 -- the mention of a field of an offset into a table
 abbrev mention_in : Order → Located → Bool → List Cell → Mention
 mention_in order z path p = record { path = path; text = text_in z.bytes (offset_of order z p) }
 
--- a field of an offset into a table, of the size that its unit gives it
-record FieldMoves (m : PathMap) (order : Order) (c : TableChange) (z : Located) (path : Bool) (p : List Cell) : Type 0 where
+-- a field of an offset into a table, of the size that its unit gives it: its new text is among those of the new table, which has at most 2^32 bytes
+record FieldMoves (m : PathMap) (order : Order) (ts : List (List ℕ)) (z : Located) (path : Bool) (p : List Cell) : Type 0 where
   map : IsPathMap m
-  moves : TableMoves m c z
+  small : length (laid_texts ts) ≤ 2 ^ 32
   width : Width
   size : length p ≡ width_size width
   names : IsTrue (ends_in z.bytes (offset_of order z p))
-  there : c.plan.asks (mention_in order z path p) ≡ true → is_in c.texts (new_text m (mention_in order z path p)) ≡ true
-  makes : c.plan.asks (mention_in order z path p) ≡ true
-      → Makes (first_relocation p) (length p) (new_place c.plan m c.texts (mention_in order z path p))
+  there : is_in ts (new_text m (mention_in order z path p)) ≡ true
+  makes : Makes (first_relocation p) (length p) (new_place m ts (mention_in order z path p))
 
 -- it is another field of the same size, which names the new text in the new table
-record FieldRenamed (m : PathMap) (order : Order) (c : TableChange) (z : Located) (path : Bool) (p q : List Cell) : Type 0 where
+record FieldRenamed (m : PathMap) (order : Order) (ts : List (List ℕ)) (z : Located) (path : Bool) (p q : List Cell) : Type 0 where
   size : length q ≡ length p
-  says : text_in (new_table c.plan c.texts) (offset_of order (moved_table z c) q) ≡ new_text m (mention_in order z path p)
-  ends : IsTrue (ends_in (new_table c.plan c.texts) (offset_of order (moved_table z c) q))
+  says : text_in (laid_texts ts) (offset_of order (moved_table z ts) q) ≡ new_text m (mention_in order z path p)
+  ends : IsTrue (ends_in (laid_texts ts) (offset_of order (moved_table z ts) q))
 
 -- where the text ends in its table, the field is a place there
-field-place : (m : PathMap) (order : Order) (c : TableChange) (z : Located) (path : Bool) (p : List Cell) → FieldMoves m order c z path p → IsPlace z.number p
-field-place m order c z path p f = place-inside order z p (ends_in-inside z.bytes (offset_of order z p) f.names)
+field-place : (m : PathMap) (order : Order) (ts : List (List ℕ)) (z : Located) (path : Bool) (p : List Cell) → FieldMoves m order ts z path p → IsPlace z.number p
+field-place m order ts z path p f = place-inside order z p (ends_in-inside z.bytes (offset_of order z p) f.names)
 
-moved-asked : (m : PathMap) (order : Order) (c : TableChange) (z : Located) (path : Bool) (p : List Cell) → FieldMoves m order c z path p
-    → c.plan.asks (mention_in order z path p) ≡ true
-    → FieldRenamed m order c z path p (with_offset order p (new_place c.plan m c.texts (mention_in order z path p)))
-moved-asked m order c z path p f asks =
+field-moves : (m : PathMap) (order : Order) (ts : List (List ℕ)) (z : Located) (path : Bool) (p : List Cell) → FieldMoves m order ts z path p
+    → FieldRenamed m order ts z path p (moved_field ts m order (mention_in order z path p) p)
+field-moves m order ts z path p f =
     let t : List ℕ = new_text m (mention_in order z path p) in
-    let here : is_in c.texts t ≡ true = f.there asks in
     let bare : has_nul t ≡ false = has_nul-new_text m path (text_in z.bytes (offset_of order z p)) f.map (has_nul-text_in z.bytes (offset_of order z p)) in
-    let n : ℕ = length c.plan.kept + place_in c.texts t in
-    let whole = length-append c.plan.kept (laid_texts c.texts) in
-    let within = place_in-lt c.texts t here in
-    let below : n < length (new_table c.plan c.texts) = omega arith in
-    let back : offset_of order (moved_table z c) (with_offset order p n) ≡ n =
-    place-put order (moved_table z c) p n (field-place m order c z path p f) (omega (arith, f.size, width-some f.width))
-    (offset-fits f.width (length p) n (length (new_table c.plan c.texts)) f.size below f.moves.small) (f.makes asks) in
+    let n : ℕ = place_in ts t in
+    let within = place_in-lt ts t f.there in
+    let below : n < length (laid_texts ts) = omega (arith, within) in
+    let back : offset_of order (moved_table z ts) (with_offset order p n) ≡ n =
+    place-put order (moved_table z ts) p n (field-place m order ts z path p f) (omega (arith, f.size, width-some f.width))
+    (offset-fits f.width (length p) n (length (laid_texts ts)) f.size below f.small) f.makes in
     record {
       size = length-put order p n;
-      says = ap (text_in (new_table c.plan c.texts)) back ∙ text_in-place_in c.plan.kept c.texts t here bare;
-      ends = ap (ends_in (new_table c.plan c.texts)) back ∙ ends_in-place_in c.plan.kept c.texts t here;
+      says = ap (text_in (laid_texts ts)) back ∙ text_in-laid ts t f.there bare;
+      ends = ap (ends_in (laid_texts ts)) back ∙ ends_in-laid ts t f.there;
     }
-
-moved-stays : (m : PathMap) (order : Order) (c : TableChange) (z : Located) (path : Bool) (p : List Cell) → FieldMoves m order c z path p
-    → c.plan.asks (mention_in order z path p) ≡ false → FieldRenamed m order c z path p p
-moved-stays m order c z path p f none =
-    let at : ℕ = offset_of order z p in
-    let same : new_table c.plan c.texts ≡ z.bytes ++ laid_texts c.texts =
-    ap (λ (k : List ℕ). k ++ laid_texts c.texts) (f.moves.keeps.kept (mention_in order z path p) none) in
-    let inside : at < length z.bytes = ends_in-inside z.bytes at f.names in
-    let moved : offset_of order (moved_table z c) p ≡ at = place-same order z (moved_table z c) p (field-place m order c z path p f) refl in
-    record {
-      size = refl;
-      says = ap (text_in (new_table c.plan c.texts)) moved ∙ ap (λ (t : List ℕ). text_in t at) same
-          ∙ text_in-append z.bytes (laid_texts c.texts) at (omega arith) f.names ∙ sym (f.moves.keeps.text (mention_in order z path p) none);
-      ends = ap (ends_in (new_table c.plan c.texts)) moved ∙ ap (λ (t : List ℕ). ends_in t at) same
-          ∙ ends_in-append z.bytes (laid_texts c.texts) at (omega arith) f.names;
-    }
-
-field-moves : (m : PathMap) (order : Order) (c : TableChange) (z : Located) (path : Bool) (p : List Cell) → FieldMoves m order c z path p
-    → FieldRenamed m order c z path p (moved_field c m order (mention_in order z path p) p)
-field-moves m order c z path p f = by_asks (c.plan.asks (mention_in order z path p)) refl
-  where
-    by_asks : (b : Bool) → c.plan.asks (mention_in order z path p) ≡ b
-        → FieldRenamed m order c z path p (if b then with_offset order p (new_place c.plan m c.texts (mention_in order z path p)) else p)
-    by_asks true e = moved-asked m order c z path p f e
-    by_asks false e = moved-stays m order c z path p f e
 
 -- the change of the tables, as a change of what stands around the units: slots of paths are mapped, and the section of line tables has new cells
 abbrev pub shift_of : TableChanges → Around → List Cell → Shift
@@ -182,15 +139,8 @@ shift_of c around lc = record {
 
 -- the new texts have the text that cells of a role ask for
 abbrev Provided : Role → TableChanges → Around → List Cell → Type 0
-Provided (offset table path) c around p =
-    (change_of c table).plan.asks (mention_at around table path p) ≡ true
-    → is_in (change_of c table).texts (new_text c.map (mention_at around table path p)) ≡ true
+Provided (offset table path) c around p = is_in (change_of c table) (new_text c.map (mention_at around table path p)) ≡ true
 Provided r c around p = ⊤
-
--- where one is asked for, the addend makes it
-asked-makes : (asks : Bool) (n : ℕ) (p : List Cell) → MakesNew (if asks then Some n else None) p → asks ≡ true → Makes (first_relocation p) (length p) n
-asked-makes true n p h e = h
-asked-makes false n p h e = absurd cc
 
 -- a field of an offset
 offset-moves : {lc : List Cell} (table : TextSection) (path : Bool) (c : TableChanges) (around : Around) (p : List Cell) (w : Width) → TablesMove c around
@@ -198,29 +148,11 @@ offset-moves : {lc : List Cell} (table : TextSection) (path : Bool) (c : TableCh
     → Becomes (offset table path) (shift_of c around lc) p (edited_by (offset table path) c around p)
 offset-moves InStr path c around p w t place size names there =
     let f = field-moves c.map around.lasting.base.order (c.new Str) (around.stands Str) path p
-    (record {
-      map = t.map;
-      moves = t.str;
-      width = w;
-      size = size;
-      names = names;
-      there = there;
-      makes = asked-makes ((c.new Str).plan.asks (mention_in around.lasting.base.order (around.stands Str) path p))
-          (new_place (c.new Str).plan c.map (c.new Str).texts (mention_in around.lasting.base.order (around.stands Str) path p)) p place;
-    }) in
+    (record { map = t.map; small = t.str; width = w; size = size; names = names; there = there; makes = place }) in
     record { size = f.size; says = f.says; ends = f.ends }
 offset-moves InLineStr path c around p w t place size names there =
     let f = field-moves c.map around.lasting.base.order (c.new LineStr) (around.stands LineStr) path p
-    (record {
-      map = t.map;
-      moves = t.line_str;
-      width = w;
-      size = size;
-      names = names;
-      there = there;
-      makes = asked-makes ((c.new LineStr).plan.asks (mention_in around.lasting.base.order (around.stands LineStr) path p))
-          (new_place (c.new LineStr).plan c.map (c.new LineStr).texts (mention_in around.lasting.base.order (around.stands LineStr) path p)) p place;
-    }) in
+    (record { map = t.map; small = t.line_str; width = w; size = size; names = names; there = there; makes = place }) in
     record { size = f.size; says = f.says; ends = f.ends }
 
 -- a text that stands in its value
@@ -400,38 +332,30 @@ mode-moves lc (at_chosen n tag start x xs) base s c around p t place f names fit
     (chosen-fits (kind_in s.header.params x.form) s x p f) names fits there
 mode-moves lc stuck base s c around p t place f names fits there = refl
 
--- texts after mentions, and after more of them
-pub texts_after-append : (plan : Plan) (m : PathMap) (ts : List (List ℕ)) (xs ys : List Mention)
-    → texts_after plan m ts (xs ++ ys) ≡ texts_after plan m (texts_after plan m ts xs) ys
-texts_after-append plan m ts [] ys = refl
-texts_after-append plan m ts (x ∷ xs) ys = texts_after-append plan m (with_mention plan m ts x) xs ys
-
 -- the new texts of the tables are those after these mentions, from these texts on
 pub record TextsAre (c : TableChanges) (ts us : List (List ℕ)) (ms ns : List Mention) : Type 0 where
-  pub str : (c.new Str).texts ≡ texts_after (c.new Str).plan c.map ts ms
-  pub line_str : (c.new LineStr).texts ≡ texts_after (c.new LineStr).plan c.map us ns
+  pub str : c.new Str ≡ texts_after c.map ts ms
+  pub line_str : c.new LineStr ≡ texts_after c.map us ns
 
--- each text that is asked for is among those after all mentions
+-- the new text of each mention is among those after all mentions
 provided : (r : Role) (c : TableChanges) (around : Around) (ts us : List (List ℕ)) (p : List Cell) (ms ns : List Mention)
     → TextsAre c ts us (mentions_by r InStr around p ++ ms) (mentions_by r InLineStr around p ++ ns) → Provided r c around p
 provided fixed c around ts us p ms ns all = tt
 provided inline_path c around ts us p ms ns all = tt
 provided line_start c around ts us p ms ns all = tt
-provided (offset InStr path) c around ts us p ms ns all = λ asks.
+provided (offset InStr path) c around ts us p ms ns all =
     let x : Mention = mention_at around InStr path p in
-    subst (λ (vs : List (List ℕ)). is_in vs (new_text c.map x) ≡ true) (sym all.str)
-    (is_in-texts_after (c.new Str).plan c.map (with_mention (c.new Str).plan c.map ts x) ms (new_text c.map x) (is_in-with_mention (c.new Str).plan c.map ts x asks))
-provided (offset InLineStr path) c around ts us p ms ns all = λ asks.
+    subst (λ (vs : List (List ℕ)). is_in vs (new_text c.map x) ≡ true) (sym all.str) (is_in-mentioned c.map ts x ms)
+provided (offset InLineStr path) c around ts us p ms ns all =
     let x : Mention = mention_at around InLineStr path p in
-    subst (λ (vs : List (List ℕ)). is_in vs (new_text c.map x) ≡ true) (sym all.line_str)
-    (is_in-texts_after (c.new LineStr).plan c.map (with_mention (c.new LineStr).plan c.map us x) ns (new_text c.map x) (is_in-with_mention (c.new LineStr).plan c.map us x asks))
+    subst (λ (vs : List (List ℕ)). is_in vs (new_text c.map x) ≡ true) (sym all.line_str) (is_in-mentioned c.map us x ns)
 
 -- the texts, behind the mentions of a piece
 pub behind_piece : (c : TableChanges) (ts us : List (List ℕ)) (heres lines ms ns : List Mention) → TextsAre c ts us (heres ++ ms) (lines ++ ns)
-    → TextsAre c (texts_after (c.new Str).plan c.map ts heres) (texts_after (c.new LineStr).plan c.map us lines) ms ns
+    → TextsAre c (texts_after c.map ts heres) (texts_after c.map us lines) ms ns
 behind_piece c ts us heres lines ms ns all = record {
-  str = all.str ∙ texts_after-append (c.new Str).plan c.map ts heres ms;
-  line_str = all.line_str ∙ texts_after-append (c.new LineStr).plan c.map us lines ns;
+  str = all.str ∙ texts_after-append c.map ts heres ms;
+  line_str = all.line_str ∙ texts_after-append c.map us lines ns;
 }
 
 -- a piece that an edit may move can have the offset that it gets
@@ -469,12 +393,12 @@ edited-changed lc base c around ts us s (x ∷ xs) ms ns t all chain moves names
     let lines : List Mention = mentions_by (role_of x) InLineStr around x.cells in
     let rest : TextsAre c ts us (heres ++ (mentions_of InStr around xs ++ ms)) (lines ++ (mentions_of InLineStr around xs ++ ns)) =
     record {
-      str = all.str ∙ ap (texts_after (c.new Str).plan c.map ts) (append_assoc heres (mentions_of InStr around xs) ms);
-      line_str = all.line_str ∙ ap (texts_after (c.new LineStr).plan c.map us) (append_assoc lines (mentions_of InLineStr around xs) ns);
+      str = all.str ∙ ap (texts_after c.map ts) (append_assoc heres (mentions_of InStr around xs) ms);
+      line_str = all.line_str ∙ ap (texts_after c.map us) (append_assoc lines (mentions_of InLineStr around xs) ns);
     } in
     let there = provided (role_of x) c around ts us x.cells (mentions_of InStr around xs ++ ms) (mentions_of InLineStr around xs ++ ns) rest in (
       record { state = refl; cells = (mode-moves lc x.state.mode base x.state c around x.cells t moves.0 chain.1 names.0 fits.0 there, slots.0) },
-      edited-changed lc base c around (texts_after (c.new Str).plan c.map ts heres) (texts_after (c.new LineStr).plan c.map us lines)
+      edited-changed lc base c around (texts_after c.map ts heres) (texts_after c.map us lines)
           ((unit_grammar base).next x.state x.cells) xs ms ns t
           (behind_piece c ts us heres lines (mentions_of InStr around xs ++ ms) (mentions_of InLineStr around xs ++ ns) rest)
           chain.2 moves.1 names.1 fits.1 slots.1,
@@ -515,12 +439,12 @@ roles-changed lc role c around ts us (x ∷ xs) ms ns t all can names =
     let lines : List Mention = mentions_by (role x.state) InLineStr around x.cells in
     let rest : TextsAre c ts us (heres ++ (mentions_with role InStr around xs ++ ms)) (lines ++ (mentions_with role InLineStr around xs ++ ns)) =
     record {
-      str = all.str ∙ ap (texts_after (c.new Str).plan c.map ts) (append_assoc heres (mentions_with role InStr around xs) ms);
-      line_str = all.line_str ∙ ap (texts_after (c.new LineStr).plan c.map us) (append_assoc lines (mentions_with role InLineStr around xs) ns);
+      str = all.str ∙ ap (texts_after c.map ts) (append_assoc heres (mentions_with role InStr around xs) ms);
+      line_str = all.line_str ∙ ap (texts_after c.map us) (append_assoc lines (mentions_with role InLineStr around xs) ns);
     } in
     let there = provided (role x.state) c around ts us x.cells (mentions_with role InStr around xs ++ ms) (mentions_with role InLineStr around xs ++ ns) rest in (
       record { state = refl; cells = role-moves lc (role x.state) c around x.cells t can.0 names.0 there },
-      roles-changed lc role c around (texts_after (c.new Str).plan c.map ts heres) (texts_after (c.new LineStr).plan c.map us lines) xs ms ns t
+      roles-changed lc role c around (texts_after c.map ts heres) (texts_after c.map us lines) xs ms ns t
           (behind_piece c ts us heres lines (mentions_with role InStr around xs ++ ms) (mentions_with role InLineStr around xs ++ ns) rest)
           can.1 names.1,
     )

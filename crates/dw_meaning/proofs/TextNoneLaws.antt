@@ -1,15 +1,14 @@
 -- Where a table of texts has no bytes, no text of a line table is in it.
-use Rattle.std.proofs.Common.{Bool, true, false, ◌≡◌, ◌≢◌, ℕ, ◌+◌, ◌==◌, List, [], ◌∷◌, ◌++◌, length, Option, Some, None, sym, refl, ap, ◌∙◌, subst, if◌then◌else◌}
+use Rattle.std.proofs.Common.{Bool, true, ◌≡◌, ◌≢◌, ℕ, ◌+◌, List, [], ◌∷◌, ◌++◌, length, Option, Some, None, sym, refl, ap, ◌∙◌, subst, if◌then◌else◌}
 use Rattle.std.specs.Prelude.{Result, Ok}
 use Rattle.std.proofs.lemmas.Bool.{eq-eqb, ne_eqb}
-use Rattle.dw_base.specs.LineChanges.{mention_in, path_in}
 use Rattle.dw_base.specs.LineEntries.{columns, entries_at, list_end, place_behind, result_with, with_column}
 use Rattle.dw_base.specs.LineReadings.{LineReading, TablesTo, table_read}
 use Rattle.dw_base.specs.LineSources.{LineSource}
 use Rattle.dw_base.specs.LineTables.{HasLists, new_lists, old_lists, table_bytes, texts_of}
 use Rattle.dw_base.specs.StringTables.{Mention}
 use Rattle.dw_base.specs.TableTexts.{as_paths, column_text, column_texts, entries_texts, entry_texts, list_texts, texts_by, texts_counted, texts_formed, texts_then}
-use Rattle.dw_base.specs.TextLineChanges.{all_texts_mentions, mention_of, text_mention, texts_mentions}
+use Rattle.dw_base.specs.TextLineChanges.{all_texts_mentions, texts_mentions}
 use Rattle.dw_base.specs.Texts.{ends_in}
 use Rattle.dw_base.specs.declared.fault.Refusal.{Refusal}
 use Rattle.dw_base.specs.declared.line_tables.Column.{Column}
@@ -19,12 +18,11 @@ use Rattle.dw_base.specs.declared.line_tables.LineHeader.{LineHeader}
 use Rattle.dw_base.specs.declared.line_tables.LineText.{LineText}
 use Rattle.dw_base.specs.declared.line_tables.TextPlace.{TextPlace}
 use Rattle.dw_base.specs.declared.texts.TextSection.{TextSection}
-use Rattle.dw_base.specs.declared.texts.TextSection.TheVariants.{InStr, InLineStr}
 use Rattle.dw_base.specs.declared.values.Spec.{Spec}
 use Rattle.dw_meaning.proofs.LineColumnLaws.{column-is, texts_in}
 use Rattle.dw_meaning.proofs.LineEntryLaws.{column-step}
 use Rattle.dw_meaning.proofs.LineListLaws.{entry-is, list-is}
-use Rattle.dw_meaning.proofs.LinePathLaws.{AnyPath, EachPath, EachText, column-path, lists-paths, path-none, texts-append}
+use Rattle.dw_meaning.proofs.LinePathLaws.{AnyPath, EachPath, EachText, column-path, lists-paths, text-none, texts-append}
 use Rattle.dw_meaning.proofs.LineWalkLaws.{NewFiles}
 
 -- before version 5 all texts are paths
@@ -65,7 +63,7 @@ list-texts g h table p files e is =
     subst (EachText g) (sym texts) (entries-texts g h table r.format.0 (r.format.1 + r.count.1) files e r.are)
 
 -- of the lists of a table: each text stands in the section of line tables, or an offset names it
-pub lists-texts : (g : LineSource) (h : LineHeader) (table : List ℕ) (dirs : List TextPlace) (files : List FilePlace) (behind : ℕ) → HasLists g h table dirs files behind
+lists-texts : (g : LineSource) (h : LineHeader) (table : List ℕ) (dirs : List TextPlace) (files : List FilePlace) (behind : ℕ) → HasLists g h table dirs files behind
     → EachText g (texts_by g h table (dirs ++ texts_of files))
 lists-texts g h table dirs files behind (old_lists ds fs place e other d f) =
     subst (λ (b : Bool). EachText g (if b then list_texts g h table h.lists ++ list_texts g h table (list_end g h table h.lists) else as_paths (dirs ++ texts_of files)))
@@ -78,28 +76,11 @@ lists-texts g h table dirs files behind (new_lists ds fs place e five d f) =
     (subst (λ (n : ℕ). EachText g (list_texts g h table h.lists ++ list_texts g h table n)) (sym end)
     (texts-append g (list_texts g h table h.lists) (list_texts g h table place) (list-texts g h table h.lists ds place d) (list-texts g h table place files behind f)))
 
--- where its place makes no mention as a path, a text makes none
-text-none : (g : LineSource) (table : TextSection) (x : LineText) → mention_in g table x.place ≡ [] → mention_of g table x ≡ []
-text-none g InStr x e = by_section (x.place.section == g.number) (x.place.section == g.str.number) e
-  where
-    by_section : (a b : Bool) → (if a then [] else (if b then path_in g.str.bytes x.place ∷ [] else [])) ≡ []
-        → (if a then [] else (if b then text_mention g.str.bytes x ∷ [] else [])) ≡ []
-    by_section true b e = refl
-    by_section false true e = absurd cc
-    by_section false false e = refl
-text-none g InLineStr x e = by_section (x.place.section == g.number) (x.place.section == g.str.number) e
-  where
-    by_section : (a b : Bool) → (if a then [] else (if b then [] else path_in g.line_str.bytes x.place ∷ [])) ≡ []
-        → (if a then [] else (if b then [] else text_mention g.line_str.bytes x ∷ [])) ≡ []
-    by_section true b e = refl
-    by_section false true e = refl
-    by_section false false e = absurd cc
-
 texts-none : (g : LineSource) (table : TextSection) (xs : List LineText) → ((at : ℕ) → ends_in g.line_str.bytes at ≡ true → g.line_str.number ≢ g.str.number)
     → (texts_in g table).bytes ≡ [] → EachText g xs → texts_mentions g table xs ≡ []
 texts-none g table [] apart none h = refl
 texts-none g table (x ∷ xs) apart none h =
-    ap (λ (ms : List Mention). ms ++ texts_mentions g table xs) (text-none g table x (path-none g table x.place apart none h.0)) ∙ texts-none g table xs apart none h.1
+    ap (λ (ms : List Mention). ms ++ texts_mentions g table xs) (text-none g table x.place x.path apart none h.0) ∙ texts-none g table xs apart none h.1
 
 pub all_texts-none : (g : LineSource) (table : TextSection) (p e : ℕ) (rs : List LineReading) → ((at : ℕ) → ends_in g.line_str.bytes at ≡ true → g.line_str.number ≢ g.str.number)
     → (texts_in g table).bytes ≡ [] → TablesTo g p rs e → all_texts_mentions g table rs ≡ []

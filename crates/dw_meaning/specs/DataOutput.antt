@@ -15,10 +15,11 @@ use Rattle.dw_base.specs.Paths.{PathMap}
 use Rattle.dw_base.specs.Pieces.{Piece, EachPiece, joined}
 use Rattle.dw_base.specs.Readings.{Reading, Readings, EachReading}
 use Rattle.dw_base.specs.SectionTexts.{slot_role, name_role, macro_role, file_mentions, edited_with, edited_macros, NameTexts}
-use Rattle.dw_base.specs.StringTables.{rebuilding, new_texts, new_table}
+use Rattle.dw_base.specs.StringTables.{new_texts}
 use Rattle.dw_base.specs.TableStarts.{HasStartForm, NamesMacro, NamesImport}
-use Rattle.dw_base.specs.TextChanges.{Changed, TableChange, TableChanges, edited_all, NamesTextBy, NamesText, InlineFits}
+use Rattle.dw_base.specs.TextChanges.{Changed, TableChanges, edited_all, NamesTextBy, NamesText, InlineFits}
 use Rattle.dw_base.specs.TextIndexes.{EachUse, NamesSlot, index_uses}
+use Rattle.dw_base.specs.Texts.{laid_texts}
 use Rattle.dw_base.specs.declared.debug_sections.DebugSection.{DebugSection}
 use Rattle.dw_base.specs.declared.debug_sections.DebugSection.TheVariants.{Info, Types, Abbrev, Str, LineStr, StrOffsets, Line, Macro, Names}
 use Rattle.dw_base.specs.declared.texts.TextSection.{TextSection}
@@ -43,8 +44,8 @@ pub record DataReads (d : DebugData) (r : DataReadings) : Type 0 where
   pub imports : EachMacro (NamesImport (around_of d r).lasting) r.macros
 
 -- what becomes of a table: it is built from the texts that fields name after mapping, each once, in order of first mention
-unfoldable pub table_change : PathMap → TextSection → Around → DataReadings → TableChange
-table_change m table around r = record { plan = rebuilding; texts = new_texts rebuilding m (file_mentions table around r) }
+unfoldable pub table_change : PathMap → TextSection → Around → DataReadings → List (List ℕ)
+table_change m table around r = new_texts m (file_mentions table around r)
 
 -- the new line tables
 abbrev pub new_lines : PathMap → Around → DataReadings → List (List ℕ)
@@ -96,8 +97,8 @@ abbrev pub unit_bodies : TableChanges → Around → Readings → List Body
 unit_bodies changes around [] = []
 unit_bodies changes around (r ∷ rs) = unit_body changes around r ∷ unit_bodies changes around rs
 
-abbrev pub table_body : Located → TableChange → Body
-table_body z c = record { number = z.number; bytes = new_table c.plan c.texts }
+abbrev pub table_body : Located → List (List ℕ) → Body
+table_body z ts = record { number = z.number; bytes = laid_texts ts }
 
 -- string offsets, and name tables, with their fields moved
 abbrev pub offsets_after : TableChanges → Around → DataReadings → List (Piece OffsetState)

@@ -53,9 +53,7 @@ start_place starts None = None
 start_place starts (Some k) = Some (get_or starts k 0)
 
 abbrev pub new_offset : Role → TableChanges → Around → List Cell → Option ℕ
-new_offset (offset table path) changes around p =
-    if (change_of changes table).plan.asks (mention_at around table path p)
-    then Some (new_place (change_of changes table).plan changes.map (change_of changes table).texts (mention_at around table path p)) else None
+new_offset (offset table path) changes around p = Some (new_place changes.map (change_of changes table) (mention_at around table path p))
 new_offset line_start changes around p = start_place (starts_from 0 (changes.new Line)) (line_table around p)
 new_offset r changes around p = None
 

@@ -16,7 +16,7 @@ use Rattle.dw_base.specs.LineReadings.{all_lines}
 use Rattle.dw_base.specs.MacroReadings.{MacroReading, ReadsAllMacros}
 use Rattle.dw_base.specs.Paths.{PathMap}
 use Rattle.dw_base.specs.SectionTexts.{edited_macros, edited_with, macro_role}
-use Rattle.dw_base.specs.TextChanges.{TableChange, TableChanges}
+use Rattle.dw_base.specs.TextChanges.{TableChanges}
 use Rattle.dw_base.specs.Texts.{same_text}
 use Rattle.dw_base.specs.UnitHeaders.{SectionKind, UnitBase}
 use Rattle.dw_base.specs.ViewData.{cells_located, debug_data, is_macro, is_read, located, located_at, macro_section, macro_sections, macro_sections_from, unit_kind, unit_section, unit_sections, unit_sections_from}
@@ -117,13 +117,13 @@ stands-read : (b : List ℕ) (x : Body) → IsFull b x.number → StandsRead b x
 stands-read b x f = record { within = λ some. f.within; full = λ some. f.full; read = λ some. f.read }
 
 -- a table of texts is in one, or nowhere
-table-stands : (b : List ℕ) (s : DebugSection) (c : TableChange) → StandsRead b (table_body (located (view_of b) s) c)
+table-stands : (b : List ℕ) (s : DebugSection) (ts : List (List ℕ)) → StandsRead b (table_body (located (view_of b) s) ts)
 unfolding located
-table-stands b s c = by_found (section_named (view_of b) (name_of s)) refl
+table-stands b s ts = by_found (section_named (view_of b) (name_of s)) refl
   where
-    by_found : (o : Option ℕ) → section_named (view_of b) (name_of s) ≡ o → StandsRead b (table_body (located_at (view_of b) o) c)
+    by_found : (o : Option ℕ) → section_named (view_of b) (name_of s) ≡ o → StandsRead b (table_body (located_at (view_of b) o) ts)
     by_found None e = record { within = λ some. absurd (some refl); full = λ some. absurd (some refl); read = λ some. absurd (some refl) }
-    by_found (Some i) e = stands-read b (table_body (located_at (view_of b) (Some i)) c) (named-full b s i e)
+    by_found (Some i) e = stands-read b (table_body (located_at (view_of b) (Some i)) ts) (named-full b s i e)
 
 -- the numbers of sections of units, and of macro units
 abbrev pub unit_numbers : Readings → List ℕ

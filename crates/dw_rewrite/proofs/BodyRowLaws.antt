@@ -49,12 +49,12 @@ long-row : (m : PathMap) (v : View) (table : TextSection) (us : Fields) (ts : Li
     → BodiesRefuse m (debug_data v) r
 unfolding table_change
 long-row m v InStr us ts r f (long_table there over) =
-    let texts_are : (table_change m InStr (around_of (debug_data v) f.readings) f.readings).texts ≡ all_texts_at m v InStr [] (all_of us) =
+    let texts_are : table_change m InStr (around_of (debug_data v) f.readings) f.readings ≡ all_texts_at m v InStr [] (all_of us) =
     table-texts m v f.readings ts InStr f.reads.units f.reads.offsets f.reads.lines f.reads.macros f.reads.names f.tables ∙ ap (λ (x : Fields). all_texts_at m v InStr [] (all_of x)) (sym f.is) in
     long_table_of InStr f.readings f.reads (paths-fit m v us ts f) there
     (subst (λ (xs : List (List ℕ)). output_limit < length (laid_texts xs)) (sym texts_are) over)
 long-row m v InLineStr us ts r f (long_table there over) =
-    let texts_are : (table_change m InLineStr (around_of (debug_data v) f.readings) f.readings).texts ≡ all_texts_at m v InLineStr [] (all_of us) =
+    let texts_are : table_change m InLineStr (around_of (debug_data v) f.readings) f.readings ≡ all_texts_at m v InLineStr [] (all_of us) =
     table-texts m v f.readings ts InLineStr f.reads.units f.reads.offsets f.reads.lines f.reads.macros f.reads.names f.tables ∙ ap (λ (x : Fields). all_texts_at m v InLineStr [] (all_of x)) (sym f.is) in
     long_table_of InLineStr f.readings f.reads (paths-fit m v us ts f) there
     (subst (λ (xs : List (List ℕ)). output_limit < length (laid_texts xs)) (sym texts_are) over)

@@ -1,5 +1,5 @@
 -- The new texts and the new bytes of a unit section, by its pieces and by what they say of paths.
-use Rattle.std.proofs.Common.{Bool, true, false, ◌≡◌, ℕ, ◌+◌, ◌-◌, ◌≤◌, List, [], ◌∷◌, ◌++◌, length, take, drop, get_or, cond, Option, Some, None, sym, ap, ◌∙◌, refl, arith, append_assoc}
+use Rattle.std.proofs.Common.{Bool, true, false, ◌≡◌, ℕ, ◌+◌, ◌-◌, ◌≤◌, List, [], ◌∷◌, ◌++◌, length, take, drop, get_or, Option, Some, None, sym, ap, ◌∙◌, refl, arith, append_assoc}
 use Rattle.std.proofs.Math.Seq.{drop-append_seam, take-append_seam, take-append-add, drop-append-add}
 use Rattle.std.proofs.lemmas.List.{take-append-le, drop-append-le}
 use Rattle.dw_base.specs.Cells.{Cell, bytes_of, cells_at, offset_of, with_bytes}
@@ -9,9 +9,9 @@ use Rattle.dw_base.specs.InlinePaths.{inline_fits, mapped_inline}
 use Rattle.dw_base.specs.Paths.{PathMap}
 use Rattle.dw_base.specs.Pieces.{Piece, joined}
 use Rattle.dw_base.specs.Roles.{Role, fixed, offset, inline_path, line_start, role_of}
-use Rattle.dw_base.specs.StringTables.{Mention, Plan, with_mention, texts_after, new_place}
+use Rattle.dw_base.specs.StringTables.{Mention, with_mention, texts_after, new_place}
 use Rattle.dw_base.specs.NewOffsets.{with_offset}
-use Rattle.dw_base.specs.TextChanges.{TableChange, TableChanges, mention_at, mentions_by, mentions_of, moved_field, moved_start, change_of, edited_by}
+use Rattle.dw_base.specs.TextChanges.{TableChanges, mention_at, mentions_by, mentions_of, moved_field, moved_start, change_of, edited_by}
 use Rattle.dw_base.specs.Texts.{text, text_in}
 use Rattle.dw_base.specs.UnitStates.{UnitState}
 use Rattle.dw_base.proofs.InlineLaws.{length-mapped_inline}
@@ -48,34 +48,34 @@ mention_is around table path p more cells place e =
     (sym (piece-there p more cells place e))
 
 -- what a piece adds to the texts
-pub piece_texts : (r : Role) (table : TextSection) (plan : Plan) (m : PathMap) (around : Around) (cells : List Cell) (ts : List (List ℕ)) (p behind : List Cell) (place : ℕ) (more : List Mention)
+pub piece_texts : (r : Role) (table : TextSection) (m : PathMap) (around : Around) (cells : List Cell) (ts : List (List ℕ)) (p behind : List Cell) (place : ℕ) (more : List Mention)
     (fs : List OffsetField) → p ++ behind ≡ drop place cells
-    → ((us : List (List ℕ)) → texts_after plan m us more ≡ texts_at plan m (text_source around cells table) us fs)
-    → texts_after plan m ts (mentions_by r table around p ++ more) ≡ texts_at plan m (text_source around cells table) ts (field_by table r place (length p) ++ fs)
-piece_texts fixed InStr plan m around cells ts p behind place more fs e h = h ts
-piece_texts fixed InLineStr plan m around cells ts p behind place more fs e h = h ts
-piece_texts inline_path InStr plan m around cells ts p behind place more fs e h = h ts
-piece_texts inline_path InLineStr plan m around cells ts p behind place more fs e h = h ts
-piece_texts line_start InStr plan m around cells ts p behind place more fs e h = h ts
-piece_texts line_start InLineStr plan m around cells ts p behind place more fs e h = h ts
-piece_texts (offset InStr path) InStr plan m around cells ts p behind place more fs e h =
-    ap (λ (x : Mention). texts_after plan m (with_mention plan m ts x) more) (mention_is around InStr path p behind cells place e)
-    ∙ h (with_mention plan m ts (field_mention (text_source around cells InStr) (field_at path place p)))
-piece_texts (offset InStr path) InLineStr plan m around cells ts p behind place more fs e h = h ts
-piece_texts (offset InLineStr path) InStr plan m around cells ts p behind place more fs e h = h ts
-piece_texts (offset InLineStr path) InLineStr plan m around cells ts p behind place more fs e h =
-    ap (λ (x : Mention). texts_after plan m (with_mention plan m ts x) more) (mention_is around InLineStr path p behind cells place e)
-    ∙ h (with_mention plan m ts (field_mention (text_source around cells InLineStr) (field_at path place p)))
+    → ((us : List (List ℕ)) → texts_after m us more ≡ texts_at m (text_source around cells table) us fs)
+    → texts_after m ts (mentions_by r table around p ++ more) ≡ texts_at m (text_source around cells table) ts (field_by table r place (length p) ++ fs)
+piece_texts fixed InStr m around cells ts p behind place more fs e h = h ts
+piece_texts fixed InLineStr m around cells ts p behind place more fs e h = h ts
+piece_texts inline_path InStr m around cells ts p behind place more fs e h = h ts
+piece_texts inline_path InLineStr m around cells ts p behind place more fs e h = h ts
+piece_texts line_start InStr m around cells ts p behind place more fs e h = h ts
+piece_texts line_start InLineStr m around cells ts p behind place more fs e h = h ts
+piece_texts (offset InStr path) InStr m around cells ts p behind place more fs e h =
+    ap (λ (x : Mention). texts_after m (with_mention m ts x) more) (mention_is around InStr path p behind cells place e)
+    ∙ h (with_mention m ts (field_mention (text_source around cells InStr) (field_at path place p)))
+piece_texts (offset InStr path) InLineStr m around cells ts p behind place more fs e h = h ts
+piece_texts (offset InLineStr path) InStr m around cells ts p behind place more fs e h = h ts
+piece_texts (offset InLineStr path) InLineStr m around cells ts p behind place more fs e h =
+    ap (λ (x : Mention). texts_after m (with_mention m ts x) more) (mention_is around InLineStr path p behind cells place e)
+    ∙ h (with_mention m ts (field_mention (text_source around cells InLineStr) (field_at path place p)))
 
 -- the texts of pieces are those of their fields
-pub texts_by_fields : (table : TextSection) (plan : Plan) (m : PathMap) (around : Around) (cells : List Cell) (ts : List (List ℕ)) (place : ℕ) (xs : List (Piece UnitState))
+pub texts_by_fields : (table : TextSection) (m : PathMap) (around : Around) (cells : List Cell) (ts : List (List ℕ)) (place : ℕ) (xs : List (Piece UnitState))
     → PlacedCells cells place xs
-    → texts_after plan m ts (mentions_of table around xs) ≡ texts_at plan m (text_source around cells table) ts (piece_fields table xs)
-texts_by_fields table plan m around cells ts place [] l = refl
-texts_by_fields table plan m around cells ts place (x ∷ xs) l =
-    piece_texts (role_of x) table plan m around cells ts x.cells (joined xs) place (mentions_of table around xs) (piece_fields table xs) l.1
-    (λ (us : List (List ℕ)). texts_by_fields table plan m around cells us (place + length x.cells) xs l.2)
-    ∙ ap (λ (i : ℕ). texts_at plan m (text_source around cells table) ts (field_by table (role_of x) i (length x.cells) ++ piece_fields table xs)) (sym l.0)
+    → texts_after m ts (mentions_of table around xs) ≡ texts_at m (text_source around cells table) ts (piece_fields table xs)
+texts_by_fields table m around cells ts place [] l = refl
+texts_by_fields table m around cells ts place (x ∷ xs) l =
+    piece_texts (role_of x) table m around cells ts x.cells (joined xs) place (mentions_of table around xs) (piece_fields table xs) l.1
+    (λ (us : List (List ℕ)). texts_by_fields table m around cells us (place + length x.cells) xs l.2)
+    ∙ ap (λ (i : ℕ). texts_at m (text_source around cells table) ts (field_by table (role_of x) i (length x.cells) ++ piece_fields table xs)) (sym l.0)
 
 -- these bytes, behind a front, go from one to another, whatever follows them
 abbrev pub Turns : (List ℕ → List ℕ) → List ℕ → List ℕ → List ℕ → Type 0
@@ -91,14 +91,12 @@ put_behind front p q rest place n at size =
     ap (λ (b : List ℕ). b ++ q ++ drop (place + n) (front ++ (p ++ rest))) before
     ∙ ap (λ (b : List ℕ). front ++ q ++ b) behind ∙ append_assoc front q rest
 
--- what a field that asks for a new place becomes
-field_turns : (asks path : Bool) (s : FieldSource) (front : List ℕ) (p : List Cell) (rest : List ℕ) (place x : ℕ) → length front ≡ place → cells_at s.cells place (length p) ≡ p
-    → cond asks (put_at (front ++ (bytes_of p ++ rest)) place (length p) (offset_bytes s (field_at path place p) x)) (front ++ (bytes_of p ++ rest))
-    ≡ front ++ (bytes_of (cond asks (with_offset s.order p x) p) ++ rest)
-field_turns true path s front p rest place x at there =
+-- what a field with a new place becomes
+field_turns : (path : Bool) (s : FieldSource) (front : List ℕ) (p : List Cell) (rest : List ℕ) (place x : ℕ) → length front ≡ place → cells_at s.cells place (length p) ≡ p
+    → put_at (front ++ (bytes_of p ++ rest)) place (length p) (offset_bytes s (field_at path place p) x) ≡ front ++ (bytes_of (with_offset s.order p x) ++ rest)
+field_turns path s front p rest place x at there =
     put_behind front (bytes_of p) (offset_bytes s (field_at path place p) x) rest place (length p) at (length-bytes_of p)
     ∙ ap (λ (q : List Cell). front ++ (bytes_of (with_offset s.order q x) ++ rest)) there
-field_turns false path s front p rest place x at there = refl
 
 pub patched_turns : (table : TextSection) (path : Bool) (changes : TableChanges) (around : Around) (cells : List Cell) (front : List ℕ) (p behind : List Cell) (place : ℕ)
     → length front ≡ place → p ++ behind ≡ drop place cells
@@ -107,15 +105,15 @@ pub patched_turns : (table : TextSection) (path : Bool) (changes : TableChanges)
 patched_turns table path changes around cells front p behind place at e rest =
     let x : Mention = field_mention (text_source around cells table) (field_at path place p) in
     let same : mention_at around table path p ≡ field_mention (text_source around cells table) (field_at path place p) = mention_is around table path p behind cells place e in
-    field_turns ((change_of changes table).plan.asks x) path (text_source around cells table) front p rest place
-    (new_place (change_of changes table).plan changes.map (change_of changes table).texts x) at (piece-there p behind cells place e)
+    field_turns path (text_source around cells table) front p rest place
+    (new_place changes.map (change_of changes table) x) at (piece-there p behind cells place e)
     ∙ ap (λ (y : Mention). front ++ (bytes_of (moved_field (change_of changes table) changes.map around.lasting.base.order y p) ++ rest)) (sym same)
 
 -- a field that says where a line table starts
 start_put : (s : FieldSource) (news : List ℕ) (number : Option ℕ) (front : List ℕ) (p : List Cell) (rest : List ℕ) (place : ℕ) → length front ≡ place → cells_at s.cells place (length p) ≡ p
     → with_known s (front ++ (bytes_of p ++ rest)) (field_at false place p) (new_start news number) ≡ front ++ (bytes_of (moved_start news s.order number p) ++ rest)
 start_put s news None front p rest place at there = refl
-start_put s news (Some k) front p rest place at there = field_turns true false s front p rest place (get_or news k 0) at there
+start_put s news (Some k) front p rest place at there = field_turns false s front p rest place (get_or news k 0) at there
 
 pub start_turns : (changes : TableChanges) (around : Around) (cells : List Cell) (front : List ℕ) (p behind : List Cell) (place : ℕ)
     → length front ≡ place → p ++ behind ≡ drop place cells
@@ -184,20 +182,16 @@ put-behind n at size bytes rest le = record {
       ∙ append_assoc front (take (at - n) rest ++ bytes) (drop (at - n + size) rest);
 }
 
-field-behind : (asks : Bool) (n at size : ℕ) (bytes rest : List ℕ) → n ≤ at → Behind (λ out. cond asks (put_at out at size bytes) out) n rest
-field-behind true n at size bytes rest le = put-behind n at size bytes rest le
-field-behind false n at size bytes rest le = behind-same n rest
-
-pub patched-behind : (c : TableChange) (m : PathMap) (s : FieldSource) (n : ℕ) (fs : List OffsetField) (rest : List ℕ) → FieldsFrom n fs
-    → Behind (λ out. patched c m s out fs) n rest
-patched-behind c m s n [] rest h = behind-same n rest
-patched-behind c m s n (f ∷ fs) rest h =
-    let here : Behind (λ out. patched_at c m s out f) n rest =
-    field-behind (c.plan.asks (field_mention s f)) n f.at f.size (offset_bytes s f (new_place c.plan m c.texts (field_mention s f))) rest h.0 in
-    let more : Behind (λ out. patched c m s out fs) n here.after = patched-behind c m s n fs here.after h.1 in
+pub patched-behind : (ts : List (List ℕ)) (m : PathMap) (s : FieldSource) (n : ℕ) (fs : List OffsetField) (rest : List ℕ) → FieldsFrom n fs
+    → Behind (λ out. patched ts m s out fs) n rest
+patched-behind ts m s n [] rest h = behind-same n rest
+patched-behind ts m s n (f ∷ fs) rest h =
+    let here : Behind (λ out. patched_at ts m s out f) n rest =
+    put-behind n f.at f.size (offset_bytes s f (new_place m ts (field_mention s f))) rest h.0 in
+    let more : Behind (λ out. patched ts m s out fs) n here.after = patched-behind ts m s n fs here.after h.1 in
     record {
       after = more.after;
-      is = λ (front : List ℕ) (e : length front ≡ n). ap (λ (out : List ℕ). patched c m s out fs) (here.is front e) ∙ more.is front e;
+      is = λ (front : List ℕ) (e : length front ≡ n). ap (λ (out : List ℕ). patched ts m s out fs) (here.is front e) ∙ more.is front e;
     }
 
 known-put : (s : FieldSource) (n : ℕ) (f : OffsetField) (new : Option ℕ) (rest : List ℕ) → n ≤ f.at → Behind (λ out. with_known s out f new) n rest

@@ -10,7 +10,7 @@ use Rattle.dw_base.specs.Layout.{output_limit}
 use Rattle.dw_base.specs.LayoutFails.{TooLong, long}
 use Rattle.dw_base.specs.Paths.{PathMap}
 use Rattle.dw_base.specs.Refusals.{Blames}
-use Rattle.dw_base.specs.StringTables.{TextTable, rebuilding, table_bytes}
+use Rattle.dw_base.specs.StringTables.{TextTable, table_bytes}
 use Rattle.dw_base.specs.Texts.{laid_texts}
 use Rattle.dw_base.specs.ViewData.{debug_data, located, located_at}
 use Rattle.dw_base.specs.declared.debug_sections.DebugSection.{DebugSection}
@@ -26,7 +26,7 @@ use Rattle.dw_base.specs.declared.texts.TextSection.TheVariants.{InStr, InLineSt
 use Rattle.dw_find.specs.Fields.{AreOffsetFields, IsOffsetField}
 use Rattle.dw_rewrite.specs.Changes.{AreNoted, FieldSource, Knows, Remembers, texts_at}
 use Rattle.dw_find.specs.ViewFields.{AllHaveOffsets, AllHavePlaces, HasOffsets, HasPlaces, fields_of, offsets_in, table_number}
-use Rattle.dw_rewrite.specs.NewTables.{plan_in, section_texts_at, source_in, source_into, table_into, texts_of, all_texts_at, IsSectionNoted, AllNoted, Growing, GrownBy, GrownByAll, TableMade, table_with, fault_at, LongTable, TablesRefuse, long_table, one_is_long}
+use Rattle.dw_rewrite.specs.NewTables.{section_texts_at, source_in, source_into, table_into, texts_of, all_texts_at, IsSectionNoted, AllNoted, Growing, GrownBy, GrownByAll, TableMade, table_with, fault_at, LongTable, TablesRefuse, long_table, one_is_long}
 use Rattle.dw_find.specs.SectionFields.{SectionFields}
 use Rattle.dw_rewrite.proofs.ChangedLaws.{length-texts_at, remembers_on}
 use Rattle.dw_rewrite.proofs.NewOffsetLaws.{remembers_all}
@@ -96,7 +96,7 @@ no-texts : (m : PathMap) (v : View) (table : TextSection) (ts : List (List ℕ))
 no-texts m v table ts [] none each = refl
 no-texts m v table ts (u ∷ us) none each =
     let fields : fields_of table u ≡ [] = no-fields (source_in v u.number table) (fields_of table u) none (own-fields v u table each.0) in
-    ap (λ (fs : List OffsetField). all_texts_at m v table (texts_at (plan_in m v table) m (source_in v u.number table) ts fs) us) fields
+    ap (λ (fs : List OffsetField). all_texts_at m v table (texts_at m (source_in v u.number table) ts fs) us) fields
     ∙ no-texts m v table ts us none each.1
 
 -- a table that isn't there is empty
@@ -136,39 +136,39 @@ pub ruleset section_rules = (offsets-there)
 
 -- what is known of a table by a section's source is known of it
 pub source-knows : (m : PathMap) (v : View) (table : TextSection) (n : ℕ) (s : FieldSource) (ts : List (List ℕ)) (known : Bool → ℕ → Option ℕ) → s ≡ source_in v n table
-    → Knows rebuilding m (texts_of v table).bytes ts known → Knows rebuilding m s.table.bytes ts known
-source-knows m v table n s ts known is h = subst (λ (x : FieldSource). Knows rebuilding m x.table.bytes ts known) (sym is) h
+    → Knows m (texts_of v table).bytes ts known → Knows m s.table.bytes ts known
+source-knows m v table n s ts known is h = subst (λ (x : FieldSource). Knows m x.table.bytes ts known) (sym is) h
 
 -- it has grown by the texts of the section
 pub section-grown : (m : PathMap) (v : View) (table : TextSection) (u : SectionFields) (n : ℕ) (s : FieldSource) (fields : List OffsetField) (old new : TextTable) (was known : Bool → ℕ → Option ℕ)
     → n ≡ u.number → s ≡ source_in v n table → fields ≡ fields_of table u → new.kept ≡ [] → length (table_bytes new) ≤ output_limit
-    → new.texts ≡ texts_at rebuilding m s old.texts fields → Knows rebuilding m s.table.bytes new.texts known
-    → AreNoted rebuilding s fields (length fields) known → Remembers was known → GrownBy m v table u old new was known
+    → new.texts ≡ texts_at m s old.texts fields → Knows m s.table.bytes new.texts known
+    → AreNoted s fields (length fields) known → Remembers was known → GrownBy m v table u old new was known
 section-grown m v table u n s fields old new was known number is are kept small texts knows noted remembers =
     let own : s ≡ source_in v u.number table = is ∙ ap (λ (k : ℕ). source_in v k table) number in
     record {
       grown = record {
         kept = kept;
         small = small;
-        knows = subst (λ (x : FieldSource). Knows rebuilding m x.table.bytes new.texts known) own knows;
+        knows = subst (λ (x : FieldSource). Knows m x.table.bytes new.texts known) own knows;
       };
-      texts = texts ∙ ap (λ (x : FieldSource). texts_at rebuilding m x old.texts fields) own ∙ ap (texts_at rebuilding m (source_in v u.number table) old.texts) are;
-      noted = moved (λ (x : FieldSource) (fs : List OffsetField). AreNoted rebuilding x fs (length fs) known) s (source_in v u.number table) fields (fields_of table u) own are noted;
+      texts = texts ∙ ap (λ (x : FieldSource). texts_at m x old.texts fields) own ∙ ap (texts_at m (source_in v u.number table) old.texts) are;
+      noted = moved (λ (x : FieldSource) (fs : List OffsetField). AreNoted x fs (length fs) known) s (source_in v u.number table) fields (fields_of table u) own are noted;
       remembers = remembers;
     }
 
 long-there : (m : PathMap) (v : View) (t : TextSection) (us : List SectionFields) → AllHaveOffsets v us
-    → output_limit < length (table_bytes (table_with v t (all_texts_at m v t [] us))) → table_number (debug_data v) t ≢ 0
+    → output_limit < length (table_bytes (table_with (all_texts_at m v t [] us))) → table_number (debug_data v) t ≢ 0
 long-there m v t us placed over zero_ =
     let none : (texts_of v t).bytes ≡ [] = no-number v t zero_ in
     let texts : all_texts_at m v t [] us ≡ [] = no-texts m v t [] us none (each-offsets v us placed) in
-    let same : table_bytes (table_with v t (all_texts_at m v t [] us)) ≡ [] =
+    let same : table_bytes (table_with (all_texts_at m v t [] us)) ≡ [] =
     ap laid_texts texts in
     omega (arith, over, ap length same)
 
 -- the row of a table that is too long
 pub table-row : (m : PathMap) (v : View) (t : TextSection) (us : List SectionFields) (f g : Fault) (n : ℕ) → AllHaveOffsets v us
-    → Blames (TooLong (length (table_bytes (table_with v t (all_texts_at m v t [] us))))) f
+    → Blames (TooLong (length (table_bytes (table_with (all_texts_at m v t [] us))))) f
     → n ≡ table_number (debug_data v) t → g ≡ fault_at f n → Blames (LongTable m v t us) g
 table-row m v t us NoMemory g n placed b number is = subst (Blames (LongTable m v t us)) (sym is) tt
 table-row m v t us (Refused r) g n placed (long over) number is =
@@ -190,7 +190,7 @@ pub record TablePass (m : PathMap) (v : View) (table : TextSection) (us : List S
     (known : Bool → ℕ → Option ℕ) (i : ℕ) : Type 0 where
   pub grown : Growing m v table pool known
   pub texts : all_texts_at m v table pool.texts (drop i us) ≡ all_texts_at m v table front us
-  pub noted : AllNoted m v table us i known
+  pub noted : AllNoted v table us i known
   pub remembers : Remembers first known
 
 pub pass-starts : (m : PathMap) (v : View) (table : TextSection) (us : List SectionFields) (pool : TextTable) (known : Bool → ℕ → Option ℕ) → Growing m v table pool known
@@ -212,10 +212,10 @@ get_or-any [] i d u lt = absurd (omega arith)
 get_or-any (x ∷ xs) zero d u lt = refl
 get_or-any (x ∷ xs) (suc i) d u lt = get_or-any xs i d u (omega arith)
 
-pub noted-later : (m : PathMap) (v : View) (table : TextSection) (u : SectionFields) (old new : Bool → ℕ → Option ℕ) → Remembers old new → IsSectionNoted m v table u old
-    → IsSectionNoted m v table u new
-noted-later m v table u old new r n = record {
-  each = λ (k : ℕ) (d : OffsetField) lt within. record { noted = λ asks. r.each _ _ ((n.each k d lt within).noted asks) };
+pub noted-later : (v : View) (table : TextSection) (u : SectionFields) (old new : Bool → ℕ → Option ℕ) → Remembers old new → IsSectionNoted v table u old
+    → IsSectionNoted v table u new
+noted-later v table u old new r n = record {
+  each = λ (k : ℕ) (d : OffsetField) lt within. record { noted = r.each _ _ (n.each k d lt within).noted };
 }
 
 pub pass-more : (m : PathMap) (v : View) (table : TextSection) (us : List SectionFields) (front : List (List ℕ)) (first : Bool → ℕ → Option ℕ) (old new : TextTable) (was known : Bool → ℕ → Option ℕ)
@@ -227,11 +227,11 @@ pass-more m v table us front first old new was known i u lt is p g = record {
       ∙ sym (ap (all_texts_at m v table old.texts) (sections-front us u i lt is)) ∙ p.texts;
   noted = record {
     each = λ (k : ℕ) (d : SectionFields) (below : k < i + 1) (within : k < length us). elim (cases_lt k i) [
-      | inl before ↦ noted-later m v table (get_or us k d) was known g.remembers (p.noted.each k d before within)
+      | inl before ↦ noted-later v table (get_or us k d) was known g.remembers (p.noted.each k d before within)
       | inr past ↦
           let same : i ≡ k = omega arith in
           let here : u ≡ get_or us k d = is ∙ get_or-any us i u d (omega arith) ∙ ap (λ (n : ℕ). get_or us n d) same in
-          subst (λ (x : SectionFields). IsSectionNoted m v table x known) here g.noted
+          subst (λ (x : SectionFields). IsSectionNoted v table x known) here g.noted
     ];
   };
   remembers = remembers_on first was known p.remembers g.remembers;
@@ -249,22 +249,22 @@ pass-ends m v table us old pool first known i end p = record {
 pub length-all_texts : (m : PathMap) (v : View) (table : TextSection) (ts : List (List ℕ)) (us : List SectionFields) → length (laid_texts ts) ≤ length (laid_texts (all_texts_at m v table ts us))
 length-all_texts m v table ts [] = omega arith
 length-all_texts m v table ts (u ∷ us) =
-    omega (arith, length-texts_at (plan_in m v table) m (source_in v u.number table) ts (fields_of table u), length-all_texts m v table (section_texts_at m v table ts u) us)
+    omega (arith, length-texts_at m (source_in v u.number table) ts (fields_of table u), length-all_texts m v table (section_texts_at m v table ts u) us)
 
 -- a table that is too long with some of the texts is too long with all
-pub longer-refused : (m : PathMap) (v : View) (table : TextSection) (some all : List (List ℕ)) (f : Fault) → length (laid_texts some) ≤ length (laid_texts all)
-    → Blames (TooLong (length (table_bytes (table_with v table some)))) f → Blames (TooLong (length (table_bytes (table_with v table all)))) f
-longer-refused m v table some all NoMemory longer b = tt
-longer-refused m v table some all (Refused _) longer (long over) =
+pub longer-refused : (some all : List (List ℕ)) (f : Fault) → length (laid_texts some) ≤ length (laid_texts all)
+    → Blames (TooLong (length (table_bytes (table_with some)))) f → Blames (TooLong (length (table_bytes (table_with all)))) f
+longer-refused some all NoMemory longer b = tt
+longer-refused some all (Refused _) longer (long over) =
     long (omega (arith, longer, over))
 
 pub pass-refused : (m : PathMap) (v : View) (table : TextSection) (us : List SectionFields) (front : List (List ℕ)) (first : Bool → ℕ → Option ℕ) (pool : TextTable) (known : Bool → ℕ → Option ℕ) (i : ℕ)
     (u : SectionFields) (f : Fault) → i < length us → u ≡ get_or us i u → TablePass m v table us front first pool known i
-    → Blames (TooLong (length (table_bytes (table_with v table (section_texts_at m v table pool.texts u))))) f
-    → Blames (TooLong (length (table_bytes (table_with v table (all_texts_at m v table front us))))) f
+    → Blames (TooLong (length (table_bytes (table_with (section_texts_at m v table pool.texts u))))) f
+    → Blames (TooLong (length (table_bytes (table_with (all_texts_at m v table front us))))) f
 pass-refused m v table us front first pool known i u f lt is p b =
     let whole : all_texts_at m v table (section_texts_at m v table pool.texts u) (drop (i + 1) us) ≡ all_texts_at m v table front us =
     sym (ap (all_texts_at m v table pool.texts) (sections-front us u i lt is)) ∙ p.texts in
-    longer-refused m v table (section_texts_at m v table pool.texts u) (all_texts_at m v table front us) f
+    longer-refused (section_texts_at m v table pool.texts u) (all_texts_at m v table front us) f
     (subst (λ (ts : List (List ℕ)). length (laid_texts (section_texts_at m v table pool.texts u)) ≤ length (laid_texts ts)) whole
     (length-all_texts m v table (section_texts_at m v table pool.texts u) (drop (i + 1) us))) b

@@ -397,7 +397,7 @@ held-append b cells (u ∷ us) ws =
 
 -- those of which the code says them are those of which the edit does
 pub records-asked : (m : PathMap) (b : List ℕ) (v : View) (ps pl : TextTable) (ks kl kt : Bool → ℕ → Option ℕ) (us : List SectionFields) → Growing m v InStr ps ks → Growing m v InLineStr pl kl
-    → EachOf (λ u. IsSectionNoted m v InStr u ks) us → EachOf (λ u. IsSectionNoted m v InLineStr u kl) us
+    → EachOf (λ u. IsSectionNoted v InStr u ks) us → EachOf (λ u. IsSectionNoted v InLineStr u kl) us
     → records_known b v ks kl kt us ≡ records_known b v (asked_in m v InStr ps.texts) (asked_in m v InLineStr pl.texts) kt us
 records-asked m b v ps pl ks kl kt [] gs gl ns nl = refl
 records-asked m b v ps pl ks kl kt (u ∷ us) gs gl ns nl =

@@ -3,14 +3,12 @@ use Rattle.std.proofs.Common.{Bool, true, false, ◌≡◌, ◌≢◌, ℕ, zero
 use Rattle.std.specs.Prelude.{⊤}
 use Rattle.std.proofs.lemmas.Bool.{ne_eqb, true≢false}
 use Rattle.dw_base.specs.Forms.{width_size}
-use Rattle.dw_base.specs.LineChanges.{asked_place}
 use Rattle.dw_base.specs.LineReadings.{LineReading, TablesTo, table_read}
 use Rattle.dw_base.specs.LineSources.{LineSource}
 use Rattle.dw_base.specs.LineTables.{LineTable}
 use Rattle.dw_base.specs.LineWriteFails.{length_limit}
 use Rattle.dw_base.specs.Paths.{PathMap}
-use Rattle.dw_base.specs.StringTables.{Plan, new_place as place_in}
-use Rattle.dw_base.specs.TextChanges.{TableChange}
+use Rattle.dw_base.specs.StringTables.{new_place as place_in}
 use Rattle.dw_base.specs.TextLineChanges.{header_by_texts, rest_by_texts, table_by_texts, tables_by_texts, text_changes, text_mention, text_place, texts_changes}
 use Rattle.dw_base.specs.TextWriteFails.{CanWriteTexts, TextWriteFails, text_header, text_offset, text_program, text_table, wide_text}
 use Rattle.dw_base.specs.WrittenLines.{Change, inline_change, offset_changes, with_header_length, with_program, changed, behind_lengths, length_bytes}
@@ -94,59 +92,57 @@ fails-same g m p q t r a (text_offset (wide_text x place here other is far)) =
     text_offset (wide_text x place here other (agree-at g q p t.texts x (agree-back g p q t.texts a) here other ∙ is) far)
 fails-same g m p q t r a (text_program h e f) = text_program h e f
 
--- the place of a text that is known is the one that it asks for
-pub known-asked : (plan : Plan) (m : PathMap) (table : List ℕ) (ts : List (List ℕ)) (known : Bool → ℕ → Option ℕ) (path : Bool) (o : ℕ) → Knows plan m table ts known
-    → IsNoted plan table known path o → known path o ≡ (if plan.asks (mention_as path table o) then Some (place_in plan m ts (mention_as path table o)) else None)
-known-asked plan m table ts known path o knows noted = by (known path o) refl (plan.asks (mention_as path table o)) refl
+-- the place that is known of a text is its new one
+pub known-asked : (m : PathMap) (table : List ℕ) (ts : List (List ℕ)) (known : Bool → ℕ → Option ℕ) (path : Bool) (o : ℕ) → Knows m table ts known
+    → IsNoted known path o → known path o ≡ Some (place_in m ts (mention_as path table o))
+known-asked m table ts known path o knows noted = by (known path o) refl noted.noted
   where
-    by : (k : Option ℕ) → known path o ≡ k → (b : Bool) → plan.asks (mention_as path table o) ≡ b → k ≡ (if b then Some (place_in plan m ts (mention_as path table o)) else None)
-    by None e true a = absurd (true≢false (sym (noted.noted a) ∙ ap is_some e))
-    by None e false a = refl
-    by (Some n) e true a = ap Some (knows.each path o n e).place_is
-    by (Some n) e false a = absurd (true≢false (sym (knows.each path o n e).asks ∙ a))
+    by : (k : Option ℕ) → known path o ≡ k → is_some k ≡ true → k ≡ Some (place_in m ts (mention_as path table o))
+    by None e some = absurd cc
+    by (Some n) e some = ap Some (knows.each path o n e).place_is
 
 -- of the texts of a table
-abbrev pub NotedIn : Plan → FieldSource → (Bool → ℕ → Option ℕ) → OffsetField → Type 0
-NotedIn plan s known f = IsNoted plan s.table.bytes known f.path (offset_at s f)
+abbrev pub NotedIn : FieldSource → (Bool → ℕ → Option ℕ) → OffsetField → Type 0
+NotedIn s known f = IsNoted known f.path (offset_at s f)
 
-one-agrees : (g : LineSource) (m : PathMap) (str line_str : TableChange) (ks kl : Bool → ℕ → Option ℕ) (w : Width) (x : LineText) → IsWhole g → TextReads g w x.place
-    → Knows str.plan m g.str.bytes str.texts ks → Knows line_str.plan m g.line_str.bytes line_str.texts kl
-    → EachOf (NotedIn str.plan (line_texts g InStr) ks) (text_field g.number g.str.number InStr w x)
-    → EachOf (NotedIn line_str.plan (line_texts g InLineStr) kl) (text_field g.number g.str.number InLineStr w x)
+one-agrees : (g : LineSource) (m : PathMap) (str line_str : List (List ℕ)) (ks kl : Bool → ℕ → Option ℕ) (w : Width) (x : LineText) → IsWhole g → TextReads g w x.place
+    → Knows m g.str.bytes str ks → Knows m g.line_str.bytes line_str kl
+    → EachOf (NotedIn (line_texts g InStr) ks) (text_field g.number g.str.number InStr w x)
+    → EachOf (NotedIn (line_texts g InLineStr) kl) (text_field g.number g.str.number InLineStr w x)
     → (x.place.section == g.number) ≡ false
     → (if x.place.section == g.str.number then ks x.path x.place.at else kl x.path x.place.at) ≡ text_place m str line_str g x
 one-agrees g m str line_str ks kl w x whole reads s l ns nl other = by (x.place.section == g.number) (x.place.section == g.str.number) refl refl other ns nl
   where
     by : (a b : Bool) → (x.place.section == g.number) ≡ a → (x.place.section == g.str.number) ≡ b → a ≡ false
-        → EachOf (NotedIn str.plan (line_texts g InStr) ks) (if (not a && b) then record { at = x.place.field; size = width_size w; path = x.path } ∷ [] else [])
-        → EachOf (NotedIn line_str.plan (line_texts g InLineStr) kl) (if (not a && not b) then record { at = x.place.field; size = width_size w; path = x.path } ∷ [] else [])
+        → EachOf (NotedIn (line_texts g InStr) ks) (if (not a && b) then record { at = x.place.field; size = width_size w; path = x.path } ∷ [] else [])
+        → EachOf (NotedIn (line_texts g InLineStr) kl) (if (not a && not b) then record { at = x.place.field; size = width_size w; path = x.path } ∷ [] else [])
         → (if b then ks x.path x.place.at else kl x.path x.place.at)
-        ≡ (if b then asked_place str m (text_mention g.str.bytes x) else asked_place line_str m (text_mention g.line_str.bytes x))
+        ≡ (if b then Some (place_in m str (text_mention g.str.bytes x)) else Some (place_in m line_str (text_mention g.line_str.bytes x)))
     by true b e f is ns nl = absurd (true≢false is)
     by false true e f is ns nl =
         let says : is_text_of g.number g.str.number InStr x.place ≡ true = rw (e, f) refl in
-        known-asked str.plan m g.str.bytes str.texts ks x.path x.place.at s
-        (subst (IsNoted str.plan g.str.bytes ks x.path) (text-offset g InStr w x.place x.path whole reads says) ns.0)
+        known-asked m g.str.bytes str ks x.path x.place.at s
+        (subst (IsNoted ks x.path) (text-offset g InStr w x.place x.path whole reads says) ns.0)
     by false false e f is ns nl =
         let says : is_text_of g.number g.str.number InLineStr x.place ≡ true = rw (e, f) refl in
-        known-asked line_str.plan m g.line_str.bytes line_str.texts kl x.path x.place.at l
-        (subst (IsNoted line_str.plan g.line_str.bytes kl x.path) (text-offset g InLineStr w x.place x.path whole reads says) nl.0)
+        known-asked m g.line_str.bytes line_str kl x.path x.place.at l
+        (subst (IsNoted kl x.path) (text-offset g InLineStr w x.place x.path whole reads says) nl.0)
 
 each-parts : {X : Type 0} (P : X → Type 0) (xs ys : List X) → EachOf P (xs ++ ys) → EachOf P xs × EachOf P ys
 each-parts P [] ys h = (tt, h)
 each-parts P (x ∷ xs) ys h = let rest = each-parts P xs ys h.1 in ((h.0, rest.0), rest.1)
 
 -- so are those of all
-texts-agree : (g : LineSource) (m : PathMap) (str line_str : TableChange) (ks kl : Bool → ℕ → Option ℕ) (w : Width) (xs : List LineText) → IsWhole g
+texts-agree : (g : LineSource) (m : PathMap) (str line_str : List (List ℕ)) (ks kl : Bool → ℕ → Option ℕ) (w : Width) (xs : List LineText) → IsWhole g
     → EachReads g w xs
-    → Knows str.plan m g.str.bytes str.texts ks → Knows line_str.plan m g.line_str.bytes line_str.texts kl
-    → EachOf (NotedIn str.plan (line_texts g InStr) ks) (text_fields g.number g.str.number InStr w xs)
-    → EachOf (NotedIn line_str.plan (line_texts g InLineStr) kl) (text_fields g.number g.str.number InLineStr w xs)
+    → Knows m g.str.bytes str ks → Knows m g.line_str.bytes line_str kl
+    → EachOf (NotedIn (line_texts g InStr) ks) (text_fields g.number g.str.number InStr w xs)
+    → EachOf (NotedIn (line_texts g InLineStr) kl) (text_fields g.number g.str.number InLineStr w xs)
     → EachAgree g (text_known g ks kl) (text_place m str line_str g) xs
 texts-agree g m str line_str ks kl w [] whole reads s l ns nl = tt
 texts-agree g m str line_str ks kl w (x ∷ xs) whole reads s l ns nl =
-    let a = each-parts (NotedIn str.plan (line_texts g InStr) ks) (text_field g.number g.str.number InStr w x) (text_fields g.number g.str.number InStr w xs) ns in
-    let b = each-parts (NotedIn line_str.plan (line_texts g InLineStr) kl) (text_field g.number g.str.number InLineStr w x) (text_fields g.number g.str.number InLineStr w xs) nl in (
+    let a = each-parts (NotedIn (line_texts g InStr) ks) (text_field g.number g.str.number InStr w x) (text_fields g.number g.str.number InStr w xs) ns in
+    let b = each-parts (NotedIn (line_texts g InLineStr) kl) (text_field g.number g.str.number InLineStr w x) (text_fields g.number g.str.number InLineStr w xs) nl in (
       (λ other. one-agrees g m str line_str ks kl w x whole reads.0 s l a.0 b.0 other),
       texts-agree g m str line_str ks kl w xs whole reads.1 s l a.1 b.1,
     )
@@ -156,23 +152,23 @@ abbrev pub TablesAgree : LineSource → (LineText → Option ℕ) → (LineText 
 TablesAgree g p q [] = ⊤
 TablesAgree g p q (r ∷ rs) = EachAgree g p q (table_read g r).texts × TablesAgree g p q rs
 
-pub tables-agree : (g : LineSource) (m : PathMap) (str line_str : TableChange) (ks kl : Bool → ℕ → Option ℕ) (p e : ℕ) (rs : List LineReading) → IsWhole g
-    → TablesTo g p rs e → Knows str.plan m g.str.bytes str.texts ks → Knows line_str.plan m g.line_str.bytes line_str.texts kl
-    → EachOf (NotedIn str.plan (line_texts g InStr) ks) (table_fields g.number g.str.number InStr (tables_read g rs))
-    → EachOf (NotedIn line_str.plan (line_texts g InLineStr) kl) (table_fields g.number g.str.number InLineStr (tables_read g rs))
+pub tables-agree : (g : LineSource) (m : PathMap) (str line_str : List (List ℕ)) (ks kl : Bool → ℕ → Option ℕ) (p e : ℕ) (rs : List LineReading) → IsWhole g
+    → TablesTo g p rs e → Knows m g.str.bytes str ks → Knows m g.line_str.bytes line_str kl
+    → EachOf (NotedIn (line_texts g InStr) ks) (table_fields g.number g.str.number InStr (tables_read g rs))
+    → EachOf (NotedIn (line_texts g InLineStr) kl) (table_fields g.number g.str.number InLineStr (tables_read g rs))
     → TablesAgree g (text_known g ks kl) (text_place m str line_str g) rs
 tables-agree g m str line_str ks kl p e [] whole reads s l ns nl = tt
 tables-agree g m str line_str ks kl p e (r ∷ rs) whole reads s l ns nl =
-    let a = each-parts (NotedIn str.plan (line_texts g InStr) ks) (text_fields g.number g.str.number InStr r.header.width (table_read g r).texts)
+    let a = each-parts (NotedIn (line_texts g InStr) ks) (text_fields g.number g.str.number InStr r.header.width (table_read g r).texts)
     (table_fields g.number g.str.number InStr (tables_read g rs)) ns in
-    let b = each-parts (NotedIn line_str.plan (line_texts g InLineStr) kl) (text_fields g.number g.str.number InLineStr r.header.width (table_read g r).texts)
+    let b = each-parts (NotedIn (line_texts g InLineStr) kl) (text_fields g.number g.str.number InLineStr r.header.width (table_read g r).texts)
     (table_fields g.number g.str.number InLineStr (tables_read g rs)) nl in (
       texts-agree g m str line_str ks kl r.header.width (table_read g r).texts whole (table-texts g p r reads.0) s l a.0 b.0,
       tables-agree g m str line_str ks kl r.header.end e rs whole reads.1 s l a.1 b.1,
     )
 
 -- the new tables
-pub lines-same : (g : LineSource) (m : PathMap) (str line_str : TableChange) (ks kl : Bool → ℕ → Option ℕ) (rs : List LineReading)
+pub lines-same : (g : LineSource) (m : PathMap) (str line_str : List (List ℕ)) (ks kl : Bool → ℕ → Option ℕ) (rs : List LineReading)
     → TablesAgree g (text_known g ks kl) (text_place m str line_str g) rs → lines_known m g ks kl (tables_read g rs) ≡ tables_by_texts m str line_str g rs
 lines-same g m str line_str ks kl [] a = refl
 lines-same g m str line_str ks kl (r ∷ rs) a =
@@ -180,18 +176,18 @@ lines-same g m str line_str ks kl (r ∷ rs) a =
     ∙ ap (λ (ts : List (List ℕ)). table_by_texts g m (text_place m str line_str g) (table_read g r) ∷ ts) (lines-same g m str line_str ks kl rs a.1)
 
 -- each can be written
-abbrev pub EachCanWrite : LineSource → PathMap → TableChange → TableChange → List LineReading → Type 0
+abbrev pub EachCanWrite : LineSource → PathMap → List (List ℕ) → List (List ℕ) → List LineReading → Type 0
 EachCanWrite g m str line_str [] = ⊤
 EachCanWrite g m str line_str (r ∷ rs) = CanWriteTexts g m (text_place m str line_str g) (table_read g r) × EachCanWrite g m str line_str rs
 
-pub all-can : (g : LineSource) (m : PathMap) (str line_str : TableChange) (ks kl : Bool → ℕ → Option ℕ) (rs : List LineReading)
+pub all-can : (g : LineSource) (m : PathMap) (str line_str : List (List ℕ)) (ks kl : Bool → ℕ → Option ℕ) (rs : List LineReading)
     → TablesAgree g (text_known g ks kl) (text_place m str line_str g) rs → AllCanWrite m g ks kl (tables_read g rs) → EachCanWrite g m str line_str rs
 all-can g m str line_str ks kl [] a can = tt
 all-can g m str line_str ks kl (r ∷ rs) a can =
     (can-same g m (text_known g ks kl) (text_place m str line_str g) (table_read g r) a.0 can.0, all-can g m str line_str ks kl rs a.1 can.1)
 
 -- or one can't
-pub record TableRefused (g : LineSource) (m : PathMap) (str line_str : TableChange) (rs : List LineReading) (r : Refusal) : Type 0 where
+pub record TableRefused (g : LineSource) (m : PathMap) (str line_str : List (List ℕ)) (rs : List LineReading) (r : Refusal) : Type 0 where
   pub before : List LineReading
   pub behind : List LineReading
   pub table : LineReading
@@ -206,7 +202,7 @@ abbrev head-of : LineTable → List LineTable → LineTable
 head-of d [] = d
 head-of d (x ∷ xs) = x
 
-pub table-refused : (g : LineSource) (m : PathMap) (str line_str : TableChange) (ks kl : Bool → ℕ → Option ℕ) (rs : List LineReading) (before behind : List LineTable) (t : LineTable) (r : Refusal)
+pub table-refused : (g : LineSource) (m : PathMap) (str line_str : List (List ℕ)) (ks kl : Bool → ℕ → Option ℕ) (rs : List LineReading) (before behind : List LineTable) (t : LineTable) (r : Refusal)
     → TablesAgree g (text_known g ks kl) (text_place m str line_str g) rs → tables_read g rs ≡ before ++ t ∷ behind → TextWriteFails g m (text_known g ks kl) t r
     → TableRefused g m str line_str rs r
 table-refused g m str line_str ks kl [] [] behind t r a split fails = absurd cc

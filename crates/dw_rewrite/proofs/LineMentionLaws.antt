@@ -1,12 +1,13 @@
 -- The texts that line tables mention are those of their fields.
 use Rattle.std.proofs.Common.{Bool, true, false, ◌≡◌, ℕ, ◌==◌, ◌&&◌, not, List, [], ◌∷◌, ◌++◌, length, if◌then◌else◌, refl, sym, ap, ◌∙◌}
 use Rattle.std.proofs.lemmas.Bool.{eq-eqb, ne_eqb, true≢false}
+use Rattle.dw_base.proofs.TableLaws.{texts_after-append}
 use Rattle.dw_base.specs.Cells.{bytes_of, cells_at, offset_of}
 use Rattle.dw_base.specs.Forms.{width_size}
 use Rattle.dw_base.specs.LineReadings.{LineReading, TablesTo, table_read}
 use Rattle.dw_base.specs.LineSources.{LineSource}
 use Rattle.dw_base.specs.Paths.{PathMap}
-use Rattle.dw_base.specs.StringTables.{Mention, Plan, with_mention, texts_after}
+use Rattle.dw_base.specs.StringTables.{with_mention, texts_after}
 use Rattle.dw_base.specs.Texts.{ends_in, text_in}
 use Rattle.dw_base.specs.TextLineChanges.{all_texts_mentions, mention_of, text_mention, texts_mentions}
 use Rattle.dw_base.specs.declared.line_tables.LineText.{LineText}
@@ -32,14 +33,10 @@ pub record IsWhole (g : LineSource) : Type 0 where
   pub apart : TextsApart g
   pub own : bytes_of g.cells ≡ g.bytes
 
-texts_after-append : (plan : Plan) (m : PathMap) (ts : List (List ℕ)) (xs ys : List Mention) → texts_after plan m ts (xs ++ ys) ≡ texts_after plan m (texts_after plan m ts xs) ys
-texts_after-append plan m ts [] ys = refl
-texts_after-append plan m ts (x ∷ xs) ys = texts_after-append plan m (with_mention plan m ts x) xs ys
-
-pub texts_at-append : (plan : Plan) (m : PathMap) (s : FieldSource) (ts : List (List ℕ)) (fs gs : List OffsetField)
-    → texts_at plan m s ts (fs ++ gs) ≡ texts_at plan m s (texts_at plan m s ts fs) gs
-texts_at-append plan m s ts [] gs = refl
-texts_at-append plan m s ts (f ∷ fs) gs = texts_at-append plan m s (with_mention plan m ts (field_mention s f)) fs gs
+pub texts_at-append : (m : PathMap) (s : FieldSource) (ts : List (List ℕ)) (fs gs : List OffsetField)
+    → texts_at m s ts (fs ++ gs) ≡ texts_at m s (texts_at m s ts fs) gs
+texts_at-append m s ts [] gs = refl
+texts_at-append m s ts (f ∷ fs) gs = texts_at-append m s (with_mention m ts (field_mention s f)) fs gs
 
 -- the offset that the field of a text in a table of texts holds is the text's place
 no-both : (a : Bool) → (not a && false) ≡ true → ⊥
@@ -72,47 +69,47 @@ text-offset g table w x path whole (named_there z n field room reads ends) e =
         absurd (no-both (g.str.number == g.number) (ap (λ (b : Bool). not (g.str.number == g.number) && not b) (sym same) ∙ e))
 
 -- a text
-text-texts : (g : LineSource) (table : TextSection) (w : Width) (plan : Plan) (m : PathMap) (ts : List (List ℕ)) (x : LineText) → IsWhole g → TextReads g w x.place
-    → texts_after plan m ts (mention_of g table x) ≡ texts_at plan m (line_texts g table) ts (text_field g.number g.str.number table w x)
-text-texts g InStr w plan m ts x whole reads = by (x.place.section == g.number) (x.place.section == g.str.number) refl refl
+text-texts : (g : LineSource) (table : TextSection) (w : Width) (m : PathMap) (ts : List (List ℕ)) (x : LineText) → IsWhole g → TextReads g w x.place
+    → texts_after m ts (mention_of g table x) ≡ texts_at m (line_texts g table) ts (text_field g.number g.str.number table w x)
+text-texts g InStr w m ts x whole reads = by (x.place.section == g.number) (x.place.section == g.str.number) refl refl
   where
     by : (a b : Bool) → (x.place.section == g.number) ≡ a → (x.place.section == g.str.number) ≡ b
-        → texts_after plan m ts (if a then [] else (if b then text_mention g.str.bytes x ∷ [] else []))
-        ≡ texts_at plan m (line_texts g InStr) ts (if (not a && b) then record { at = x.place.field; size = width_size w; path = x.path } ∷ [] else [])
+        → texts_after m ts (if a then [] else (if b then text_mention g.str.bytes x ∷ [] else []))
+        ≡ texts_at m (line_texts g InStr) ts (if (not a && b) then record { at = x.place.field; size = width_size w; path = x.path } ∷ [] else [])
     by true b e f = refl
     by false false e f = refl
     by false true e f =
         let says : is_text_of g.number g.str.number InStr x.place ≡ true = rw (e, f) refl in
-        ap (λ (n : ℕ). with_mention plan m ts (record { path = x.path; text = text_in g.str.bytes n })) (sym (text-offset g InStr w x.place x.path whole reads says))
-text-texts g InLineStr w plan m ts x whole reads = by (x.place.section == g.number) (x.place.section == g.str.number) refl refl
+        ap (λ (n : ℕ). with_mention m ts (record { path = x.path; text = text_in g.str.bytes n })) (sym (text-offset g InStr w x.place x.path whole reads says))
+text-texts g InLineStr w m ts x whole reads = by (x.place.section == g.number) (x.place.section == g.str.number) refl refl
   where
     by : (a b : Bool) → (x.place.section == g.number) ≡ a → (x.place.section == g.str.number) ≡ b
-        → texts_after plan m ts (if a then [] else (if b then [] else text_mention g.line_str.bytes x ∷ []))
-        ≡ texts_at plan m (line_texts g InLineStr) ts (if (not a && not b) then record { at = x.place.field; size = width_size w; path = x.path } ∷ [] else [])
+        → texts_after m ts (if a then [] else (if b then [] else text_mention g.line_str.bytes x ∷ []))
+        ≡ texts_at m (line_texts g InLineStr) ts (if (not a && not b) then record { at = x.place.field; size = width_size w; path = x.path } ∷ [] else [])
     by true b e f = refl
     by false true e f = refl
     by false false e f =
         let says : is_text_of g.number g.str.number InLineStr x.place ≡ true = rw (e, f) refl in
-        ap (λ (n : ℕ). with_mention plan m ts (record { path = x.path; text = text_in g.line_str.bytes n })) (sym (text-offset g InLineStr w x.place x.path whole reads says))
+        ap (λ (n : ℕ). with_mention m ts (record { path = x.path; text = text_in g.line_str.bytes n })) (sym (text-offset g InLineStr w x.place x.path whole reads says))
 
-all-texts : (g : LineSource) (table : TextSection) (w : Width) (plan : Plan) (m : PathMap) (ts : List (List ℕ)) (xs : List LineText) → IsWhole g → EachReads g w xs
-    → texts_after plan m ts (texts_mentions g table xs) ≡ texts_at plan m (line_texts g table) ts (text_fields g.number g.str.number table w xs)
-all-texts g table w plan m ts [] whole reads = refl
-all-texts g table w plan m ts (x ∷ xs) whole reads =
-    texts_after-append plan m ts (mention_of g table x) (texts_mentions g table xs)
-    ∙ ap (λ (us : List (List ℕ)). texts_after plan m us (texts_mentions g table xs)) (text-texts g table w plan m ts x whole reads.0)
-    ∙ all-texts g table w plan m (texts_at plan m (line_texts g table) ts (text_field g.number g.str.number table w x)) xs whole reads.1
-    ∙ sym (texts_at-append plan m (line_texts g table) ts (text_field g.number g.str.number table w x) (text_fields g.number g.str.number table w xs))
+all-texts : (g : LineSource) (table : TextSection) (w : Width) (m : PathMap) (ts : List (List ℕ)) (xs : List LineText) → IsWhole g → EachReads g w xs
+    → texts_after m ts (texts_mentions g table xs) ≡ texts_at m (line_texts g table) ts (text_fields g.number g.str.number table w xs)
+all-texts g table w m ts [] whole reads = refl
+all-texts g table w m ts (x ∷ xs) whole reads =
+    texts_after-append m ts (mention_of g table x) (texts_mentions g table xs)
+    ∙ ap (λ (us : List (List ℕ)). texts_after m us (texts_mentions g table xs)) (text-texts g table w m ts x whole reads.0)
+    ∙ all-texts g table w m (texts_at m (line_texts g table) ts (text_field g.number g.str.number table w x)) xs whole reads.1
+    ∙ sym (texts_at-append m (line_texts g table) ts (text_field g.number g.str.number table w x) (text_fields g.number g.str.number table w xs))
 
 -- those of tables
-pub lines-texts : (g : LineSource) (table : TextSection) (plan : Plan) (m : PathMap) (ts : List (List ℕ)) (p e : ℕ) (rs : List LineReading) → IsWhole g → TablesTo g p rs e
-    → texts_after plan m ts (all_texts_mentions g table rs)
-    ≡ texts_at plan m (line_texts g table) ts (table_fields g.number g.str.number table (tables_read g rs))
-lines-texts g table plan m ts p e [] whole reads = refl
-lines-texts g table plan m ts p e (r ∷ rs) whole reads =
-    texts_after-append plan m ts (texts_mentions g table (table_read g r).texts) (all_texts_mentions g table rs)
-    ∙ ap (λ (us : List (List ℕ)). texts_after plan m us (all_texts_mentions g table rs))
-    (all-texts g table r.header.width plan m ts (table_read g r).texts whole (table-texts g p r reads.0))
-    ∙ lines-texts g table plan m (texts_at plan m (line_texts g table) ts (text_fields g.number g.str.number table r.header.width (table_read g r).texts)) r.header.end e rs whole reads.1
-    ∙ sym (texts_at-append plan m (line_texts g table) ts (text_fields g.number g.str.number table r.header.width (table_read g r).texts)
+pub lines-texts : (g : LineSource) (table : TextSection) (m : PathMap) (ts : List (List ℕ)) (p e : ℕ) (rs : List LineReading) → IsWhole g → TablesTo g p rs e
+    → texts_after m ts (all_texts_mentions g table rs)
+    ≡ texts_at m (line_texts g table) ts (table_fields g.number g.str.number table (tables_read g rs))
+lines-texts g table m ts p e [] whole reads = refl
+lines-texts g table m ts p e (r ∷ rs) whole reads =
+    texts_after-append m ts (texts_mentions g table (table_read g r).texts) (all_texts_mentions g table rs)
+    ∙ ap (λ (us : List (List ℕ)). texts_after m us (all_texts_mentions g table rs))
+    (all-texts g table r.header.width m ts (table_read g r).texts whole (table-texts g p r reads.0))
+    ∙ lines-texts g table m (texts_at m (line_texts g table) ts (text_fields g.number g.str.number table r.header.width (table_read g r).texts)) r.header.end e rs whole reads.1
+    ∙ sym (texts_at-append m (line_texts g table) ts (text_fields g.number g.str.number table r.header.width (table_read g r).texts)
     (table_fields g.number g.str.number table (tables_read g rs)))

@@ -4,7 +4,7 @@ use Rattle.dw_base.specs.FileViews.{View}
 use Rattle.dw_base.specs.LayoutFails.{TooLong}
 use Rattle.dw_base.specs.Paths.{PathMap}
 use Rattle.dw_base.specs.Refusals.{Blames}
-use Rattle.dw_base.specs.StringTables.{TextTable, rebuilding, table_bytes}
+use Rattle.dw_base.specs.StringTables.{TextTable, table_bytes}
 use Rattle.dw_base.specs.Texts.{laid_texts}
 use Rattle.dw_base.specs.declared.fault.Fault.{Fault}
 use Rattle.dw_base.specs.declared.texts.TextSection.{TextSection}
@@ -26,7 +26,7 @@ pub record ListsPass (m : PathMap) (v : View) (table : TextSection) (front : Lis
   pub is : all ≡ done ++ left
   pub grown : Growing m v table pool known
   pub texts : all_texts_at m v table pool.texts left ≡ all_texts_at m v table front all
-  pub noted : EachOf (λ u. IsSectionNoted m v table u known) done
+  pub noted : EachOf (λ u. IsSectionNoted v table u known) done
   pub remembers : Remembers first known
 
 pub lists-start : (m : PathMap) (v : View) (table : TextSection) (all : List SectionFields) (pool : TextTable) (known : Bool → ℕ → Option ℕ) → Growing m v table pool known
@@ -34,10 +34,10 @@ pub lists-start : (m : PathMap) (v : View) (table : TextSection) (all : List Sec
 lists-start m v table all pool known g = record { is = refl; grown = g; texts = refl; noted = tt; remembers = remembers_all known }
 
 -- what is noted stays so
-each-later : (m : PathMap) (v : View) (table : TextSection) (was known : Bool → ℕ → Option ℕ) (us : List SectionFields) → Remembers was known
-    → EachOf (λ u. IsSectionNoted m v table u was) us → EachOf (λ u. IsSectionNoted m v table u known) us
-each-later m v table was known [] r h = tt
-each-later m v table was known (u ∷ us) r h = (noted-later m v table u was known r h.0, each-later m v table was known us r h.1)
+each-later : (v : View) (table : TextSection) (was known : Bool → ℕ → Option ℕ) (us : List SectionFields) → Remembers was known
+    → EachOf (λ u. IsSectionNoted v table u was) us → EachOf (λ u. IsSectionNoted v table u known) us
+each-later v table was known [] r h = tt
+each-later v table was known (u ∷ us) r h = (noted-later v table u was known r h.0, each-later v table was known us r h.1)
 
 -- one list more, and the last
 pub lists-more : (m : PathMap) (v : View) (table : TextSection) (front : List (List ℕ)) (first : Bool → ℕ → Option ℕ) (done us left all : List SectionFields) (old new : TextTable)
@@ -47,8 +47,8 @@ lists-more m v table front first done us left all old new was known p g = record
   is = p.is ∙ sym (append_assoc done us left);
   grown = g.grown;
   texts = ap (λ (ts : List (List ℕ)). all_texts_at m v table ts left) g.texts ∙ sym (all_texts-append m v table old.texts us left) ∙ p.texts;
-  noted = each-append (λ u. IsSectionNoted m v table u known) done us (each-later m v table was known done g.remembers p.noted)
-      (noted-each m v table known us (λ (k : ℕ) (d : SectionFields) (lt : k < length us). g.noted.each k d lt lt));
+  noted = each-append (λ u. IsSectionNoted v table u known) done us (each-later v table was known done g.remembers p.noted)
+      (noted-each v table known us (λ (k : ℕ) (d : SectionFields) (lt : k < length us). g.noted.each k d lt lt));
   remembers = remembers_on first was known p.remembers g.remembers;
 }
 
@@ -64,8 +64,8 @@ lists-end m v table done all old pool first known p = record {
   grown = p.grown;
   texts = p.texts;
   noted = record {
-    each = λ (k : ℕ) (d : SectionFields) lt (within : k < length all). each-get (λ u. IsSectionNoted m v table u known) all k d within
-        (subst (EachOf (λ u. IsSectionNoted m v table u known)) (sym (p.is ∙ append-nil done)) p.noted);
+    each = λ (k : ℕ) (d : SectionFields) lt (within : k < length all). each-get (λ u. IsSectionNoted v table u known) all k d within
+        (subst (EachOf (λ u. IsSectionNoted v table u known)) (sym (p.is ∙ append-nil done)) p.noted);
   };
   remembers = p.remembers;
 }
@@ -73,19 +73,19 @@ lists-end m v table done all old pool first known p = record {
 -- a table that is too long with one list more is too long with all
 pub lists-refused : (m : PathMap) (v : View) (table : TextSection) (front : List (List ℕ)) (first : Bool → ℕ → Option ℕ) (done us left all : List SectionFields) (pool : TextTable)
     (known : Bool → ℕ → Option ℕ) (f : Fault) → ListsPass m v table front first done (us ++ left) all pool known
-    → Blames (TooLong (length (table_bytes (table_with v table (all_texts_at m v table pool.texts us))))) f
-    → Blames (TooLong (length (table_bytes (table_with v table (all_texts_at m v table front all))))) f
+    → Blames (TooLong (length (table_bytes (table_with (all_texts_at m v table pool.texts us))))) f
+    → Blames (TooLong (length (table_bytes (table_with (all_texts_at m v table front all))))) f
 lists-refused m v table front first done us left all pool known f p b =
     let whole : all_texts_at m v table (all_texts_at m v table pool.texts us) left ≡ all_texts_at m v table front all =
     sym (all_texts-append m v table pool.texts us left) ∙ p.texts in
-    longer-refused m v table (all_texts_at m v table pool.texts us) (all_texts_at m v table front all) f
+    longer-refused (all_texts_at m v table pool.texts us) (all_texts_at m v table front all) f
     (subst (λ (ts : List (List ℕ)). length (laid_texts (all_texts_at m v table pool.texts us)) ≤ length (laid_texts ts)) whole
     (length-all_texts m v table (all_texts_at m v table pool.texts us) left)) b
 
 pub last-refused : (m : PathMap) (v : View) (table : TextSection) (front : List (List ℕ)) (first : Bool → ℕ → Option ℕ) (done us all : List SectionFields) (pool : TextTable)
     (known : Bool → ℕ → Option ℕ) (f : Fault) → ListsPass m v table front first done us all pool known
-    → Blames (TooLong (length (table_bytes (table_with v table (all_texts_at m v table pool.texts us))))) f
-    → Blames (TooLong (length (table_bytes (table_with v table (all_texts_at m v table front all))))) f
+    → Blames (TooLong (length (table_bytes (table_with (all_texts_at m v table pool.texts us))))) f
+    → Blames (TooLong (length (table_bytes (table_with (all_texts_at m v table front all))))) f
 last-refused m v table front first done us all pool known f p b =
     lists-refused m v table front first done us [] all pool known f (subst (λ (ws : List SectionFields). ListsPass m v table front first done ws all pool known) (sym (append-nil us)) p) b
 
@@ -134,8 +134,8 @@ pub grown-slice : (m : PathMap) (v : View) (table : TextSection) (xs us : List S
 grown-slice m v table xs us old new was known is g = subst (λ (ws : List SectionFields). GrownByAll m v table ws old new was known) is g
 
 pub long-slice : (m : PathMap) (v : View) (table : TextSection) (ts : List (List ℕ)) (xs us : List SectionFields) (f : Fault) → xs ≡ us
-    → Blames (TooLong (length (table_bytes (table_with v table (all_texts_at m v table ts xs))))) f → Blames (TooLong (length (table_bytes (table_with v table (all_texts_at m v table ts us))))) f
-long-slice m v table ts xs us f is b = subst (λ (ws : List SectionFields). Blames (TooLong (length (table_bytes (table_with v table (all_texts_at m v table ts ws))))) f) is b
+    → Blames (TooLong (length (table_bytes (table_with (all_texts_at m v table ts xs))))) f → Blames (TooLong (length (table_bytes (table_with (all_texts_at m v table ts us))))) f
+long-slice m v table ts xs us f is b = subst (λ (ws : List SectionFields). Blames (TooLong (length (table_bytes (table_with (all_texts_at m v table ts ws))))) f) is b
 
 -- each list has offsets
 pub of-units : (v : View) (us : Fields) (xs : List SectionFields) → xs ≡ us.units → AllHaveOffsets v (all_of us) → AllHaveOffsets v xs
@@ -165,7 +165,7 @@ of-names v us xs is h = subst (AllHaveOffsets v) (sym is) (offsets-parts v us.ma
 pub ruleset list_rules = (of-units, of-slots, of-lines, of-macros, of-names)
 
 -- a table to which nothing was added yet
-knows-none : (m : PathMap) (table : List ℕ) (known : Bool → ℕ → Option ℕ) → ((path : Bool) (o : ℕ) → known path o ≡ None) → Knows rebuilding m table [] known
+knows-none : (m : PathMap) (table : List ℕ) (known : Bool → ℕ → Option ℕ) → ((path : Bool) (o : ℕ) → known path o ≡ None) → Knows m table [] known
 knows-none m table known none = record {
   each = λ (path : Bool) (offset place : ℕ) e. (let no : None ≡ Some place = sym (none path offset) ∙ e in absurd cc);
 }
@@ -185,6 +185,6 @@ made-grown m v table us old pool was known is g = record {
 }
 
 pub made-refused : (m : PathMap) (v : View) (table : TextSection) (us : List SectionFields) (old : TextTable) (f : Fault) → old ≡ record { kept = []; texts = [] }
-    → Blames (TooLong (length (table_bytes (table_with v table (all_texts_at m v table old.texts us))))) f
-    → Blames (TooLong (length (table_bytes (table_with v table (all_texts_at m v table [] us))))) f
-made-refused m v table us old f is b = subst (λ (x : TextTable). Blames (TooLong (length (table_bytes (table_with v table (all_texts_at m v table x.texts us))))) f) is b
+    → Blames (TooLong (length (table_bytes (table_with (all_texts_at m v table old.texts us))))) f
+    → Blames (TooLong (length (table_bytes (table_with (all_texts_at m v table [] us))))) f
+made-refused m v table us old f is b = subst (λ (x : TextTable). Blames (TooLong (length (table_bytes (table_with (all_texts_at m v table x.texts us))))) f) is b

@@ -10,10 +10,11 @@ use Rattle.dw_base.specs.MacroReadings.{MacroReading, ReadsAllMacros}
 use Rattle.dw_base.specs.Paths.{PathMap}
 use Rattle.dw_base.specs.Pieces.{Piece, Chain, joined}
 use Rattle.dw_base.specs.SectionTexts.{edited_macros, edited_with, macro_mentions, macro_role, macro_role_by, mentions_with}
-use Rattle.dw_base.specs.StringTables.{Plan, texts_after}
+use Rattle.dw_base.specs.StringTables.{texts_after}
 use Rattle.dw_base.specs.TextChanges.{TableChanges, edited_by, InlineFitsBy}
 use Rattle.dw_base.specs.ViewData.{debug_data}
 use Rattle.dw_base.specs.declared.shared.Order.{Order}
+use Rattle.dw_base.proofs.TableLaws.{texts_after-append}
 use Rattle.dw_base.proofs.UnitEditLaws.{length-bytes_of}
 use Rattle.dw_base.proofs.UnitHeaderLaws.{bytes_of-append}
 use Rattle.dw_base.proofs.ViewCellLaws.{bytes_of-view_cells}
@@ -32,24 +33,24 @@ use Rattle.dw_find.proofs.MacroStartLaws.{all-cells}
 use Rattle.dw_find.proofs.PieceFieldLaws.{FieldsFrom, from-less, from-piece, from-start}
 use Rattle.dw_rewrite.specs.Changes.{FieldSource, patched, texts_at, with_all_known}
 use Rattle.dw_rewrite.specs.UnitsAfter.{start_source, text_source}
-use Rattle.dw_rewrite.specs.NewTables.{all_texts_at, bodies_after, change_in, plan_in, section_after, section_texts_at, source_in}
+use Rattle.dw_rewrite.specs.NewTables.{all_texts_at, bodies_after, section_after, section_texts_at, source_in}
 use Rattle.dw_rewrite.proofs.EditedLaws.{piece_texts}
-use Rattle.dw_rewrite.proofs.NewBodyLaws.{same-source, starts_after, texts_after-append}
+use Rattle.dw_rewrite.proofs.NewBodyLaws.{same-source, starts_after}
 use Rattle.dw_rewrite.proofs.UnitWrittenLaws.{length-edited, piece_written, unit_by}
 
 -- the texts of pieces are those of their fields
-texts_by_macros : (table : TextSection) (plan : Plan) (m : PathMap) (around : Around) (order : Order) (cells : List Cell) (ts : List (List ℕ)) (s : MacroState) (place : ℕ) (xs : List (Piece MacroState))
+texts_by_macros : (table : TextSection) (m : PathMap) (around : Around) (order : Order) (cells : List Cell) (ts : List (List ℕ)) (s : MacroState) (place : ℕ) (xs : List (Piece MacroState))
     → s.place ≡ place → Chain (macro_grammar order) s xs → joined xs ≡ drop place cells
-    → texts_after plan m ts (mentions_with macro_role table around xs) ≡ texts_at plan m (text_source around cells table) ts (macro_texts table xs)
-texts_by_macros table plan m around order cells ts s place [] stands chain e = refl
-texts_by_macros table plan m around order cells ts s place (x ∷ xs) stands chain e =
+    → texts_after m ts (mentions_with macro_role table around xs) ≡ texts_at m (text_source around cells table) ts (macro_texts table xs)
+texts_by_macros table m around order cells ts s place [] stands chain e = refl
+texts_by_macros table m around order cells ts s place (x ∷ xs) stands chain e =
     let here : x.state.place ≡ place = ap (λ (z : MacroState). z.place) chain.0 ∙ stands in
     let next : x.state.place + length x.cells ≡ place + length x.cells = ap (λ (i : ℕ). i + length x.cells) here in
     let behind : joined xs ≡ drop (place + length x.cells) cells =
     sym (drop-append_seam x.cells (joined xs)) ∙ ap (drop (length x.cells)) e ∙ drop-drop (length x.cells) place cells in
-    piece_texts (macro_role x.state) table plan m around cells ts x.cells (joined xs) place (mentions_with macro_role table around xs) (macro_texts table xs) e
-    (λ (us : List (List ℕ)). texts_by_macros table plan m around order cells us ((macro_grammar order).next x.state x.cells) (place + length x.cells) xs next chain.2 behind)
-    ∙ ap (λ (i : ℕ). texts_at plan m (text_source around cells table) ts (field_by table (macro_role x.state) i (length x.cells) ++ macro_texts table xs)) (sym here)
+    piece_texts (macro_role x.state) table m around cells ts x.cells (joined xs) place (mentions_with macro_role table around xs) (macro_texts table xs) e
+    (λ (us : List (List ℕ)). texts_by_macros table m around order cells us ((macro_grammar order).next x.state x.cells) (place + length x.cells) xs next chain.2 behind)
+    ∙ ap (λ (i : ℕ). texts_at m (text_source around cells table) ts (field_by table (macro_role x.state) i (length x.cells) ++ macro_texts table xs)) (sym here)
 
 -- so the new texts of sections are those of their fields
 same-macros : (table : TextSection) (n : ℕ) (xs : List (Piece MacroState)) → macro_texts table xs ≡ fields_of table (macros_with n (macro_starts xs) (macro_texts InStr xs))
@@ -58,26 +59,26 @@ same-macros InLineStr n xs = line-texts xs
 
 macro-told : (m : PathMap) (v : View) (all : DataReadings) (table : TextSection) (ts : List (List ℕ)) (z : CellSection) (r : MacroReading) → CellsOf v z.number z.contents → r.number ≡ z.number
     → ReadsMacros (debug_data v).base.order z.contents r.pieces
-    → texts_after (plan_in m v table) m ts (mentions_with macro_role table (around_of (debug_data v) all) r.pieces)
+    → texts_after m ts (mentions_with macro_role table (around_of (debug_data v) all) r.pieces)
     ≡ section_texts_at m v table ts (macros_with r.number (macro_starts r.pieces) (macro_texts InStr r.pieces))
 macro-told m v all table ts z r of number reads =
     let cells : joined r.pieces ≡ view_cells v r.number = reads.cells ∙ of.same ∙ ap (view_cells v) (sym number) in
-    texts_by_macros table (plan_in m v table) m (around_of (debug_data v) all) (debug_data v).base.order (view_cells v r.number) ts (macros_at 0 at_unit) 0 r.pieces refl reads.chain cells
-    ∙ ap (λ (s : FieldSource). texts_at (plan_in m v table) m s ts (macro_texts table r.pieces)) (same-source v all r.number table)
-    ∙ ap (texts_at (plan_in m v table) m (source_in v r.number table) ts) (same-macros table r.number r.pieces)
+    texts_by_macros table m (around_of (debug_data v) all) (debug_data v).base.order (view_cells v r.number) ts (macros_at 0 at_unit) 0 r.pieces refl reads.chain cells
+    ∙ ap (λ (s : FieldSource). texts_at m s ts (macro_texts table r.pieces)) (same-source v all r.number table)
+    ∙ ap (texts_at m (source_in v r.number table) ts) (same-macros table r.number r.pieces)
 
 told-by : (m : PathMap) (v : View) (all : DataReadings) (table : TextSection) (ts : List (List ℕ)) (zs : List CellSection) (rs : List MacroReading) → AllCells v zs
-    → ReadsAllMacros (debug_data v).base.order zs rs → texts_after (plan_in m v table) m ts (macro_mentions table (around_of (debug_data v) all) rs) ≡ all_texts_at m v table ts (macros_read rs)
+    → ReadsAllMacros (debug_data v).base.order zs rs → texts_after m ts (macro_mentions table (around_of (debug_data v) all) rs) ≡ all_texts_at m v table ts (macros_read rs)
 told-by m v all table ts [] [] cells reads = refl
 told-by m v all table ts [] (r ∷ rs) cells reads = absurd reads
 told-by m v all table ts (z ∷ zs) [] cells reads = absurd reads
 told-by m v all table ts (z ∷ zs) (r ∷ rs) cells reads =
-    texts_after-append (plan_in m v table) m ts (mentions_with macro_role table (around_of (debug_data v) all) r.pieces) (macro_mentions table (around_of (debug_data v) all) rs)
-    ∙ ap (λ (us : List (List ℕ)). texts_after (plan_in m v table) m us (macro_mentions table (around_of (debug_data v) all) rs)) (macro-told m v all table ts z r cells.0 reads.0 reads.1)
+    texts_after-append m ts (mentions_with macro_role table (around_of (debug_data v) all) r.pieces) (macro_mentions table (around_of (debug_data v) all) rs)
+    ∙ ap (λ (us : List (List ℕ)). texts_after m us (macro_mentions table (around_of (debug_data v) all) rs)) (macro-told m v all table ts z r cells.0 reads.0 reads.1)
     ∙ told-by m v all table (section_texts_at m v table ts (macros_with r.number (macro_starts r.pieces) (macro_texts InStr r.pieces))) zs rs cells.1 reads.2
 
 pub macros-told : (m : PathMap) (v : View) (all : DataReadings) (table : TextSection) (ts : List (List ℕ)) → ReadsAllMacros (debug_data v).base.order ((debug_data v).found Macro) all.macros
-    → texts_after (plan_in m v table) m ts (macro_mentions table (around_of (debug_data v) all) all.macros) ≡ all_texts_at m v table ts (macros_read all.macros)
+    → texts_after m ts (macro_mentions table (around_of (debug_data v) all) all.macros) ≡ all_texts_at m v table ts (macros_read all.macros)
 macros-told m v all table ts reads = told-by m v all table ts ((debug_data v).found Macro) all.macros (all-cells v) reads
 
 -- no path stands in them
@@ -153,7 +154,7 @@ macros_written c a order cells front s place (x ∷ xs) at stands chain e =
 -- the new bytes of a section are those of its edited pieces
 macro-body : (m : PathMap) (v : View) (all : DataReadings) (z : CellSection) (r : MacroReading) → CellsOf v z.number z.contents → r.number ≡ z.number
     → ReadsMacros (debug_data v).base.order z.contents r.pieces
-    → section_after m v (table_change m InStr (around_of (debug_data v) all) all).texts (table_change m InLineStr (around_of (debug_data v) all) all).texts (starts_after m v all)
+    → section_after m v (table_change m InStr (around_of (debug_data v) all) all) (table_change m InLineStr (around_of (debug_data v) all) all) (starts_after m v all)
     (macros_with r.number (macro_starts r.pieces) (macro_texts InStr r.pieces))
     ≡ bytes_of (joined (edited_with macro_role (changes_of m (around_of (debug_data v) all) all) (around_of (debug_data v) all) r.pieces))
 unfolding section_after table_change debug_data
@@ -162,30 +163,30 @@ macro-body m v all z r of number reads =
     let start : bytes_of (joined r.pieces) ≡ section_bytes v r.number = ap bytes_of cells ∙ bytes_of-view_cells v r.number in
     let s : FieldSource = start_source (around_of (debug_data v) all) (view_cells v r.number) in
     ap (λ (gs : List OffsetField). with_all_known s (starts_after m v all)
-    (patched (change_in m v InLineStr (table_change m InLineStr (around_of (debug_data v) all) all).texts) m (source_in v r.number InLineStr)
-    (patched (change_in m v InStr (table_change m InStr (around_of (debug_data v) all) all).texts) m (source_in v r.number InStr) (section_bytes v r.number) (macro_texts InStr r.pieces)) gs)
+    (patched (table_change m InLineStr (around_of (debug_data v) all) all) m (source_in v r.number InLineStr)
+    (patched (table_change m InStr (around_of (debug_data v) all) all) m (source_in v r.number InStr) (section_bytes v r.number) (macro_texts InStr r.pieces)) gs)
     (macro_starts r.pieces)) (sym (line-texts r.pieces))
     ∙ ap (λ (out : List ℕ). with_all_known s (starts_after m v all)
-    (patched (change_in m v InLineStr (table_change m InLineStr (around_of (debug_data v) all) all).texts) m (source_in v r.number InLineStr)
-    (patched (change_in m v InStr (table_change m InStr (around_of (debug_data v) all) all).texts) m (source_in v r.number InStr) out (macro_texts InStr r.pieces)) (macro_texts InLineStr r.pieces))
+    (patched (table_change m InLineStr (around_of (debug_data v) all) all) m (source_in v r.number InLineStr)
+    (patched (table_change m InStr (around_of (debug_data v) all) all) m (source_in v r.number InStr) out (macro_texts InStr r.pieces)) (macro_texts InLineStr r.pieces))
     (macro_starts r.pieces)) (sym start)
     ∙ macros_written (changes_of m (around_of (debug_data v) all) all) (around_of (debug_data v) all) (debug_data v).base.order (view_cells v r.number) [] (macros_at 0 at_unit) 0 r.pieces
     refl refl reads.chain cells
 
 all-bodies : (m : PathMap) (v : View) (all : DataReadings) (zs : List CellSection) (rs : List MacroReading) → AllCells v zs → ReadsAllMacros (debug_data v).base.order zs rs
-    → bodies_after m v (table_change m InStr (around_of (debug_data v) all) all).texts (table_change m InLineStr (around_of (debug_data v) all) all).texts (starts_after m v all) (macros_read rs)
+    → bodies_after m v (table_change m InStr (around_of (debug_data v) all) all) (table_change m InLineStr (around_of (debug_data v) all) all) (starts_after m v all) (macros_read rs)
     ≡ macro_bodies (edited_macros (changes_of m (around_of (debug_data v) all) all) (around_of (debug_data v) all) rs)
 all-bodies m v all [] [] cells reads = refl
 all-bodies m v all [] (r ∷ rs) cells reads = absurd reads
 all-bodies m v all (z ∷ zs) [] cells reads = absurd reads
 all-bodies m v all (z ∷ zs) (r ∷ rs) cells reads =
-    let ts : List (List ℕ) = (table_change m InStr (around_of (debug_data v) all) all).texts in
-    let ls : List (List ℕ) = (table_change m InLineStr (around_of (debug_data v) all) all).texts in
+    let ts : List (List ℕ) = (table_change m InStr (around_of (debug_data v) all) all) in
+    let ls : List (List ℕ) = (table_change m InLineStr (around_of (debug_data v) all) all) in
     ap (λ (bs : List ℕ). record { number = r.number; bytes = bs } ∷ bodies_after m v ts ls (starts_after m v all) (macros_read rs)) (macro-body m v all z r cells.0 reads.0 reads.1)
     ∙ ap (λ (bodies : List Body). record { number = r.number; bytes = bytes_of (joined (edited_with macro_role (changes_of m (around_of (debug_data v) all) all) (around_of (debug_data v) all) r.pieces)) } ∷ bodies)
     (all-bodies m v all zs rs cells.1 reads.2)
 
 pub macros-bodies : (m : PathMap) (v : View) (all : DataReadings) → ReadsAllMacros (debug_data v).base.order ((debug_data v).found Macro) all.macros
-    → bodies_after m v (table_change m InStr (around_of (debug_data v) all) all).texts (table_change m InLineStr (around_of (debug_data v) all) all).texts (starts_after m v all) (macros_read all.macros)
+    → bodies_after m v (table_change m InStr (around_of (debug_data v) all) all) (table_change m InLineStr (around_of (debug_data v) all) all) (starts_after m v all) (macros_read all.macros)
     ≡ macro_bodies (edited_macros (changes_of m (around_of (debug_data v) all) all) (around_of (debug_data v) all) all.macros)
 macros-bodies m v all reads = all-bodies m v all ((debug_data v).found Macro) all.macros (all-cells v) reads

@@ -11,7 +11,6 @@ use Rattle.dw_base.specs.LineTables.{LineTable}
 use Rattle.dw_base.specs.Paths.{PathMap}
 use Rattle.dw_base.specs.Pieces.{joined}
 use Rattle.dw_base.specs.StringTables.{TextTable, table_bytes}
-use Rattle.dw_base.specs.TextChanges.{TableChange}
 use Rattle.dw_base.specs.TextLineChanges.{table_by_texts, text_place}
 use Rattle.dw_base.specs.Texts.{laid_texts}
 use Rattle.dw_base.specs.ViewData.{debug_data}
@@ -29,7 +28,7 @@ use Rattle.dw_find.specs.NameSections.{names_read}
 use Rattle.dw_rewrite.specs.Changes.{FieldSource, Knows, start_known}
 use Rattle.dw_rewrite.specs.NewStarts.{StartsFit}
 use Rattle.dw_find.specs.ViewFields.{AllHaveOffsets, AllHavePlaces, AllRoomsFit, fields_of, table_number}
-use Rattle.dw_rewrite.specs.NewTables.{IsSectionNoted, TableMade, bodies_after, bodies_known, plan_in, source_in, table_body_of, texts_of}
+use Rattle.dw_rewrite.specs.NewTables.{IsSectionNoted, TableMade, bodies_after, bodies_known, source_in, table_body_of, texts_of}
 use Rattle.dw_find.specs.SlotPaths.{slots_read}
 use Rattle.dw_rewrite.specs.PushedBodies.{one_body, pushed_bodies}
 use Rattle.dw_find.specs.SectionFields.{SectionFields, paths_of}
@@ -52,44 +51,44 @@ each-parts P (x ∷ xs) ys h = let rest = each-parts P xs ys h.1 in ((h.0, rest.
 
 -- the known places make the bodies of some of the sections
 known-parts : (m : PathMap) (v : View) (us : Fields) (part : List SectionFields) (ts : List LineTable) (ps pl : TextTable) (ks kl kt : Bool → ℕ → Option ℕ) (f : PathsFound m v us ts) → TableMade m v InStr (all_of us) ps ks
-    → TableMade m v InLineStr (all_of us) pl kl → EachOf (λ u. IsSectionNoted m v InStr u ks) part → EachOf (λ u. IsSectionNoted m v InLineStr u kl) part
-    → bodies_known m v ks kl kt part ≡ bodies_after m v (table_change m InStr (around_of (debug_data v) f.readings) f.readings).texts
-    (table_change m InLineStr (around_of (debug_data v) f.readings) f.readings).texts kt part
+    → TableMade m v InLineStr (all_of us) pl kl → EachOf (λ u. IsSectionNoted v InStr u ks) part → EachOf (λ u. IsSectionNoted v InLineStr u kl) part
+    → bodies_known m v ks kl kt part ≡ bodies_after m v (table_change m InStr (around_of (debug_data v) f.readings) f.readings)
+    (table_change m InLineStr (around_of (debug_data v) f.readings) f.readings) kt part
 known-parts m v us part ts ps pl ks kl kt f s l ns nl =
     known-bodies m v ps pl ks kl kt part s.grown l.grown ns nl
     ∙ ap (λ (x : List (List ℕ)). bodies_after m v x pl.texts kt part) (made-table m v InStr us ts ps ks f s)
-    ∙ ap (λ (x : List (List ℕ)). bodies_after m v (table_change m InStr (around_of (debug_data v) f.readings) f.readings).texts x kt part) (made-table m v InLineStr us ts pl kl f l)
+    ∙ ap (λ (x : List (List ℕ)). bodies_after m v (table_change m InStr (around_of (debug_data v) f.readings) f.readings) x kt part) (made-table m v InLineStr us ts pl kl f l)
 
 -- the places of paths of line tables are known
-abbrev pub change_of_table : PathMap → View → DataReadings → TextSection → TableChange
+abbrev pub change_of_table : PathMap → View → DataReadings → TextSection → List (List ℕ)
 change_of_table m v rs table = table_change m table (around_of (debug_data v) rs) rs
 
 each-from : {X : Type 0} (P : X → Type 0) (xs : List X) → ((k : ℕ) (d : X) → k < length xs → P (get_or xs k d)) → EachOf P xs
 each-from P [] f = tt
 each-from P (x ∷ xs) f = (f 0 x (omega arith), each-from P xs (λ (k : ℕ) d (lt : k < length xs). f (suc k) d (omega arith)))
 
-noted-lines : (m : PathMap) (v : View) (table : TextSection) (i : ℕ) (ts : List LineTable) (known : Bool → ℕ → Option ℕ) → Some i ≡ section_named v (name_of Line)
-    → IsSectionNoted m v table (lines_with (line_source (debug_data v)) ts) known
-    → EachOf (NotedIn (plan_in m v table) (line_texts (line_source (debug_data v)) table) known)
+noted-lines : (v : View) (table : TextSection) (i : ℕ) (ts : List LineTable) (known : Bool → ℕ → Option ℕ) → Some i ≡ section_named v (name_of Line)
+    → IsSectionNoted v table (lines_with (line_source (debug_data v)) ts) known
+    → EachOf (NotedIn (line_texts (line_source (debug_data v)) table) known)
     (table_fields (line_source (debug_data v)).number (line_source (debug_data v)).str.number table ts)
-noted-lines m v table i ts known e noted =
-    let all : EachOf (NotedIn (plan_in m v table) (source_in v (line_source (debug_data v)).number table) known) (fields_of table (lines_with (line_source (debug_data v)) ts)) =
-    each-from (NotedIn (plan_in m v table) (source_in v (line_source (debug_data v)).number table) known) (fields_of table (lines_with (line_source (debug_data v)) ts))
+noted-lines v table i ts known e noted =
+    let all : EachOf (NotedIn (source_in v (line_source (debug_data v)).number table) known) (fields_of table (lines_with (line_source (debug_data v)) ts)) =
+    each-from (NotedIn (source_in v (line_source (debug_data v)).number table) known) (fields_of table (lines_with (line_source (debug_data v)) ts))
     (λ k d lt. noted.each k d lt lt) in
-    subst (λ (s : FieldSource). EachOf (NotedIn (plan_in m v table) s known)
+    subst (λ (s : FieldSource). EachOf (NotedIn s known)
     (table_fields (line_source (debug_data v)).number (line_source (debug_data v)).str.number table ts)) (sym (same-texts v table i e))
-    (subst (EachOf (NotedIn (plan_in m v table) (source_in v (line_source (debug_data v)).number table) known))
+    (subst (EachOf (NotedIn (source_in v (line_source (debug_data v)).number table) known))
     (sym (same-lines (line_source (debug_data v)) table ts)) all)
 
 table-knows : (m : PathMap) (v : View) (table : TextSection) (us : Fields) (ts : List LineTable) (pool : TextTable) (known : Bool → ℕ → Option ℕ) (f : PathsFound m v us ts)
     → TableMade m v table (all_of us) pool known
-    → Knows (plan_in m v table) m (texts_of v table).bytes (table_change m table (around_of (debug_data v) f.readings) f.readings).texts known
+    → Knows m (texts_of v table).bytes (table_change m table (around_of (debug_data v) f.readings) f.readings) known
 table-knows m v table us ts pool known f t =
-    subst (λ (xs : List (List ℕ)). Knows (plan_in m v table) m (texts_of v table).bytes xs known) (made-table m v table us ts pool known f t) t.grown.knows
+    subst (λ (xs : List (List ℕ)). Knows m (texts_of v table).bytes xs known) (made-table m v table us ts pool known f t) t.grown.knows
 
 lines-agree-by : (m : PathMap) (v : View) (us : Fields) (ts : List LineTable) (ps pl : TextTable) (ks kl : Bool → ℕ → Option ℕ) (f : PathsFound m v us ts) → TableMade m v InStr (all_of us) ps ks
     → TableMade m v InLineStr (all_of us) pl kl → (o : Option ℕ) → o ≡ section_named v (name_of Line)
-    → EachOf (λ u. IsSectionNoted m v InStr u ks) (lines_by o (line_source (debug_data v)) ts) → EachOf (λ u. IsSectionNoted m v InLineStr u kl) (lines_by o (line_source (debug_data v)) ts)
+    → EachOf (λ u. IsSectionNoted v InStr u ks) (lines_by o (line_source (debug_data v)) ts) → EachOf (λ u. IsSectionNoted v InLineStr u kl) (lines_by o (line_source (debug_data v)) ts)
     → TablesAgree (line_source (debug_data v)) (text_known (line_source (debug_data v)) ks kl)
     (text_place m (change_of_table m v f.readings InStr) (change_of_table m v f.readings InLineStr) (line_source (debug_data v))) f.readings.lines
 unfolding table_change
@@ -99,27 +98,27 @@ lines-agree-by m v us ts ps pl ks kl f s l None e ns nl =
 lines-agree-by m v us ts ps pl ks kl f s l (Some i) e ns nl =
     tables-agree (line_source (debug_data v)) m (change_of_table m v f.readings InStr) (change_of_table m v f.readings InLineStr) ks kl 0 (length (line_source (debug_data v)).bytes)
     f.readings.lines (lines-whole v) f.reads.lines (table-knows m v InStr us ts ps ks f s) (table-knows m v InLineStr us ts pl kl f l)
-    (subst (λ (us_ : List LineTable). EachOf (NotedIn (plan_in m v InStr) (line_texts (line_source (debug_data v)) InStr) ks)
-    (table_fields (line_source (debug_data v)).number (line_source (debug_data v)).str.number InStr us_)) f.tables (noted-lines m v InStr i ts ks e ns.0))
-    (subst (λ (us_ : List LineTable). EachOf (NotedIn (plan_in m v InLineStr) (line_texts (line_source (debug_data v)) InLineStr) kl)
-    (table_fields (line_source (debug_data v)).number (line_source (debug_data v)).str.number InLineStr us_)) f.tables (noted-lines m v InLineStr i ts kl e nl.0))
+    (subst (λ (us_ : List LineTable). EachOf (NotedIn (line_texts (line_source (debug_data v)) InStr) ks)
+    (table_fields (line_source (debug_data v)).number (line_source (debug_data v)).str.number InStr us_)) f.tables (noted-lines v InStr i ts ks e ns.0))
+    (subst (λ (us_ : List LineTable). EachOf (NotedIn (line_texts (line_source (debug_data v)) InLineStr) kl)
+    (table_fields (line_source (debug_data v)).number (line_source (debug_data v)).str.number InLineStr us_)) f.tables (noted-lines v InLineStr i ts kl e nl.0))
 
 -- what is noted of all sections
-pub record NotedParts (m : PathMap) (v : View) (table : TextSection) (rs : DataReadings) (ts : List LineTable) (known : Bool → ℕ → Option ℕ) : Type 0 where
-  pub units : EachOf (λ u. IsSectionNoted m v table u known) (paths_of rs.units)
-  pub slots : EachOf (λ u. IsSectionNoted m v table u known) (slots_read v rs)
-  pub macros : EachOf (λ u. IsSectionNoted m v table u known) (macros_read rs.macros)
-  pub lines : EachOf (λ u. IsSectionNoted m v table u known) (lines_of_view v ts)
-  pub names : EachOf (λ u. IsSectionNoted m v table u known) (names_read v rs)
+pub record NotedParts (v : View) (table : TextSection) (rs : DataReadings) (ts : List LineTable) (known : Bool → ℕ → Option ℕ) : Type 0 where
+  pub units : EachOf (λ u. IsSectionNoted v table u known) (paths_of rs.units)
+  pub slots : EachOf (λ u. IsSectionNoted v table u known) (slots_read v rs)
+  pub macros : EachOf (λ u. IsSectionNoted v table u known) (macros_read rs.macros)
+  pub lines : EachOf (λ u. IsSectionNoted v table u known) (lines_of_view v ts)
+  pub names : EachOf (λ u. IsSectionNoted v table u known) (names_read v rs)
 
 pub noted-parts : (m : PathMap) (v : View) (table : TextSection) (us : Fields) (ts : List LineTable) (pool : TextTable) (known : Bool → ℕ → Option ℕ) (f : PathsFound m v us ts)
-    → TableMade m v table (all_of us) pool known → NotedParts m v table f.readings ts known
+    → TableMade m v table (all_of us) pool known → NotedParts v table f.readings ts known
 noted-parts m v table us ts pool known f t =
-    let all = each-parts (λ u. IsSectionNoted m v table u known) (paths_of f.readings.units) (slots_read v f.readings ++ (lines_of_view v ts ++ (macros_read f.readings.macros ++ names_read v f.readings)))
-    (subst (λ (x : Fields). EachOf (λ u. IsSectionNoted m v table u known) (all_of x)) f.is (made-noted m v table (all_of us) pool known t)) in
-    let behind = each-parts (λ u. IsSectionNoted m v table u known) (slots_read v f.readings) (lines_of_view v ts ++ (macros_read f.readings.macros ++ names_read v f.readings)) all.1 in
-    let rest = each-parts (λ u. IsSectionNoted m v table u known) (lines_of_view v ts) (macros_read f.readings.macros ++ names_read v f.readings) behind.1 in
-    let last = each-parts (λ u. IsSectionNoted m v table u known) (macros_read f.readings.macros) (names_read v f.readings) rest.1 in
+    let all = each-parts (λ u. IsSectionNoted v table u known) (paths_of f.readings.units) (slots_read v f.readings ++ (lines_of_view v ts ++ (macros_read f.readings.macros ++ names_read v f.readings)))
+    (subst (λ (x : Fields). EachOf (λ u. IsSectionNoted v table u known) (all_of x)) f.is (made-noted m v table (all_of us) pool known t)) in
+    let behind = each-parts (λ u. IsSectionNoted v table u known) (slots_read v f.readings) (lines_of_view v ts ++ (macros_read f.readings.macros ++ names_read v f.readings)) all.1 in
+    let rest = each-parts (λ u. IsSectionNoted v table u known) (lines_of_view v ts) (macros_read f.readings.macros ++ names_read v f.readings) behind.1 in
+    let last = each-parts (λ u. IsSectionNoted v table u known) (macros_read f.readings.macros) (names_read v f.readings) rest.1 in
     record { units = all.0; slots = behind.0; macros = last.0; lines = rest.0; names = last.1 }
 
 pub lines-agree : (m : PathMap) (v : View) (us : Fields) (ts : List LineTable) (ps pl : TextTable) (ks kl : Bool → ℕ → Option ℕ) (f : PathsFound m v us ts) → TableMade m v InStr (all_of us) ps ks
@@ -179,8 +178,8 @@ pub made-is : (m : PathMap) (v : View) (us : Fields) (ts : List LineTable) (ps p
 unfolding new_bodies table_change
 made-is m v us ts ps pl ks kl bs ns f s l w =
     let kt : Bool → ℕ → Option ℕ = start_known (starts_of ts) ns in
-    let text_s : List (List ℕ) = (table_change m InStr (around_of (debug_data v) f.readings) f.readings).texts in
-    let text_l : List (List ℕ) = (table_change m InLineStr (around_of (debug_data v) f.readings) f.readings).texts in
+    let text_s : List (List ℕ) = (table_change m InStr (around_of (debug_data v) f.readings) f.readings) in
+    let text_l : List (List ℕ) = (table_change m InLineStr (around_of (debug_data v) f.readings) f.readings) in
     let a = noted-parts m v InStr us ts ps ks f s in
     let b = noted-parts m v InLineStr us ts pl kl f l in
     let starts = known-starts m v us ts ps pl ks kl bs ns f s l w in
@@ -190,8 +189,8 @@ made-is m v us ts ps pl ks kl bs ns f s l w =
     let units : bodies_known m v ks kl (start_known (starts_of ts) ns) (paths_of f.readings.units)
     ≡ unit_bodies (changes_of m (around_of (debug_data v) f.readings) f.readings) (around_of (debug_data v) f.readings) f.readings.units =
     known-parts m v us (paths_of f.readings.units) ts ps pl ks kl (start_known (starts_of ts) ns) f s l a.units b.units
-    ∙ ap (λ (k : Bool → ℕ → Option ℕ). bodies_after m v (table_change m InStr (around_of (debug_data v) f.readings) f.readings).texts
-    (table_change m InLineStr (around_of (debug_data v) f.readings) f.readings).texts k (paths_of f.readings.units)) starts
+    ∙ ap (λ (k : Bool → ℕ → Option ℕ). bodies_after m v (table_change m InStr (around_of (debug_data v) f.readings) f.readings)
+    (table_change m InLineStr (around_of (debug_data v) f.readings) f.readings) k (paths_of f.readings.units)) starts
     ∙ readings-bodies m v f.readings [] ((debug_data v).found Info) 0 f.readings.units refl f.reads.units f.inline in
     let slots : one_body (bodies_known m v ks kl (start_known (starts_of ts) ns) (slots_read v f.readings))
     ≡ cells_body ((debug_data v).found StrOffsets).number (joined (offsets_after (changes_of m (around_of (debug_data v) f.readings) f.readings) (around_of (debug_data v) f.readings) f.readings)) ∷ [] =
@@ -204,8 +203,8 @@ made-is m v us ts ps pl ks kl bs ns f s l w =
     let macros : bodies_known m v ks kl (start_known (starts_of ts) ns) (macros_read f.readings.macros)
     ≡ macro_bodies (macros_after (changes_of m (around_of (debug_data v) f.readings) f.readings) (around_of (debug_data v) f.readings) f.readings) =
     known-parts m v us (macros_read f.readings.macros) ts ps pl ks kl (start_known (starts_of ts) ns) f s l a.macros b.macros
-    ∙ ap (λ (k : Bool → ℕ → Option ℕ). bodies_after m v (table_change m InStr (around_of (debug_data v) f.readings) f.readings).texts
-    (table_change m InLineStr (around_of (debug_data v) f.readings) f.readings).texts k (macros_read f.readings.macros)) starts
+    ∙ ap (λ (k : Bool → ℕ → Option ℕ). bodies_after m v (table_change m InStr (around_of (debug_data v) f.readings) f.readings)
+    (table_change m InLineStr (around_of (debug_data v) f.readings) f.readings) k (macros_read f.readings.macros)) starts
     ∙ macros-bodies m v f.readings f.reads.macros in
     let rest : pushed_bodies m v ks kl (start_known (starts_of ts) ns) (record { number = ((debug_data v).found Line).number; bytes = bs }) us
     ≡ cells_body ((debug_data v).found StrOffsets).number (joined (offsets_after (changes_of m (around_of (debug_data v) f.readings) f.readings) (around_of (debug_data v) f.readings) f.readings))

@@ -9,7 +9,7 @@ use Rattle.dw_base.specs.NamePieces.{FitsNames, IsTableFront, NameMode, NameStat
 use Rattle.dw_base.specs.Paths.{PathMap}
 use Rattle.dw_base.specs.Pieces.{Piece, joined}
 use Rattle.dw_base.specs.SectionTexts.{edited_with, mentions_with, name_role, name_role_by}
-use Rattle.dw_base.specs.StringTables.{Plan, texts_after}
+use Rattle.dw_base.specs.StringTables.{texts_after}
 use Rattle.dw_base.specs.TextChanges.{TableChanges, edited_by, InlineFitsBy}
 use Rattle.dw_base.specs.ViewData.{cells_located, debug_data}
 use Rattle.dw_base.specs.declared.debug_sections.DebugSection.TheVariants.{Names}
@@ -28,7 +28,7 @@ use Rattle.dw_find.specs.ViewFields.{fields_of}
 use Rattle.dw_find.specs.declared.fields.InlinePath.{InlinePath}
 use Rattle.dw_find.proofs.NameHaveLaws.{NamesPlaced, line-names, names-from, names-in, names-of, no-start}
 use Rattle.dw_rewrite.specs.Changes.{FieldSource, patched, texts_at}
-use Rattle.dw_rewrite.specs.NewTables.{all_texts_at, bodies_after, change_in, plan_in, section_after, source_in}
+use Rattle.dw_rewrite.specs.NewTables.{all_texts_at, bodies_after, section_after, source_in}
 use Rattle.dw_rewrite.specs.PushedBodies.{one_body}
 use Rattle.dw_rewrite.specs.UnitsAfter.{text_source}
 use Rattle.dw_rewrite.proofs.EditedLaws.{piece_texts}
@@ -46,13 +46,13 @@ no-names order (x ∷ xs) r =
     absurd (omega (arith, front.header, whole, size))
 
 -- the texts of pieces are those of their fields
-texts_by_names : (table : TextSection) (plan : Plan) (m : PathMap) (around : Around) (cells : List Cell) (ts : List (List ℕ)) (place : ℕ) (xs : List (Piece NameState))
-    → NamesPlaced cells place xs → texts_after plan m ts (mentions_with name_role table around xs) ≡ texts_at plan m (text_source around cells table) ts (names_texts table xs)
-texts_by_names table plan m around cells ts place [] l = refl
-texts_by_names table plan m around cells ts place (x ∷ xs) l =
-    piece_texts (name_role x.state) table plan m around cells ts x.cells (joined xs) place (mentions_with name_role table around xs) (names_texts table xs)
-    l.1 (λ (us : List (List ℕ)). texts_by_names table plan m around cells us (place + length x.cells) xs l.2)
-    ∙ ap (λ (i : ℕ). texts_at plan m (text_source around cells table) ts (field_by table (name_role x.state) i (length x.cells) ++ names_texts table xs)) (sym l.0)
+texts_by_names : (table : TextSection) (m : PathMap) (around : Around) (cells : List Cell) (ts : List (List ℕ)) (place : ℕ) (xs : List (Piece NameState))
+    → NamesPlaced cells place xs → texts_after m ts (mentions_with name_role table around xs) ≡ texts_at m (text_source around cells table) ts (names_texts table xs)
+texts_by_names table m around cells ts place [] l = refl
+texts_by_names table m around cells ts place (x ∷ xs) l =
+    piece_texts (name_role x.state) table m around cells ts x.cells (joined xs) place (mentions_with name_role table around xs) (names_texts table xs)
+    l.1 (λ (us : List (List ℕ)). texts_by_names table m around cells us (place + length x.cells) xs l.2)
+    ∙ ap (λ (i : ℕ). texts_at m (text_source around cells table) ts (field_by table (name_role x.state) i (length x.cells) ++ names_texts table xs)) (sym l.0)
 
 -- so the new texts of the section are those of its fields
 same-names : (table : TextSection) (i : ℕ) (xs : List (Piece NameState)) → names_texts table xs ≡ fields_of table (slots_with i (names_texts InStr xs))
@@ -60,16 +60,16 @@ same-names InStr i xs = refl
 same-names InLineStr i xs = line-names xs
 
 told-by : (m : PathMap) (v : View) (rs : DataReadings) (table : TextSection) (ts : List (List ℕ)) (o : Option ℕ) → ReadsNames v.order (cells_located v o).contents rs.names
-    → texts_after (plan_in m v table) m ts (mentions_with name_role table (around_of (debug_data v) rs) rs.names) ≡ all_texts_at m v table ts (slots_by o (names_texts InStr rs.names))
+    → texts_after m ts (mentions_with name_role table (around_of (debug_data v) rs) rs.names) ≡ all_texts_at m v table ts (slots_by o (names_texts InStr rs.names))
 told-by m v rs table ts None r =
-    ap (λ (xs : List (Piece NameState)). texts_after (plan_in m v table) m ts (mentions_with name_role table (around_of (debug_data v) rs) xs)) (no-names v.order rs.names r)
+    ap (λ (xs : List (Piece NameState)). texts_after m ts (mentions_with name_role table (around_of (debug_data v) rs) xs)) (no-names v.order rs.names r)
 told-by m v rs table ts (Some i) r =
-    texts_by_names table (plan_in m v table) m (around_of (debug_data v) rs) (view_cells v i) ts 0 rs.names (names-in v (Some i) rs.names r)
-    ∙ ap (λ (s : FieldSource). texts_at (plan_in m v table) m s ts (names_texts table rs.names)) (same-source v rs i table)
-    ∙ ap (texts_at (plan_in m v table) m (source_in v i table) ts) (same-names table i rs.names)
+    texts_by_names table m (around_of (debug_data v) rs) (view_cells v i) ts 0 rs.names (names-in v (Some i) rs.names r)
+    ∙ ap (λ (s : FieldSource). texts_at m s ts (names_texts table rs.names)) (same-source v rs i table)
+    ∙ ap (texts_at m (source_in v i table) ts) (same-names table i rs.names)
 
 pub names-told : (m : PathMap) (v : View) (rs : DataReadings) (table : TextSection) (ts : List (List ℕ)) → ReadsNames (debug_data v).base.order ((debug_data v).found Names).contents rs.names
-    → texts_after (plan_in m v table) m ts (mentions_with name_role table (around_of (debug_data v) rs) rs.names) ≡ all_texts_at m v table ts (names_read v rs)
+    → texts_after m ts (mentions_with name_role table (around_of (debug_data v) rs) rs.names) ≡ all_texts_at m v table ts (names_read v rs)
 names-told m v rs table ts r = told-by m v rs table ts (section_named v (name_of Names)) (names-of v rs.names r)
 
 -- no path stands in them
@@ -116,7 +116,7 @@ names_written c a cells front place (x ∷ xs) at l =
 
 -- the new bytes of the section are those of its edited pieces
 names-body-by : (m : PathMap) (v : View) (rs : DataReadings) (kt : Bool → ℕ → Option ℕ) (o : Option ℕ) → ReadsNames v.order (cells_located v o).contents rs.names
-    → one_body (bodies_after m v (table_change m InStr (around_of (debug_data v) rs) rs).texts (table_change m InLineStr (around_of (debug_data v) rs) rs).texts kt (slots_by o (names_texts InStr rs.names)))
+    → one_body (bodies_after m v (table_change m InStr (around_of (debug_data v) rs) rs) (table_change m InLineStr (around_of (debug_data v) rs) rs) kt (slots_by o (names_texts InStr rs.names)))
     ≡ cells_body (cells_located v o).number (joined (names_after (changes_of m (around_of (debug_data v) rs) rs) (around_of (debug_data v) rs) rs)) ∷ []
 unfolding section_after table_change debug_data
 names-body-by m v rs kt None r =
@@ -128,16 +128,16 @@ names-body-by m v rs kt (Some i) r =
     let own : bytes_of (view_cells v i) ≡ section_bytes v i = bytes_of-view_cells v i in
     let start : bytes_of (joined rs.names) ≡ section_bytes v i = ap bytes_of r.cells ∙ own in
     ap (λ (bs : List ℕ). record { number = i; bytes = bs } ∷ [])
-    (ap (λ (gs : List OffsetField). patched (change_in m v InLineStr (table_change m InLineStr (around_of (debug_data v) rs) rs).texts) m (source_in v i InLineStr)
-    (patched (change_in m v InStr (table_change m InStr (around_of (debug_data v) rs) rs).texts) m (source_in v i InStr) (section_bytes v i) (names_texts InStr rs.names)) gs)
+    (ap (λ (gs : List OffsetField). patched (table_change m InLineStr (around_of (debug_data v) rs) rs) m (source_in v i InLineStr)
+    (patched (table_change m InStr (around_of (debug_data v) rs) rs) m (source_in v i InStr) (section_bytes v i) (names_texts InStr rs.names)) gs)
     (sym (line-names rs.names))
-    ∙ ap (λ (out : List ℕ). patched (change_in m v InLineStr (table_change m InLineStr (around_of (debug_data v) rs) rs).texts) m (source_in v i InLineStr)
-    (patched (change_in m v InStr (table_change m InStr (around_of (debug_data v) rs) rs).texts) m (source_in v i InStr) out (names_texts InStr rs.names)) (names_texts InLineStr rs.names))
+    ∙ ap (λ (out : List ℕ). patched (table_change m InLineStr (around_of (debug_data v) rs) rs) m (source_in v i InLineStr)
+    (patched (table_change m InStr (around_of (debug_data v) rs) rs) m (source_in v i InStr) out (names_texts InStr rs.names)) (names_texts InLineStr rs.names))
     (sym start)
     ∙ names_written (changes_of m (around_of (debug_data v) rs) rs) (around_of (debug_data v) rs) (view_cells v i) [] 0 rs.names refl (names-in v (Some i) rs.names r))
 
 pub names-body : (m : PathMap) (v : View) (rs : DataReadings) (kt : Bool → ℕ → Option ℕ) → ReadsNames (debug_data v).base.order ((debug_data v).found Names).contents rs.names
-    → one_body (bodies_after m v (table_change m InStr (around_of (debug_data v) rs) rs).texts (table_change m InLineStr (around_of (debug_data v) rs) rs).texts kt (names_read v rs))
+    → one_body (bodies_after m v (table_change m InStr (around_of (debug_data v) rs) rs) (table_change m InLineStr (around_of (debug_data v) rs) rs) kt (names_read v rs))
     ≡ cells_body ((debug_data v).found Names).number (joined (names_after (changes_of m (around_of (debug_data v) rs) rs) (around_of (debug_data v) rs) rs)) ∷ []
 unfolding debug_data
 names-body m v rs kt r = names-body-by m v rs kt (section_named v (name_of Names)) (names-of v rs.names r)

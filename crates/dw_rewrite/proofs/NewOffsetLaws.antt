@@ -1,8 +1,8 @@
 -- The places of new texts, one more at a time.
-use Rattle.std.proofs.Common.{Bool, true, false, ◌≡◌, ◌≢◌, ◌⊎◌, inl, inr, ℕ, ◌+◌, ◌==◌, List, [], ◌∷◌, ◌++◌, length, Option, Some, None, is_some, if◌then◌else◌, sym, ap, ◌∙◌, refl, subst}
+use Rattle.std.proofs.Common.{Bool, true, false, ◌≡◌, ◌≢◌, ◌⊎◌, inl, inr, ℕ, ◌+◌, ◌==◌, List, [], ◌∷◌, ◌++◌, length, Option, Some, None, is_some, if◌then◌else◌, sym, ap, ◌∙◌, refl, subst, arith}
 use Rattle.std.proofs.lemmas.Bool.{eq-eqb, eqb-true, true≢false}
 use Rattle.dw_base.specs.Paths.{PathMap, mapped_path}
-use Rattle.dw_base.specs.StringTables.{TextTable, new_text, place_in, rebuilding, text_place, with_added, with_mention, with_text}
+use Rattle.dw_base.specs.StringTables.{TextTable, new_text, place_in, text_place, with_added, with_mention, with_text}
 use Rattle.dw_base.specs.Texts.{is_in}
 use Rattle.dw_base.proofs.TextLaws.{is_in-with_text, is_in-with_text_kept, place_in-with_text}
 use Rattle.dw_lines.specs.NewTexts.{AddsPlace}
@@ -46,16 +46,16 @@ some_is None h = absurd cc
 some_is (Some x) h = (x, refl)
 
 -- a text whose place is known is there
-pub met_before : (m : PathMap) (table : List ℕ) (ts : List (List ℕ)) (known : Bool → ℕ → Option ℕ) (path : Bool) (offset : ℕ) → Knows rebuilding m table ts known
-    → is_some (known path offset) ≡ true → with_mention rebuilding m ts (mention_as path table offset) ≡ ts
+pub met_before : (m : PathMap) (table : List ℕ) (ts : List (List ℕ)) (known : Bool → ℕ → Option ℕ) (path : Bool) (offset : ℕ) → Knows m table ts known
+    → is_some (known path offset) ≡ true → with_mention m ts (mention_as path table offset) ≡ ts
 met_before m table ts known path offset knows some =
     let v = some_is (known path offset) some in
-    let place : KnownPlace rebuilding m table ts path offset v.0 = knows.each path offset v.0 v.1 in
+    let place : KnownPlace m table ts path offset v.0 = knows.each path offset v.0 v.1 in
     ap (λ (b : Bool). if b then ts else ts ++ new_text m (mention_as path table offset) ∷ []) place.there
 
 -- and is noted
-pub noted_before : (table : List ℕ) (known : Bool → ℕ → Option ℕ) (path : Bool) (offset : ℕ) → is_some (known path offset) ≡ true → IsNoted rebuilding table known path offset
-noted_before table known path offset some = record { noted = λ asks. some }
+pub noted_before : (known : Bool → ℕ → Option ℕ) (path : Bool) (offset : ℕ) → is_some (known path offset) ≡ true → IsNoted known path offset
+noted_before known path offset some = record { noted = some }
 
 -- nothing was forgotten
 pub remembers_all : (known : Bool → ℕ → Option ℕ) → Remembers known known
@@ -63,7 +63,7 @@ remembers_all known = record { each = λ (path : Bool) (o : ℕ) h. h }
 
 -- one text more
 pub asked : (m : PathMap) (table : List ℕ) (ts : List (List ℕ)) (path : Bool) (offset : ℕ)
-    → with_text ts (new_text m (mention_as path table offset)) ≡ with_mention rebuilding m ts (mention_as path table offset)
+    → with_text ts (new_text m (mention_as path table offset)) ≡ with_mention m ts (mention_as path table offset)
 asked m table ts path offset = refl
 
 -- a flag is another or not
@@ -74,9 +74,9 @@ flag-cases true false = inr (λ e. true≢false e)
 flag-cases false true = inr (λ e. true≢false (sym e))
 
 -- one place more
-pub knows_more : (m : PathMap) (table : List ℕ) (ts : List (List ℕ)) (old new : Bool → ℕ → Option ℕ) (path : Bool) (offset : ℕ) → Knows rebuilding m table ts old
+pub knows_more : (m : PathMap) (table : List ℕ) (ts : List (List ℕ)) (old new : Bool → ℕ → Option ℕ) (path : Bool) (offset : ℕ) → Knows m table ts old
     → AddsPlace old new path offset (place_after (record { kept = []; texts = ts }) (new_text m (mention_as path table offset)))
-    → Knows rebuilding m table (with_text ts (new_text m (mention_as path table offset))) new
+    → Knows m table (with_text ts (new_text m (mention_as path table offset))) new
 knows_more m table ts old new path offset knows adds = record { each = λ (p : Bool) (o q : ℕ) is. by_flag p o q is (flag-cases p path) }
   where
     text : List ℕ
@@ -85,54 +85,54 @@ knows_more m table ts old new path offset knows adds = record { each = λ (p : B
     place : ℕ
     place = place_after (record { kept = []; texts = ts }) (new_text m (mention_as path table offset))
 
-    kept : (p : Bool) (o q : ℕ) → old p o ≡ Some q → KnownPlace rebuilding m table (with_text ts (new_text m (mention_as path table offset))) p o q
+    kept : (p : Bool) (o q : ℕ) → old p o ≡ Some q → KnownPlace m table (with_text ts (new_text m (mention_as path table offset))) p o q
     kept p o q before =
-        let k : KnownPlace rebuilding m table ts p o q = knows.each p o q before in
+        let k : KnownPlace m table ts p o q = knows.each p o q before in
         record {
-          asks = refl;
           there = is_in-with_text_kept ts text (new_text m (mention_as p table o)) k.there;
-          place_is = k.place_is ∙ ap (λ (n : ℕ). length {A = ℕ} [] + n) (sym (place_in-with_text ts text (new_text m (mention_as p table o)) k.there));
+          place_is = k.place_is ∙ sym (place_in-with_text ts text (new_text m (mention_as p table o)) k.there);
         }
 
     by_offset : (o q : ℕ) → new path o ≡ Some q → (same : Bool) → (o == offset) ≡ same
-        → KnownPlace rebuilding m table (with_text ts (new_text m (mention_as path table offset))) path o q
+        → KnownPlace m table (with_text ts (new_text m (mention_as path table offset))) path o q
     by_offset o q is true test =
         let both : Some place ≡ Some q = sym (adds.here.each o ∙ ap (λ (b : Bool). if b then Some place else old path o) test) ∙ is in
         let q_is : q ≡ place = cc in
-        subst (λ (z : ℕ). KnownPlace rebuilding m table (with_text ts (new_text m (mention_as path table offset))) path z q) (sym (eqb-true o offset test))
-        (record { asks = refl; there = is_in-with_text ts text; place_is = q_is })
+        let plain : place ≡ place_in (with_text ts text) text = omega arith in
+        subst (λ (z : ℕ). KnownPlace m table (with_text ts (new_text m (mention_as path table offset))) path z q) (sym (eqb-true o offset test))
+        (record { there = is_in-with_text ts text; place_is = q_is ∙ plain })
     by_offset o q is false test = kept path o q (sym (adds.here.each o ∙ ap (λ (b : Bool). if b then Some place else old path o) test) ∙ is)
 
     by_flag : (p : Bool) (o q : ℕ) → new p o ≡ Some q → (p ≡ path) ⊎ (p ≢ path)
-        → KnownPlace rebuilding m table (with_text ts (new_text m (mention_as path table offset))) p o q
+        → KnownPlace m table (with_text ts (new_text m (mention_as path table offset))) p o q
     by_flag p o q is (inl same) =
-        subst (λ (b : Bool). KnownPlace rebuilding m table (with_text ts (new_text m (mention_as path table offset))) b o q) (sym same)
+        subst (λ (b : Bool). KnownPlace m table (with_text ts (new_text m (mention_as path table offset))) b o q) (sym same)
         (by_offset o q (ap (λ (b : Bool). new b o) (sym same) ∙ is) (o == offset) refl)
     by_flag p o q is (inr other) = kept p o q (sym (adds.others p o other) ∙ is)
 
 -- one place more, in a table that grew
 pub knows_added : (m : PathMap) (table : List ℕ) (first grown : TextTable) (old new : Bool → ℕ → Option ℕ) (path : Bool) (offset : ℕ) → first.kept ≡ []
-    → Knows rebuilding m table first.texts old → grown ≡ with_added first (new_text m (mention_as path table offset))
-    → AddsPlace old new path offset (place_after first (new_text m (mention_as path table offset))) → Knows rebuilding m table grown.texts new
+    → Knows m table first.texts old → grown ≡ with_added first (new_text m (mention_as path table offset))
+    → AddsPlace old new path offset (place_after first (new_text m (mention_as path table offset))) → Knows m table grown.texts new
 knows_added m table first grown old new path offset kept knows is adds =
     let t : List ℕ = new_text m (mention_as path table offset) in
     let here : place_after first t ≡ place_after (record { kept = []; texts = first.texts }) t =
     ap (λ (k : List ℕ). length k + place_in (with_text first.texts t) t) kept in
-    let more : Knows rebuilding m table (with_text first.texts t) new = knows_more m table first.texts old new path offset knows (subst (AddsPlace old new path offset) here adds) in
-    subst (λ (g : TextTable). Knows rebuilding m table g.texts new) (sym is) more
+    let more : Knows m table (with_text first.texts t) new = knows_more m table first.texts old new path offset knows (subst (AddsPlace old new path offset) here adds) in
+    subst (λ (g : TextTable). Knows m table g.texts new) (sym is) more
 
 -- the same where the table and the offset have other names
 pub knows_there : (m : PathMap) (table here : List ℕ) (first grown : TextTable) (old new : Bool → ℕ → Option ℕ) (path : Bool) (offset : ℕ) → here ≡ table → first.kept ≡ []
-    → Knows rebuilding m table first.texts old → grown ≡ with_added first (new_text m (mention_as path here offset))
-    → AddsPlace old new path offset (place_after first (new_text m (mention_as path here offset))) → Knows rebuilding m table grown.texts new
+    → Knows m table first.texts old → grown ≡ with_added first (new_text m (mention_as path here offset))
+    → AddsPlace old new path offset (place_after first (new_text m (mention_as path here offset))) → Knows m table grown.texts new
 knows_there m table here first grown old new path offset same kept knows is adds =
-    subst (λ (t : List ℕ). Knows rebuilding m t grown.texts new) same
-    (knows_added m here first grown old new path offset kept (subst (λ (t : List ℕ). Knows rebuilding m t first.texts old) (sym same) knows) is adds)
+    subst (λ (t : List ℕ). Knows m t grown.texts new) same
+    (knows_added m here first grown old new path offset kept (subst (λ (t : List ℕ). Knows m t first.texts old) (sym same) knows) is adds)
 
 -- which is noted
-pub noted_more : (table : List ℕ) (old new : Bool → ℕ → Option ℕ) (path : Bool) (offset place : ℕ) → AddsPlace old new path offset place → IsNoted rebuilding table new path offset
-noted_more table old new path offset place adds = record {
-  noted = λ asks. ap is_some (adds.here.each offset ∙ ap (λ (b : Bool). if b then Some place else old path offset) (eq-eqb offset offset refl));
+pub noted_more : (old new : Bool → ℕ → Option ℕ) (path : Bool) (offset place : ℕ) → AddsPlace old new path offset place → IsNoted new path offset
+noted_more old new path offset place adds = record {
+  noted = ap is_some (adds.here.each offset ∙ ap (λ (b : Bool). if b then Some place else old path offset) (eq-eqb offset offset refl));
 }
 
 -- and nothing is forgotten

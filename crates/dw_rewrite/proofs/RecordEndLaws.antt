@@ -89,12 +89,12 @@ found-parts m v us ts f =
 
 -- what is noted of them
 parts-noted : (m : PathMap) (v : View) (table : TextSection) (us : Fields) (ts : List LineTable) (pool : TextTable) (known : Bool → ℕ → Option ℕ) (f : PathsFound m v us ts)
-    → TableMade m v table (all_of us) pool known → EachOf (λ u. IsSectionNoted m v table u known) (parts_of v f.readings)
+    → TableMade m v table (all_of us) pool known → EachOf (λ u. IsSectionNoted v table u known) (parts_of v f.readings)
 parts-noted m v table us ts pool known f t =
     let noted = noted-parts m v table us ts pool known f t in
-    each-append (λ u. IsSectionNoted m v table u known) ((paths_of f.readings.units ++ slots_read v f.readings) ++ macros_read f.readings.macros) (names_read v f.readings)
-    (each-append (λ u. IsSectionNoted m v table u known) (paths_of f.readings.units ++ slots_read v f.readings) (macros_read f.readings.macros)
-    (each-append (λ u. IsSectionNoted m v table u known) (paths_of f.readings.units) (slots_read v f.readings) noted.units noted.slots) noted.macros) noted.names
+    each-append (λ u. IsSectionNoted v table u known) ((paths_of f.readings.units ++ slots_read v f.readings) ++ macros_read f.readings.macros) (names_read v f.readings)
+    (each-append (λ u. IsSectionNoted v table u known) (paths_of f.readings.units ++ slots_read v f.readings) (macros_read f.readings.macros)
+    (each-append (λ u. IsSectionNoted v table u known) (paths_of f.readings.units) (slots_read v f.readings) noted.units noted.slots) noted.macros) noted.names
 
 -- the sections of relocations are those of the output
 pub records-held : (m : PathMap) (b : List ℕ) (us : Fields) (ts : List LineTable) (ps pl : TextTable) (ks kl kt : Bool → ℕ → Option ℕ) (f : PathsFound m (view_of b) us ts)

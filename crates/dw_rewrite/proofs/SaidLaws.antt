@@ -8,8 +8,7 @@ use Rattle.dw_base.specs.InlinePaths.{mapped_inline}
 use Rattle.dw_base.specs.LineReadings.{starts_from}
 use Rattle.dw_base.specs.NewOffsets.{with_offset}
 use Rattle.dw_base.specs.Roles.{Role, fixed, offset, inline_path, line_start}
-use Rattle.dw_base.specs.StringTables.{new_place}
-use Rattle.dw_base.specs.TextChanges.{TableChanges, change_of, edited_by, mention_at, moved_start}
+use Rattle.dw_base.specs.TextChanges.{TableChanges, change_of, edited_by, moved_start}
 use Rattle.dw_base.specs.Texts.{text}
 use Rattle.dw_base.specs.declared.debug_sections.DebugSection.TheVariants.{Str, LineStr, Line}
 use Rattle.dw_base.specs.declared.shared.Order.{Order}
@@ -164,15 +163,6 @@ edited-text : (table : TextSection) (path : Bool) (c : TableChanges) (a : Around
 edited-text table path c a cells p behind place e =
     ap (λ (q : List Cell). by_new a.lasting.base.order p (asked (change_of c table) c.map (table_of a table).bytes path (offset_of a.lasting.base.order (table_of a table) q)))
     (piece-there p behind cells place e)
-    ∙ by ((change_of c table).plan.asks (mention_at a table path p))
-  where
-    n : ℕ
-    n = new_place (change_of c table).plan c.map (change_of c table).texts (mention_at a table path p)
-
-    by : (b : Bool) → by_new a.lasting.base.order p (if b then Some (new_place (change_of c table).plan c.map (change_of c table).texts (mention_at a table path p)) else None)
-        ≡ (if b then with_offset a.lasting.base.order p (new_place (change_of c table).plan c.map (change_of c table).texts (mention_at a table path p)) else p)
-    by true = refl
-    by false = refl
 
 edited-start : (c : TableChanges) (a : Around) (cells p behind : List Cell) (place : ℕ) → p ++ behind ≡ drop place cells
     → by_new a.lasting.base.order p (start_known (a.stands Line).starts (starts_from 0 (c.new Line)) false (offset_at (start_source a cells) (record { at = place; size = length p; path = false })))

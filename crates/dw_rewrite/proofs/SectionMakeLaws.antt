@@ -16,7 +16,7 @@ use Rattle.dw_base.specs.Readings.{EachReading, Reading, Readings}
 use Rattle.dw_base.specs.Refusals.{at}
 use Rattle.dw_base.specs.Roles.{role_of}
 use Rattle.dw_base.specs.SectionTexts.{macro_role, name_role, slot_role}
-use Rattle.dw_base.specs.StringTables.{Plan, TextTable}
+use Rattle.dw_base.specs.StringTables.{TextTable}
 use Rattle.dw_base.specs.TextChanges.{TableChanges}
 use Rattle.dw_base.specs.UnitHeaders.{UnitSection}
 use Rattle.dw_base.specs.UnitPieces.{ReadsUnits}
@@ -46,7 +46,7 @@ use Rattle.dw_find.proofs.SectionFactLaws.{own-section}
 use Rattle.dw_find.proofs.SlotPlaceLaws.{line-fields}
 use Rattle.dw_rewrite.specs.Changes.{AreNoted, FieldSource, Knows, offset_at}
 use Rattle.dw_rewrite.specs.NewOffsets.{asked}
-use Rattle.dw_rewrite.specs.NewTables.{Growing, IsSectionNoted, plan_in, source_in, starts_in}
+use Rattle.dw_rewrite.specs.NewTables.{Growing, IsSectionNoted, source_in, starts_in}
 use Rattle.dw_rewrite.specs.OffsetAddends.{AllMake, AllMiss, FieldMakes, FieldMisses, FieldsMake, SectionMakes, SectionMisses}
 use Rattle.dw_rewrite.specs.OffsetAddends.AllMiss.{one_section}
 use Rattle.dw_rewrite.specs.OffsetAddends.SectionMisses.{in_str_field, in_line_str_field, in_start_field}
@@ -64,13 +64,13 @@ abbrev pub SameKnown : FieldSource → (Bool → ℕ → Option ℕ) → (Bool �
 SameKnown s k j [] = ⊤
 SameKnown s k j (f ∷ fs) = (k f.path (offset_at s f) ≡ j f.path (offset_at s f)) × SameKnown s k j fs
 
-same-asked : (plan : Plan) (m : PathMap) (s : FieldSource) (ts : List (List ℕ)) (fields : List OffsetField) (known : Bool → ℕ → Option ℕ) → Knows plan m s.table.bytes ts known
-    → AreNoted plan s fields (length fields) known → SameKnown s known (asked (record { plan = plan; texts = ts }) m s.table.bytes) fields
-same-asked plan m s ts [] known knows noted = tt
-same-asked plan m s ts (f ∷ fs) known knows noted =
-    let rest : AreNoted plan s fs (length fs) known =
+same-asked : (m : PathMap) (s : FieldSource) (ts : List (List ℕ)) (fields : List OffsetField) (known : Bool → ℕ → Option ℕ) → Knows m s.table.bytes ts known
+    → AreNoted s fields (length fields) known → SameKnown s known (asked ts m s.table.bytes) fields
+same-asked m s ts [] known knows noted = tt
+same-asked m s ts (f ∷ fs) known knows noted =
+    let rest : AreNoted s fs (length fs) known =
     record { each = λ (k : ℕ) (d : OffsetField) (lt : k < length fs) (within : k < length fs). noted.each (suc k) d (omega arith) (omega arith) } in
-    (known-asked plan m s.table.bytes ts known f.path (offset_at s f) knows (noted.each 0 f (omega arith) (omega arith)), same-asked plan m s ts fs known knows rest)
+    (known-asked m s.table.bytes ts known f.path (offset_at s f) knows (noted.each 0 f (omega arith) (omega arith)), same-asked m s ts fs known knows rest)
 
 makes-same : (s : FieldSource) (k j : Bool → ℕ → Option ℕ) (fs : List OffsetField) → SameKnown s k j fs → FieldsMake s k fs → FieldsMake s j fs
 makes-same s k j [] same h = tt
@@ -130,36 +130,36 @@ places-parts v (u ∷ us) ws h = let rest = places-parts v us ws h.1 in ((h.0, r
 
 -- what is known of new places is what paths ask for
 section-known : (m : PathMap) (v : View) (ps pl : TextTable) (ks kl kt : Bool → ℕ → Option ℕ) (u : SectionFields) → Growing m v InStr ps ks → Growing m v InLineStr pl kl
-    → IsSectionNoted m v InStr u ks → IsSectionNoted m v InLineStr u kl → SectionMakes v ks kl kt u
+    → IsSectionNoted v InStr u ks → IsSectionNoted v InLineStr u kl → SectionMakes v ks kl kt u
     → SectionMakes v (asked_in m v InStr ps.texts) (asked_in m v InLineStr pl.texts) kt u
 section-known m v ps pl ks kl kt u gs gl ns nl h = record {
   str = makes-same (source_in v u.number InStr) ks (asked_in m v InStr ps.texts) (fields_into u Str)
-      (same-asked (plan_in m v InStr) m (source_in v u.number InStr) ps.texts (fields_into u Str) ks gs.knows ns) h.str;
+      (same-asked m (source_in v u.number InStr) ps.texts (fields_into u Str) ks gs.knows ns) h.str;
   line_str = makes-same (source_in v u.number InLineStr) kl (asked_in m v InLineStr pl.texts) (fields_into u LineStr)
-      (same-asked (plan_in m v InLineStr) m (source_in v u.number InLineStr) pl.texts (fields_into u LineStr) kl gl.knows nl) h.line_str;
+      (same-asked m (source_in v u.number InLineStr) pl.texts (fields_into u LineStr) kl gl.knows nl) h.line_str;
   starts = h.starts;
 }
 
 field-known : (m : PathMap) (v : View) (ps pl : TextTable) (ks kl kt : Bool → ℕ → Option ℕ) (u : SectionFields) (r : Refusal) → Growing m v InStr ps ks → Growing m v InLineStr pl kl
-    → IsSectionNoted m v InStr u ks → IsSectionNoted m v InLineStr u kl → AnyField v ks kl kt u r
+    → IsSectionNoted v InStr u ks → IsSectionNoted v InLineStr u kl → AnyField v ks kl kt u r
     → AnyField v (asked_in m v InStr ps.texts) (asked_in m v InLineStr pl.texts) kt u r
 field-known m v ps pl ks kl kt u r gs gl ns nl (inl h) =
     inl (any-same (source_in v u.number InStr) ks (asked_in m v InStr ps.texts) u.number (fields_into u Str) r
-    (same-asked (plan_in m v InStr) m (source_in v u.number InStr) ps.texts (fields_into u Str) ks gs.knows ns) h)
+    (same-asked m (source_in v u.number InStr) ps.texts (fields_into u Str) ks gs.knows ns) h)
 field-known m v ps pl ks kl kt u r gs gl ns nl (inr (inl h)) =
     inr (inl (any-same (source_in v u.number InLineStr) kl (asked_in m v InLineStr pl.texts) u.number (fields_into u LineStr) r
-    (same-asked (plan_in m v InLineStr) m (source_in v u.number InLineStr) pl.texts (fields_into u LineStr) kl gl.knows nl) h))
+    (same-asked m (source_in v u.number InLineStr) pl.texts (fields_into u LineStr) kl gl.knows nl) h))
 field-known m v ps pl ks kl kt u r gs gl ns nl (inr (inr h)) = inr (inr h)
 
 pub all-known : (m : PathMap) (v : View) (ps pl : TextTable) (ks kl kt : Bool → ℕ → Option ℕ) (us : List SectionFields) → Growing m v InStr ps ks → Growing m v InLineStr pl kl
-    → EachOf (λ u. IsSectionNoted m v InStr u ks) us → EachOf (λ u. IsSectionNoted m v InLineStr u kl) us → AllMake v ks kl kt us
+    → EachOf (λ u. IsSectionNoted v InStr u ks) us → EachOf (λ u. IsSectionNoted v InLineStr u kl) us → AllMake v ks kl kt us
     → AllMake v (asked_in m v InStr ps.texts) (asked_in m v InLineStr pl.texts) kt us
 all-known m v ps pl ks kl kt [] gs gl ns nl h = tt
 all-known m v ps pl ks kl kt (u ∷ us) gs gl ns nl h =
     (section-known m v ps pl ks kl kt u gs gl ns.0 nl.0 h.0, all-known m v ps pl ks kl kt us gs gl ns.1 nl.1 h.1)
 
 pub any-known : (m : PathMap) (v : View) (ps pl : TextTable) (ks kl kt : Bool → ℕ → Option ℕ) (us : List SectionFields) (r : Refusal) → Growing m v InStr ps ks → Growing m v InLineStr pl kl
-    → EachOf (λ u. IsSectionNoted m v InStr u ks) us → EachOf (λ u. IsSectionNoted m v InLineStr u kl) us → AnySection v ks kl kt us r
+    → EachOf (λ u. IsSectionNoted v InStr u ks) us → EachOf (λ u. IsSectionNoted v InLineStr u kl) us → AnySection v ks kl kt us r
     → AnySection v (asked_in m v InStr ps.texts) (asked_in m v InLineStr pl.texts) kt us r
 any-known m v ps pl ks kl kt [] r gs gl ns nl h = absurd h
 any-known m v ps pl ks kl kt (u ∷ us) r gs gl ns nl (inl h) = inl (field-known m v ps pl ks kl kt u r gs gl ns.0 nl.0 h)
@@ -167,10 +167,10 @@ any-known m v ps pl ks kl kt (u ∷ us) r gs gl ns nl (inr h) = inr (any-known m
 
 -- what paths ask for in an edit
 abbrev pub str_after : PathMap → View → DataReadings → Bool → ℕ → Option ℕ
-str_after m v all = asked_in m v InStr (table_change m InStr (around_of (debug_data v) all) all).texts
+str_after m v all = asked_in m v InStr (table_change m InStr (around_of (debug_data v) all) all)
 
 abbrev pub line_str_after : PathMap → View → DataReadings → Bool → ℕ → Option ℕ
-line_str_after m v all = asked_in m v InLineStr (table_change m InLineStr (around_of (debug_data v) all) all).texts
+line_str_after m v all = asked_in m v InLineStr (table_change m InLineStr (around_of (debug_data v) all) all)
 
 abbrev pub edit_of : PathMap → View → DataReadings → TableChanges
 edit_of m v all = changes_of m (around_of (debug_data v) all) all

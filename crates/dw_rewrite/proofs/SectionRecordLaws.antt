@@ -47,8 +47,8 @@ use Rattle.dw_rewrite.proofs.SaidLaws.{Sized}
 -- the offsets that a section says
 abbrev pub told_in : PathMap → View → DataReadings → SectionFields → List Patch
 told_in m v all u =
-    offsets_in v (asked_in m v InStr (table_change m InStr (around_of (debug_data v) all) all).texts)
-    (asked_in m v InLineStr (table_change m InLineStr (around_of (debug_data v) all) all).texts) (starts_after m v all) u
+    offsets_in v (asked_in m v InStr (table_change m InStr (around_of (debug_data v) all) all))
+    (asked_in m v InLineStr (table_change m InLineStr (around_of (debug_data v) all) all)) (starts_after m v all) u
 
 -- relocations of a section of a view are read from a source
 pub record IsReadFrom (v : View) (i : ℕ) (g : RelocationSource) (bytes : List ℕ) : Type 0 where

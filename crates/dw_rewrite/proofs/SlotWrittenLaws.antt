@@ -8,7 +8,7 @@ use Rattle.dw_base.specs.Paths.{PathMap}
 use Rattle.dw_base.specs.Pieces.{Piece, joined}
 use Rattle.dw_base.specs.Roles.{Role}
 use Rattle.dw_base.specs.SectionTexts.{edited_with, mentions_with, offset_role, slot_role}
-use Rattle.dw_base.specs.StringTables.{Plan, texts_after}
+use Rattle.dw_base.specs.StringTables.{texts_after}
 use Rattle.dw_base.specs.TextChanges.{TableChanges, edited_by, InlineFitsBy}
 use Rattle.dw_base.specs.declared.shared.Order.{Order}
 use Rattle.dw_base.proofs.UnitEditLaws.{length-bytes_of}
@@ -36,13 +36,13 @@ no-offsets order (x ∷ xs) r =
     absurd (omega (arith, header.size, whole, size))
 
 -- the texts of pieces are those of their fields
-pub texts_by_slots : (table : TextSection) (plan : Plan) (m : PathMap) (around : Around) (cells : List Cell) (ts : List (List ℕ)) (place : ℕ) (paths : List ℕ) (xs : List (Piece OffsetState))
-    → SlotsIn cells place xs → texts_after plan m ts (mentions_with (slot_role paths) table around xs) ≡ texts_at plan m (text_source around cells table) ts (offset_fields table paths xs)
-texts_by_slots table plan m around cells ts place paths [] l = refl
-texts_by_slots table plan m around cells ts place paths (x ∷ xs) l =
-    piece_texts (slot_role paths x.state) table plan m around cells ts x.cells (joined xs) place (mentions_with (slot_role paths) table around xs) (offset_fields table paths xs)
-    l.1 (λ (us : List (List ℕ)). texts_by_slots table plan m around cells us (place + length x.cells) paths xs l.2)
-    ∙ ap (λ (i : ℕ). texts_at plan m (text_source around cells table) ts (field_by table (slot_role paths x.state) i (length x.cells) ++ offset_fields table paths xs)) (sym l.0)
+pub texts_by_slots : (table : TextSection) (m : PathMap) (around : Around) (cells : List Cell) (ts : List (List ℕ)) (place : ℕ) (paths : List ℕ) (xs : List (Piece OffsetState))
+    → SlotsIn cells place xs → texts_after m ts (mentions_with (slot_role paths) table around xs) ≡ texts_at m (text_source around cells table) ts (offset_fields table paths xs)
+texts_by_slots table m around cells ts place paths [] l = refl
+texts_by_slots table m around cells ts place paths (x ∷ xs) l =
+    piece_texts (slot_role paths x.state) table m around cells ts x.cells (joined xs) place (mentions_with (slot_role paths) table around xs) (offset_fields table paths xs)
+    l.1 (λ (us : List (List ℕ)). texts_by_slots table m around cells us (place + length x.cells) paths xs l.2)
+    ∙ ap (λ (i : ℕ). texts_at m (text_source around cells table) ts (field_by table (slot_role paths x.state) i (length x.cells) ++ offset_fields table paths xs)) (sym l.0)
 
 -- and none a path
 no-inline : (paths : List ℕ) (m : OffsetMode) (n place : ℕ) (p : List Cell) → inline_by (offset_role paths m n) place p ≡ []

@@ -1,5 +1,5 @@
 -- New offsets in the fields of a unit section, and its paths mapped in their rooms, make the bytes of its edited pieces.
-use Rattle.std.proofs.Common.{Bool, true, false, ◌≡◌, ℕ, ◌+◌, List, [], ◌∷◌, ◌++◌, length, drop, get_or, cond, Option, Some, None, sym, ap, ◌∙◌, refl, arith, append_assoc}
+use Rattle.std.proofs.Common.{Bool, false, ◌≡◌, ℕ, ◌+◌, List, [], ◌∷◌, ◌++◌, length, drop, get_or, Option, Some, None, sym, ap, ◌∙◌, refl, arith, append_assoc}
 use Rattle.std.proofs.lemmas.List.{length-append}
 use Rattle.dw_base.specs.Cells.{Cell, bytes_of}
 use Rattle.dw_base.specs.DebugData.{Around, line_table}
@@ -8,11 +8,9 @@ use Rattle.dw_base.specs.InlinePaths.{mapped_inline}
 use Rattle.dw_base.specs.Pieces.{Piece, joined, EachPiece}
 use Rattle.dw_base.specs.Roles.{Role, fixed, offset, inline_path, line_start, role_of}
 use Rattle.dw_base.specs.StringTables.{new_place}
-use Rattle.dw_base.specs.NewOffsets.{with_offset}
 use Rattle.dw_base.specs.TextChanges.{TableChanges, mention_at, moved_start, change_of, edited_by, edited_all, InlineFitsBy, InlineFits}
 use Rattle.dw_base.specs.Texts.{text}
 use Rattle.dw_base.specs.UnitStates.{UnitState}
-use Rattle.dw_base.specs.declared.shared.Order.{Order}
 use Rattle.dw_base.proofs.OffsetPutLaws.{length-with_bytes}
 use Rattle.dw_meaning.proofs.FieldPutLaws.{length-put}
 use Rattle.dw_base.proofs.UnitEditLaws.{length-bytes_of}
@@ -30,15 +28,10 @@ use Rattle.dw_find.proofs.PieceFieldLaws.{FieldsFrom, from-place, from-starts}
 use Rattle.dw_find.proofs.InlineTextLaws.{text-front, text-length}
 
 -- an edited piece is as long
-length-asked : (asks : Bool) (o : Order) (p : List Cell) (x : ℕ) → length (cond asks (with_offset o p x) p) ≡ length p
-length-asked true o p x = length-put o p x
-length-asked false o p x = refl
-
 pub length-edited : (r : Role) (changes : TableChanges) (around : Around) (p : List Cell) → length (edited_by r changes around p) ≡ length p
 length-edited fixed changes around p = refl
 length-edited (offset table path) changes around p =
-    length-asked ((change_of changes table).plan.asks (mention_at around table path p)) around.lasting.base.order p
-    (new_place (change_of changes table).plan changes.map (change_of changes table).texts (mention_at around table path p))
+    length-put around.lasting.base.order p (new_place changes.map (change_of changes table) (mention_at around table path p))
 length-edited line_start changes around p = by_number (line_table around p)
   where
     by_number : (o : Option ℕ) → length (moved_start (starts_from 0 (changes.new Line)) around.lasting.base.order o p) ≡ length p

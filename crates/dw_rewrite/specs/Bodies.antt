@@ -12,8 +12,7 @@ use Rattle.dw_base.specs.TextWriteFails.{TextWriteFails}
 use Rattle.dw_base.specs.Paths.{PathMap}
 use Rattle.dw_base.specs.Refusals.{at}
 use Rattle.dw_base.specs.SectionRelocations.{relocation_section}
-use Rattle.dw_base.specs.StringTables.{new_table}
-use Rattle.dw_base.specs.TextChanges.{TableChange}
+use Rattle.dw_base.specs.Texts.{laid_texts}
 use Rattle.dw_base.specs.declared.debug_sections.DebugSection.TheVariants.{Str, LineStr, Line}
 use Rattle.dw_base.specs.declared.fault.Kind.TheVariants.{TooLarge}
 use Rattle.dw_base.specs.declared.fault.Refusal.{Refusal}
@@ -62,9 +61,7 @@ pub record FileBodiesMade (m : PathMap) (b : List ℕ) (bodies : List Body) : Ty
 
 -- the new bytes of a table of texts
 abbrev pub long_table : PathMap → DebugData → DataReadings → TextSection → List ℕ
-long_table m d r table =
-    let change : TableChange = table_change m table (around_of d r) r in
-    new_table change.plan change.texts
+long_table m d r table = laid_texts (table_change m table (around_of d r) r)
 
 -- why there are no new bytes: a table of texts or the line tables, of a section that is there, would be too long, a line table can't be
 -- written, or the addend of a relocation doesn't make the new offset of its field

@@ -1,12 +1,11 @@
 -- What becomes of the bytes of a unit section and of a table of texts, by the fields that hold the offsets of texts into it.
-use Rattle.std.specs.Prelude.{Bool, true, ◌≡◌, ◌⊎◌, ℕ, ◌+◌, ◌<◌, ◌≤◌, List, length, get_or, [], ◌∷◌, if◌then◌else◌, Option, Some, None, is_some, ◌++◌, ⊤, take, drop}
+use Rattle.std.specs.Prelude.{Bool, true, ◌≡◌, ◌⊎◌, ℕ, ◌+◌, ◌<◌, ◌≤◌, List, length, get_or, [], ◌∷◌, Option, Some, None, is_some, ◌++◌, ⊤, take, drop}
 use Rattle.dw_base.specs.Cells.{Cell, Located, bytes_of, cells_at, offset_of}
 use Rattle.dw_base.specs.DebugData.{start_number}
 use Rattle.dw_base.specs.NewOffsets.{with_offset}
 use Rattle.dw_base.specs.Numbers.{number_bytes}
 use Rattle.dw_base.specs.Paths.{PathMap}
-use Rattle.dw_base.specs.StringTables.{Mention, Plan, TextTable, with_mention, with_text, place_in, new_place, new_text}
-use Rattle.dw_base.specs.TextChanges.{TableChange}
+use Rattle.dw_base.specs.StringTables.{Mention, TextTable, with_mention, with_text, place_in, new_place, new_text}
 use Rattle.dw_base.specs.Texts.{text_in, is_in}
 use Rattle.dw_base.specs.declared.shared.Order.{Order}
 use Rattle.dw_offsets.specs.declared.fields.OffsetField.{OffsetField}
@@ -48,34 +47,31 @@ abbrev pub field_mention : FieldSource → OffsetField → Mention
 field_mention s f = mention_as f.path s.table.bytes (offset_at s f)
 
 -- the new texts after the mentions of these fields
-abbrev pub texts_at : Plan → PathMap → FieldSource → List (List ℕ) → List OffsetField → List (List ℕ)
-texts_at plan m s ts [] = ts
-texts_at plan m s ts (f ∷ fs) = texts_at plan m s (with_mention plan m ts (field_mention s f)) fs
+abbrev pub texts_at : PathMap → FieldSource → List (List ℕ) → List OffsetField → List (List ℕ)
+texts_at m s ts [] = ts
+texts_at m s ts (f ∷ fs) = texts_at m s (with_mention m ts (field_mention s f)) fs
 
--- the bytes with a new offset in a field, where its mention asks for one
-abbrev pub patched_at : TableChange → PathMap → FieldSource → List ℕ → OffsetField → List ℕ
-patched_at change m s out f =
-    if change.plan.asks (field_mention s f)
-    then put_at out f.at f.size (offset_bytes s f (new_place change.plan m change.texts (field_mention s f))) else out
+-- the bytes with the new offset of its mention in a field, where these are the new texts
+abbrev pub patched_at : List (List ℕ) → PathMap → FieldSource → List ℕ → OffsetField → List ℕ
+patched_at texts m s out f = put_at out f.at f.size (offset_bytes s f (new_place m texts (field_mention s f)))
 
 -- the bytes with new offsets in these fields
-abbrev pub patched : TableChange → PathMap → FieldSource → List ℕ → List OffsetField → List ℕ
-patched change m s out [] = out
-patched change m s out (f ∷ fs) = patched change m s (patched_at change m s out f) fs
+abbrev pub patched : List (List ℕ) → PathMap → FieldSource → List ℕ → List OffsetField → List ℕ
+patched texts m s out [] = out
+patched texts m s out (f ∷ fs) = patched texts m s (patched_at texts m s out f) fs
 
--- the text at an offset, as a path or not, asks for a new place, and this is it
-pub record KnownPlace (plan : Plan) (m : PathMap) (table : List ℕ) (ts : List (List ℕ)) (path : Bool) (offset place : ℕ) : Type 0 where
-  pub asks : plan.asks (mention_as path table offset) ≡ true
+-- the new text of the one at an offset, as a path or not, is among the new texts, and this is its place
+pub record KnownPlace (m : PathMap) (table : List ℕ) (ts : List (List ℕ)) (path : Bool) (offset place : ℕ) : Type 0 where
   pub there : is_in ts (new_text m (mention_as path table offset)) ≡ true
-  pub place_is : place ≡ new_place plan m ts (mention_as path table offset)
+  pub place_is : place ≡ new_place m ts (mention_as path table offset)
 
 -- the places that are known, of paths and of other texts by their offsets, are those of the new texts
-pub record Knows (plan : Plan) (m : PathMap) (table : List ℕ) (ts : List (List ℕ)) (known : Bool → ℕ → Option ℕ) : Type 0 where
-  pub each : (path : Bool) (offset place : ℕ) → known path offset ≡ Some place → KnownPlace plan m table ts path offset place
+pub record Knows (m : PathMap) (table : List ℕ) (ts : List (List ℕ)) (known : Bool → ℕ → Option ℕ) : Type 0 where
+  pub each : (path : Bool) (offset place : ℕ) → known path offset ≡ Some place → KnownPlace m table ts path offset place
 
--- the new place of the text at an offset is known, as a path or not, if it asks for one
-pub record IsNoted (plan : Plan) (table : List ℕ) (known : Bool → ℕ → Option ℕ) (path : Bool) (offset : ℕ) : Type 0 where
-  pub noted : plan.asks (mention_as path table offset) ≡ true → is_some (known path offset) ≡ true
+-- the new place of the text at an offset is known, as a path or not
+pub record IsNoted (known : Bool → ℕ → Option ℕ) (path : Bool) (offset : ℕ) : Type 0 where
+  pub noted : is_some (known path offset) ≡ true
 
 -- what was known is known
 pub record Remembers (old new : Bool → ℕ → Option ℕ) : Type 0 where
@@ -105,8 +101,8 @@ abbrev pub start_known : List ℕ → List ℕ → Bool → ℕ → Option ℕ
 start_known olds news path n = new_start news (start_number 0 olds n)
 
 -- the new places of the texts of these fields are noted
-pub record AreNoted (plan : Plan) (s : FieldSource) (fields : List OffsetField) (count : ℕ) (known : Bool → ℕ → Option ℕ) : Type 0 where
-  pub each : (k : ℕ) (d : OffsetField) → k < count → k < length fields → IsNoted plan s.table.bytes known (get_or fields k d).path (offset_at s (get_or fields k d))
+pub record AreNoted (s : FieldSource) (fields : List OffsetField) (count : ℕ) (known : Bool → ℕ → Option ℕ) : Type 0 where
+  pub each : (k : ℕ) (d : OffsetField) → k < count → k < length fields → IsNoted known (get_or fields k d).path (offset_at s (get_or fields k d))
 
 -- a patch puts into a field the number with which it says another offset
 pub record Says (s : FieldSource) (f : OffsetField) (new : ℕ) (p : Patch) : Type 0 where

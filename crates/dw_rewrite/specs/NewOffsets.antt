@@ -1,15 +1,15 @@
--- The offsets that the fields of a section say when a file is edited: those of paths that ask for a new place, and of line tables; and the
+-- The offsets that the fields of a section say when a file is edited: those of texts, by their new places, and of line tables; and the
 -- sections that hold relocations of such sections.
 use Rattle.std.specs.Prelude.{Bool, ◌≡◌, ◌≢◌, ℕ, ◌<◌, List, [], ◌∷◌, ◌++◌, Option, Some, None, ⊤}
 use Rattle.dw_base.specs.Cells.{Cell}
 use Rattle.dw_base.specs.DebugData.{Around}
 use Rattle.dw_base.specs.Elf.{contents_of, section_count}
 use Rattle.dw_base.specs.FileViews.{View}
-use Rattle.dw_base.specs.LineChanges.{asked_place}
 use Rattle.dw_base.specs.LineReadings.{starts_from}
 use Rattle.dw_base.specs.Paths.{PathMap}
 use Rattle.dw_base.specs.SectionRelocations.{relocation_section, relocation_source}
-use Rattle.dw_base.specs.TextChanges.{TableChange, TableChanges}
+use Rattle.dw_base.specs.StringTables.{new_place}
+use Rattle.dw_base.specs.TextChanges.{TableChanges}
 use Rattle.dw_base.specs.declared.debug_sections.DebugSection.TheVariants.{Str, LineStr, Line}
 use Rattle.dw_offsets.specs.declared.fields.OffsetField.{OffsetField}
 use Rattle.dw_base.specs.declared.texts.TextSection.TheVariants.{InStr, InLineStr}
@@ -31,9 +31,9 @@ abbrev pub offsets_known : FieldSource → (Bool → ℕ → Option ℕ) → Lis
 offsets_known s known [] = []
 offsets_known s known (f ∷ fs) = offset_by f (known f.path (offset_at s f)) ++ offsets_known s known fs
 
--- the new place of the text at an offset of a table, as a path or not, where it asks for one
-abbrev pub asked : TableChange → PathMap → List ℕ → Bool → ℕ → Option ℕ
-asked change m table path offset = asked_place change m (mention_as path table offset)
+-- the new place of the text at an offset of a table, as a path or not
+abbrev pub asked : List (List ℕ) → PathMap → List ℕ → Bool → ℕ → Option ℕ
+asked texts m table path offset = Some (new_place m texts (mention_as path table offset))
 
 -- the offsets that the fields of a section's paths and line tables say
 abbrev pub offsets_after : TableChanges → Around → List Cell → List OffsetField → List OffsetField → List OffsetField → List Patch

@@ -7,8 +7,7 @@ use Rattle.dw_base.specs.FileViews.{View, view_cells}
 use Rattle.dw_base.specs.Layout.{output_limit}
 use Rattle.dw_base.specs.Paths.{PathMap}
 use Rattle.dw_base.specs.Refusals.{at}
-use Rattle.dw_base.specs.StringTables.{Plan, TextTable, rebuilding, table_bytes}
-use Rattle.dw_base.specs.TextChanges.{TableChange}
+use Rattle.dw_base.specs.StringTables.{TextTable, table_bytes}
 use Rattle.dw_base.specs.ViewData.{debug_data, located}
 use Rattle.dw_base.specs.declared.debug_sections.DebugSection.{DebugSection}
 use Rattle.dw_base.specs.declared.debug_sections.DebugSection.TheVariants.{Str, LineStr, Line}
@@ -26,10 +25,6 @@ use Rattle.dw_find.specs.ViewFields.{fields_of, info_of, table_number, texts_in}
 -- a table of texts of a view
 abbrev pub texts_of : View → TextSection → Located
 texts_of v table = texts_in (debug_data v) table
-
--- each is built anew
-abbrev pub plan_in : PathMap → View → TextSection → Plan
-plan_in m v table = rebuilding
 
 -- where the fields of the section of a number hold offsets into a table of texts, and into the line tables
 abbrev pub source_in : View → ℕ → TextSection → FieldSource
@@ -50,58 +45,54 @@ source_into v section s = record { order = v.order; cells = view_cells v section
 
 -- the new texts of a table after the paths of a section, and of sections
 abbrev pub section_texts_at : PathMap → View → TextSection → List (List ℕ) → SectionFields → List (List ℕ)
-section_texts_at m v table ts u = texts_at (plan_in m v table) m (source_in v u.number table) ts (fields_of table u)
+section_texts_at m v table ts u = texts_at m (source_in v u.number table) ts (fields_of table u)
 
 abbrev pub all_texts_at : PathMap → View → TextSection → List (List ℕ) → List SectionFields → List (List ℕ)
 all_texts_at m v table ts [] = ts
 all_texts_at m v table ts (u ∷ us) = all_texts_at m v table (section_texts_at m v table ts u) us
 
 -- the new places of the paths of a section are noted, and of so many sections
-abbrev pub IsSectionNoted : PathMap → View → TextSection → SectionFields → (Bool → ℕ → Option ℕ) → Type 0
-IsSectionNoted m v table u known = AreNoted (plan_in m v table) (source_in v u.number table) (fields_of table u) (length (fields_of table u)) known
+abbrev pub IsSectionNoted : View → TextSection → SectionFields → (Bool → ℕ → Option ℕ) → Type 0
+IsSectionNoted v table u known = AreNoted (source_in v u.number table) (fields_of table u) (length (fields_of table u)) known
 
-pub record AllNoted (m : PathMap) (v : View) (table : TextSection) (us : List SectionFields) (count : ℕ) (known : Bool → ℕ → Option ℕ) : Type 0 where
-  pub each : (k : ℕ) (d : SectionFields) → k < count → k < length us → IsSectionNoted m v table (get_or us k d) known
+pub record AllNoted (v : View) (table : TextSection) (us : List SectionFields) (count : ℕ) (known : Bool → ℕ → Option ℕ) : Type 0 where
+  pub each : (k : ℕ) (d : SectionFields) → k < count → k < length us → IsSectionNoted v table (get_or us k d) known
 
 -- a table that is built anew, with the new places of texts that are known
 pub record Growing (m : PathMap) (v : View) (table : TextSection) (pool : TextTable) (known : Bool → ℕ → Option ℕ) : Type 0 where
   pub kept : pool.kept ≡ []
   pub small : length (table_bytes pool) ≤ output_limit
-  pub knows : Knows (plan_in m v table) m (texts_of v table).bytes pool.texts known
+  pub knows : Knows m (texts_of v table).bytes pool.texts known
 
 -- it has grown by the paths of a section
 pub record GrownBy (m : PathMap) (v : View) (table : TextSection) (u : SectionFields) (old new : TextTable) (was known : Bool → ℕ → Option ℕ) : Type 0 where
   pub grown : Growing m v table new known
   pub texts : new.texts ≡ section_texts_at m v table old.texts u
-  pub noted : IsSectionNoted m v table u known
+  pub noted : IsSectionNoted v table u known
   pub remembers : Remembers was known
 
 -- by those of sections
 pub record GrownByAll (m : PathMap) (v : View) (table : TextSection) (us : List SectionFields) (old new : TextTable) (was known : Bool → ℕ → Option ℕ) : Type 0 where
   pub grown : Growing m v table new known
   pub texts : new.texts ≡ all_texts_at m v table old.texts us
-  pub noted : AllNoted m v table us (length us) known
+  pub noted : AllNoted v table us (length us) known
   pub remembers : Remembers was known
 
 -- and by those of all
 pub record TableMade (m : PathMap) (v : View) (table : TextSection) (us : List SectionFields) (pool : TextTable) (known : Bool → ℕ → Option ℕ) : Type 0 where
   pub grown : Growing m v table pool known
   pub texts : pool.texts ≡ all_texts_at m v table [] us
-  pub noted : AllNoted m v table us (length us) known
+  pub noted : AllNoted v table us (length us) known
 
 -- the table of these texts
-abbrev pub table_with : View → TextSection → List (List ℕ) → TextTable
-table_with v table ts = record { kept = []; texts = ts }
-
--- what becomes of a table
-abbrev pub change_in : PathMap → View → TextSection → List (List ℕ) → TableChange
-change_in m v table ts = record { plan = plan_in m v table; texts = ts }
+abbrev pub table_with : List (List ℕ) → TextTable
+table_with ts = record { kept = []; texts = ts }
 
 -- the new bytes of a section, where these are the new texts of the two tables, and the new starts of line tables by their old ones
 unfoldable pub section_after : PathMap → View → List (List ℕ) → List (List ℕ) → (Bool → ℕ → Option ℕ) → SectionFields → List ℕ
 section_after m v ts ls kt u =
-    let with_str = patched (change_in m v InStr ts) m (source_in v u.number InStr) (info_of v u) (fields_into u Str) in
-    let with_both = patched (change_in m v InLineStr ls) m (source_in v u.number InLineStr) with_str (fields_into u LineStr) in
+    let with_str = patched ts m (source_in v u.number InStr) (info_of v u) (fields_into u Str) in
+    let with_both = patched ls m (source_in v u.number InLineStr) with_str (fields_into u LineStr) in
     inlined m (info_of v u) (with_all_known (starts_in v u.number) kt with_both (fields_into u Line)) u.inline
 
 abbrev pub body_after : PathMap → View → List (List ℕ) → List (List ℕ) → (Bool → ℕ → Option ℕ) → SectionFields → Body
@@ -118,7 +109,7 @@ fault_at (Refused r) section = Refused (at r.kind section r.offset)
 
 -- a table of texts, of a section that is there, would be longer than a file that is written
 pub data LongTable (m : PathMap) (v : View) (table : TextSection) (us : List SectionFields) : Refusal → Type 0 where
-  long_table : table_number (debug_data v) table ≢ 0 → output_limit < length (table_bytes (table_with v table (all_texts_at m v table [] us)))
+  long_table : table_number (debug_data v) table ≢ 0 → output_limit < length (table_bytes (table_with (all_texts_at m v table [] us)))
       → LongTable m v table us (at TooLarge (table_number (debug_data v) table) 0)
 
 -- one of the two would be

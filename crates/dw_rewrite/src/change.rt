@@ -7,7 +7,7 @@ ghost use Rattle.std.specs.Prelude.{[], ◌≡◌, ◌⊎◌, ◌+◌, ◌≤◌
 ghost use Rattle.dw_base.specs.Layout.{output_limit};
 ghost use Rattle.dw_base.specs.LayoutFails.{TooLong};
 ghost use Rattle.dw_base.specs.Refusals.{Blames};
-ghost use Rattle.dw_base.specs.StringTables.{rebuilding, table_bytes};
+ghost use Rattle.dw_base.specs.StringTables.{table_bytes};
 ghost use Rattle.dw_base.specs.declared.fault.Fault.TheVariants.{NoMemory};
 ghost use Rattle.dw_patch.specs.Patching.{IsFree};
 ghost use Rattle.dw_find.specs.Fields.{AllApart, AreOffsetFields};
@@ -38,14 +38,14 @@ pub(crate) fn note_fields<'t>(
     requires texts { AreOffsetFields source.now.order source.now.table source.now.cells fields.now }
     requires kept { pool.old.kept ≡ [] }
     requires small { length (table_bytes pool.old) ≤ output_limit }
-    requires knows { Knows rebuilding maps.now source.now.table.bytes pool.old.texts (known_by known.old) }
+    requires knows { Knows maps.now source.now.table.bytes pool.old.texts (known_by known.old) }
     ensures kept { OnOk result (pool.new.kept ≡ []) }
-    ensures texts { OnOk result (pool.new.texts ≡ texts_at rebuilding maps.now source.now pool.old.texts fields.now) }
+    ensures texts { OnOk result (pool.new.texts ≡ texts_at maps.now source.now pool.old.texts fields.now) }
     ensures small { OnOk result (length (table_bytes pool.new) ≤ output_limit) }
-    ensures knows { OnOk result (Knows rebuilding maps.now source.now.table.bytes pool.new.texts (known_by known.new)) }
-    ensures noted { OnOk result (AreNoted rebuilding source.now fields.now (length fields.now) (known_by known.new)) }
+    ensures knows { OnOk result (Knows maps.now source.now.table.bytes pool.new.texts (known_by known.new)) }
+    ensures noted { OnOk result (AreNoted source.now fields.now (length fields.now) (known_by known.new)) }
     ensures remembers { OnOk result (Remembers (known_by known.old) (known_by known.new)) }
-    ensures refused { IfErr result (Blames (TooLong (length (table_bytes (record { kept = []; texts = texts_at rebuilding maps.now source.now pool.old.texts fields.now }))))) }
+    ensures refused { IfErr result (Blames (TooLong (length (table_bytes (record { kept = []; texts = texts_at maps.now source.now pool.old.texts fields.now }))))) }
 {
     for at in fields {
         note_field(alloc, source, maps, *at, pool, known)?;

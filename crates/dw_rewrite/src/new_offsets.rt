@@ -8,7 +8,7 @@ ghost use Rattle.dw_base.specs.Layout.{output_limit};
 ghost use Rattle.dw_base.specs.LayoutFails.{TooLong};
 ghost use Rattle.dw_base.specs.Paths.{mapped_path};
 ghost use Rattle.dw_base.specs.Refusals.{Blames};
-ghost use Rattle.dw_base.specs.StringTables.{new_text, rebuilding, table_bytes, with_added, with_mention};
+ghost use Rattle.dw_base.specs.StringTables.{new_text, table_bytes, with_added, with_mention};
 ghost use Rattle.dw_base.specs.Texts.{ends_in, text_in};
 ghost use Rattle.dw_lines.specs.NewTexts.{AddsPlace, known_by};
 ghost use Rattle.dw_rewrite.specs.Changes.{IsNoted, Knows, Remembers, field_mention, mention_as, offset_at, place_after};
@@ -36,14 +36,14 @@ pub(crate) fn note_field<'t>(
     requires field { IsOffsetField source.now.order source.now.table source.now.cells field }
     requires kept { pool.old.kept ≡ [] }
     requires small { length (table_bytes pool.old) ≤ output_limit }
-    requires knows { Knows rebuilding maps.now source.now.table.bytes pool.old.texts (known_by known.old) }
+    requires knows { Knows maps.now source.now.table.bytes pool.old.texts (known_by known.old) }
     ensures kept { OnOk result (pool.new.kept ≡ []) }
-    ensures texts { OnOk result (pool.new.texts ≡ with_mention rebuilding maps.now pool.old.texts (field_mention source.now field)) }
-    ensures knows { OnOk result (Knows rebuilding maps.now source.now.table.bytes pool.new.texts (known_by known.new)) }
-    ensures noted { OnOk result (IsNoted rebuilding source.now.table.bytes (known_by known.new) field.path (offset_at source.now field)) }
+    ensures texts { OnOk result (pool.new.texts ≡ with_mention maps.now pool.old.texts (field_mention source.now field)) }
+    ensures knows { OnOk result (Knows maps.now source.now.table.bytes pool.new.texts (known_by known.new)) }
+    ensures noted { OnOk result (IsNoted (known_by known.new) field.path (offset_at source.now field)) }
     ensures small { OnOk result (length (table_bytes pool.new) ≤ output_limit) }
     ensures remembers { OnOk result (Remembers (known_by known.old) (known_by known.new)) }
-    ensures refused { IfErr result (Blames (TooLong (length (table_bytes (record { kept = []; texts = with_mention rebuilding maps.now pool.old.texts (field_mention source.now field) }))))) }
+    ensures refused { IfErr result (Blames (TooLong (length (table_bytes (record { kept = []; texts = with_mention maps.now pool.old.texts (field_mention source.now field) }))))) }
 {
     let table = source.table();
     let offset = text_offset(source, field);

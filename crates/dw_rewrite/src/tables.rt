@@ -128,7 +128,7 @@ fn grown_table<'t>(
 ) -> Result<NewTable<'t>, Fault>
     requires paths { AllHaveOffsets view.now (all_of paths.now) }
     ensures made { IfOk result (λ t. TableMade maps.now view.now texts (all_of paths.now) t.pool (known_by t.known)) }
-    ensures refused { IfErr result (Blames (TooLong (length (table_bytes (table_with view.now texts (all_texts_at maps.now view.now texts [] (all_of paths.now))))))) }
+    ensures refused { IfErr result (Blames (TooLong (length (table_bytes (table_with (all_texts_at maps.now view.now texts [] (all_of paths.now))))))) }
 {
     let mut pool = LentPool::new(alloc);
     let mut known = TextPlaces::new(alloc);
@@ -150,7 +150,7 @@ fn note_lists<'t>(
     requires paths { AllHaveOffsets view.now (all_of paths.now) }
     requires growing { Growing maps.now view.now texts pool.old (known_by known.old) }
     ensures grown { OnOk result (GrownByAll maps.now view.now texts (all_of paths.now) pool.old pool.new (known_by known.old) (known_by known.new)) }
-    ensures refused { IfErr result (Blames (TooLong (length (table_bytes (table_with view.now texts (all_texts_at maps.now view.now texts pool.old.texts (all_of paths.now))))))) }
+    ensures refused { IfErr result (Blames (TooLong (length (table_bytes (table_with (all_texts_at maps.now view.now texts pool.old.texts (all_of paths.now))))))) }
 {
     note_sections(alloc, view, maps, texts, paths.units(), pool, known)?;
     note_sections(alloc, view, maps, texts, paths.slots(), pool, known)?;
@@ -173,7 +173,7 @@ fn note_sections<'t>(
     requires sections { AllHaveOffsets view.now sections.now }
     requires growing { Growing maps.now view.now texts pool.old (known_by known.old) }
     ensures grown { OnOk result (GrownByAll maps.now view.now texts sections.now pool.old pool.new (known_by known.old) (known_by known.new)) }
-    ensures refused { IfErr result (Blames (TooLong (length (table_bytes (table_with view.now texts (all_texts_at maps.now view.now texts pool.old.texts sections.now)))))) }
+    ensures refused { IfErr result (Blames (TooLong (length (table_bytes (table_with (all_texts_at maps.now view.now texts pool.old.texts sections.now)))))) }
 {
     for found in sections {
         note_section(alloc, view, maps, texts, found, pool, known)?;
@@ -195,7 +195,7 @@ fn note_section<'t>(
     requires paths { HasOffsets view.now found.now }
     requires growing { Growing maps.now view.now texts pool.old (known_by known.old) }
     ensures grown { OnOk result (GrownBy maps.now view.now texts found.now pool.old pool.new (known_by known.old) (known_by known.new)) }
-    ensures refused { IfErr result (Blames (TooLong (length (table_bytes (table_with view.now texts (section_texts_at maps.now view.now texts pool.old.texts found.now)))))) }
+    ensures refused { IfErr result (Blames (TooLong (length (table_bytes (table_with (section_texts_at maps.now view.now texts pool.old.texts found.now)))))) }
 {
     let source = text_source(view, texts, found.section);
     let fields = fields_of(found, texts);

@@ -9,8 +9,9 @@ use Rattle.dw_base.specs.Paths.{IsPathMap, PathMap}
 use Rattle.dw_base.specs.Pieces.{Piece, joined}
 use Rattle.dw_base.specs.Roles.{role_of}
 use Rattle.dw_base.specs.SectionTexts.{file_mentions}
-use Rattle.dw_base.specs.StringTables.{Mention, new_table, new_texts, rebuilding}
-use Rattle.dw_base.specs.TextChanges.{TableChange, TableChanges, edited_all, edited_by, mentions_of}
+use Rattle.dw_base.specs.StringTables.{Mention, new_texts}
+use Rattle.dw_base.specs.TextChanges.{TableChanges, edited_all, edited_by, mentions_of}
+use Rattle.dw_base.specs.Texts.{laid_texts}
 use Rattle.dw_base.specs.UnitStates.{UnitState}
 use Rattle.dw_base.specs.declared.debug_sections.DebugSection.TheVariants.{Line}
 use Rattle.dw_base.proofs.UnitEditLaws.{length-bytes_of}
@@ -26,7 +27,7 @@ use Rattle.gen_laws.proofs.AroundLaws.{counted_around, counted_data, stands-arou
 use Rattle.gen_laws.proofs.DataReadLaws.{counted_readings}
 use Rattle.gen_laws.proofs.FileTakenLaws.{IsCounted, info_of}
 use Rattle.gen_laws.proofs.LineWriteLaws.{length-tables, table_room}
-use Rattle.gen_laws.proofs.MentionLaws.{length-new_table, lines-unnamed, mentions_room, units-other, units-room}
+use Rattle.gen_laws.proofs.MentionLaws.{length-new_texts, lines-unnamed, mentions_room, units-other, units-room}
 use Rattle.gen_laws.proofs.UnitReadLaws.{section_pieces, units-cells}
 
 -- what an edit changes
@@ -61,9 +62,7 @@ length-new_units m counts units few =
 
 -- the table of texts
 abbrev pub new_str : PathMap → List ℕ → ℕ → List ℕ
-new_str m counts units =
-    let c : TableChange = table_change m InStr (counted_around counts units) (counted_readings counts units) in
-    new_table c.plan c.texts
+new_str m counts units = laid_texts (table_change m InStr (counted_around counts units) (counted_readings counts units))
 
 str-mentions : (counts : List ℕ) (units : ℕ) → file_mentions InStr (counted_around counts units) (counted_readings counts units)
     ≡ mentions_of InStr (counted_around counts units) (section_pieces (texts_of counts units) counts units)
@@ -71,21 +70,19 @@ str-mentions counts units =
     let ms = mentions_of InStr (counted_around counts units) (section_pieces (texts_of counts units) counts units) in
     rw (lines-unnamed (source_around (counted_around counts units)) InStr counts units) (append-nil (ms ++ []) ∙ append-nil ms)
 
-length-new_str : (m : PathMap) (counts : List ℕ) (units : ℕ) → IsPathMap m → units ≤ 10000 → AreFew counts → length (new_str m counts units) ≤ units * 224 + 4120 * (units * 38)
+length-new_str : (m : PathMap) (counts : List ℕ) (units : ℕ) → IsPathMap m → units ≤ 10000 → AreFew counts → length (new_str m counts units) ≤ 4120 * (units * 38)
 unfolding table_change
 length-new_str m counts units fit small few =
     let around = counted_around counts units in
     let whole = length (plain_cells (info_of counts units)) in
-    let table = length-new_table rebuilding m (file_mentions InStr around (counted_readings counts units)) fit in
+    let table = length-new_texts m (file_mentions InStr around (counted_readings counts units)) fit in
     let room = units-room around (texts_of counts units) counts units whole (stands-around counts units small few) small few in
     let same = ap mentions_room (str-mentions counts units) in
     omega (arith, table, room, same)
 
 -- the other table has nothing
 abbrev pub new_line_str : PathMap → List ℕ → ℕ → List ℕ
-new_line_str m counts units =
-    let c : TableChange = table_change m InLineStr (counted_around counts units) (counted_readings counts units) in
-    new_table c.plan c.texts
+new_line_str m counts units = laid_texts (table_change m InLineStr (counted_around counts units) (counted_readings counts units))
 
 other-mentions : (counts : List ℕ) (units : ℕ) → file_mentions InLineStr (counted_around counts units) (counted_readings counts units) ≡ []
 other-mentions counts units =
@@ -96,7 +93,7 @@ other-mentions counts units =
 
 none-new : (m : PathMap) (counts : List ℕ) (units : ℕ) → new_line_str m counts units ≡ []
 unfolding table_change
-none-new m counts units = ap (λ (ms : List Mention). new_table rebuilding (new_texts rebuilding m ms)) (other-mentions counts units)
+none-new m counts units = ap (λ (ms : List Mention). laid_texts (new_texts m ms)) (other-mentions counts units)
 
 -- the line tables
 abbrev pub new_line : PathMap → List ℕ → ℕ → List ℕ

@@ -10,7 +10,7 @@ use Rattle.dw_base.specs.LineTables.{LineTable}
 use Rattle.dw_base.specs.Numbers.{number_bytes}
 use Rattle.dw_base.specs.Paths.{IsPathMap, PathMap}
 use Rattle.dw_base.specs.TableTexts.{as_path}
-use Rattle.dw_base.specs.TextChanges.{TableChange, TableChanges}
+use Rattle.dw_base.specs.TextChanges.{TableChanges}
 use Rattle.dw_base.specs.TextLineChanges.{header_by_texts, rest_by_texts, table_by_texts, tables_by_texts, text_place, texts_changes}
 use Rattle.dw_base.specs.TextWriteFails.{CanWriteTexts}
 use Rattle.dw_base.specs.WrittenLines.{Change, bytes_at, changed, inline_change, part, with_header_length}
@@ -149,14 +149,14 @@ tables-writable m c around counts (suc unit) fit small few =
     (tables-writable m c around counts unit fit (omega arith) few)
     (can-write g m (text_place m (c.new Str) (c.new LineStr) g) start unit (slice_index counts unit) fit (omega arith) (few.each unit), tt)
 
-after-append : (m : PathMap) (str line_str : TableChange) (g : LineSource) (rs qs : List LineReading)
+after-append : (m : PathMap) (str line_str : List (List ℕ)) (g : LineSource) (rs qs : List LineReading)
     → all_lines (tables_by_texts m str line_str g (rs ++ qs)) ≡ all_lines (tables_by_texts m str line_str g rs) ++ all_lines (tables_by_texts m str line_str g qs)
 after-append m str line_str g [] qs = refl
 after-append m str line_str g (r ∷ rs) qs =
     let table : List ℕ = table_by_texts g m (text_place m str line_str g) (table_read g r) in
     ap (λ (bs : List ℕ). table ++ bs) (after-append m str line_str g rs qs) ∙ sym (append_assoc table (all_lines (tables_by_texts m str line_str g rs)) (all_lines (tables_by_texts m str line_str g qs)))
 
-pub length-tables : (m : PathMap) (str line_str : TableChange) (g : LineSource) (counts : List ℕ) (units : ℕ) → IsPathMap m → units < 2 ^ 32 → AreFew counts
+pub length-tables : (m : PathMap) (str line_str : List (List ℕ)) (g : LineSource) (counts : List ℕ) (units : ℕ) → IsPathMap m → units < 2 ^ 32 → AreFew counts
     → length (all_lines (tables_by_texts m str line_str g (readings_of g.number counts units))) ≤ units * table_room
 length-tables m str line_str g counts zero fit small few = omega arith
 length-tables m str line_str g counts (suc unit) fit small few =

@@ -1,4 +1,4 @@
--- The texts that a generated file names, and how long a new table of them is at most, whatever it keeps and whatever asks for a new place.
+-- The texts that a generated file names, and how long a new table of them is at most.
 use Rattle.std.proofs.Common.{◌≡◌, ℕ, zero, suc, ◌+◌, ◌*◌, ◌<◌, ◌≤◌, Bool, true, false, if◌then◌else◌, List, [], ◌∷◌, ◌++◌, length, slice_index, refl, sym, ap, ◌∙◌, arith}
 use Rattle.std.proofs.lemmas.Bool.{eq-eqb}
 use Rattle.std.proofs.lemmas.List.{append_assoc, length-append}
@@ -9,7 +9,7 @@ use Rattle.dw_base.specs.LineSources.{LineSource}
 use Rattle.dw_base.specs.Paths.{IsPathMap, PathMap, mapped_path}
 use Rattle.dw_base.specs.Pieces.{EachPiece, Piece}
 use Rattle.dw_base.specs.Roles.{role_of}
-use Rattle.dw_base.specs.StringTables.{Mention, Plan, new_table, new_text, new_texts, texts_after, with_mention, with_text}
+use Rattle.dw_base.specs.StringTables.{Mention, new_text, new_texts, texts_after, with_mention}
 use Rattle.dw_base.specs.TableTexts.{as_path}
 use Rattle.dw_base.specs.TextChanges.{mentions_by, mentions_of}
 use Rattle.dw_base.specs.TextLineChanges.{all_texts_mentions, mention_of, texts_mentions}
@@ -44,27 +44,24 @@ new-text-cases : (m : PathMap) (t : List ℕ) (path : Bool) → IsPathMap m → 
 new-text-cases m t true fit = omega (arith, length-mapped_path m t fit)
 new-text-cases m t false fit = omega arith
 
-mention-cases : (m : PathMap) (ts : List (List ℕ)) (x : Mention) (asks : Bool) → IsPathMap m
-    → length (laid_texts (if asks then with_text ts (new_text m x) else ts)) ≤ length (laid_texts ts) + (4097 + length x.text)
-mention-cases m ts x true fit =
+length-mentioned : (m : PathMap) (ts : List (List ℕ)) (x : Mention) → IsPathMap m
+    → length (laid_texts (with_mention m ts x)) ≤ length (laid_texts ts) + (4097 + length x.text)
+length-mentioned m ts x fit =
     let text = new-text-cases m x.text x.path fit in
     let one = once-cases ts (new_text m x) (is_in ts (new_text m x)) in
     omega (arith, text, one)
-mention-cases m ts x false fit = omega arith
 
-length-texts : (plan : Plan) (m : PathMap) (ts : List (List ℕ)) (xs : List Mention) → IsPathMap m
-    → length (laid_texts (texts_after plan m ts xs)) ≤ length (laid_texts ts) + mentions_room xs
-length-texts plan m ts [] fit = omega arith
-length-texts plan m ts (x ∷ xs) fit =
-    let rest = length-texts plan m (with_mention plan m ts x) xs fit in
-    let one = mention-cases m ts x (plan.asks x) fit in
+length-texts : (m : PathMap) (ts : List (List ℕ)) (xs : List Mention) → IsPathMap m
+    → length (laid_texts (texts_after m ts xs)) ≤ length (laid_texts ts) + mentions_room xs
+length-texts m ts [] fit = omega arith
+length-texts m ts (x ∷ xs) fit =
+    let rest = length-texts m (with_mention m ts x) xs fit in
+    let one = length-mentioned m ts x fit in
     omega (arith, rest, one)
 
--- a table of any plan
-pub length-new_table : (plan : Plan) (m : PathMap) (xs : List Mention) → IsPathMap m → length (new_table plan (new_texts plan m xs)) ≤ length plan.kept + mentions_room xs
-length-new_table plan m xs fit =
-    let texts = length-texts plan m [] xs fit in
-    omega (arith, texts, length-append plan.kept (laid_texts (new_texts plan m xs)))
+-- a new table
+pub length-new_texts : (m : PathMap) (xs : List Mention) → IsPathMap m → length (laid_texts (new_texts m xs)) ≤ mentions_room xs
+length-new_texts m xs fit = omega (arith, length-texts m [] xs fit)
 
 -- each piece of a unit takes so much at most
 abbrev TakesLittle : Around → Piece UnitState → Type 0
