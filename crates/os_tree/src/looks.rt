@@ -9,6 +9,7 @@ ghost use Rattle.file_tree.specs.Causes.{IsWithin, IsListed, AreInOrder};
 use crate::folders::Folders;
 use crate::stores::Unstored;
 use file_tree::{Blob, Found, Listed, Paths, Text};
+use std::alloc::Global;
 use std::cmp::Ordering;
 use std::fs::{Metadata, OpenFile};
 use std::io::{ErrorKind, Read};
@@ -18,6 +19,9 @@ use std::{fs, io};
 
 /// The 12 bits of a mode that a chmod sets.
 const MODE_BITS: u32 = 0o7777;
+
+/// A file is read so many bytes at a time.
+const CHUNK: usize = 64 * 1024;
 
 /// Who owns a file.
 #[derive(Clone, Copy)]
@@ -117,6 +121,30 @@ fn stands_elsewhere<R: Files>(rt: &R, path: &str) -> io::Result<Option<Metadata>
     }
 }
 
+/// Appends all that a reader gives, up to `chunk` bytes at a time. They are read to one place and copied from there: a place of
+/// their own for each read would have to be filled with zeros first, which takes longer than the copy.
+fn read_rest<R: Read>(
+    alloc: Global,
+    reader: &mut R,
+    chunk: usize,
+    bytes: &mut Vec<u8>,
+) -> io::Result<()> {
+    let mut place = Vec::new(alloc);
+    place.resize(chunk, 0)?;
+    for _ in 0..u64::MAX {
+        match reader.read(&mut place) {
+            Ok(0) => return Ok(()),
+            Ok(n) => bytes.extend_from_slice(&place[..n])?,
+            Err(e) => {
+                if e.kind() != ErrorKind::Interrupted {
+                    return Err(e);
+                }
+            }
+        }
+    }
+    Err(io::Error::from(ErrorKind::InvalidData))
+}
+
 /// Reads a file that has at most `limit` bytes. Length, owner and mode are those of the file that was opened: it
 /// fails where that is no plain file any more. The owner is kept where the file is given whole; with a limit of 0
 /// it is only looked at.
@@ -136,10 +164,11 @@ fn read_file<R: Files + AllocGlobal>(
     if found.len() > limit {
         return Ok(Found::TooLarge { size: found.len() });
     }
-    // A byte more than the file has: its end is met without moving what was read to a larger place.
+    // A byte more than the file has: there is room for one where it has none, and its end is met by a read that gives nothing.
     let room = (found.len() as usize).saturating_add(1);
     let mut bytes = Vec::with_capacity(rt.alloc(), room)?;
-    file.take(limit.saturating_add(1)).read_to_end(&mut bytes)?;
+    let mut rest = file.take(limit.saturating_add(1));
+    read_rest(rt.alloc(), &mut rest, room.min(CHUNK), &mut bytes)?;
     if bytes.len() as u64 > limit {
         let size = bytes.len() as u64;
         return Ok(Found::TooLarge { size });
