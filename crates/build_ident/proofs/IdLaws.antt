@@ -3,7 +3,7 @@ use Rattle.std.proofs.Common.{◌≡◌, ◌≢◌, ℕ, ◌+◌, ◌*◌, ◌<�
 use Rattle.std.proofs.lemmas.List.{length-take, length-drop}
 use Rattle.dw_base.specs.Elf.{class_of, order_of, ehdr_size, phdr_size, e_phoff, e_phnum, nth_section, section_count, contents_of, contents_at, is_empty_kind}
 use Rattle.dw_base.specs.ElfFails.{DebugReads}
-use Rattle.dw_base.specs.Notes.{Descriptor, id_in}
+use Rattle.dw_base.specs.Notes.{Descriptor, build_id_at, build_id_in, build_id_of, id_in}
 use Rattle.dw_base.specs.Refusals.{at}
 use Rattle.dw_base.specs.declared.fault.Kind.TheVariants.{BuildId}
 use Rattle.dw_base.specs.declared.fault.Refusal.{Refusal}
@@ -47,6 +47,22 @@ absent-excludes b none r (unfit i is bad) = no-section b i none is
 absent-excludes b none r (header i d is below) = no-section b i none is.section
 absent-excludes b none r (segments i d is some over) = no-section b i none is.section
 absent-excludes b none r (section i d j is shared) = no-section b i none is.section
+
+-- the build-id of a file is the descriptor in that section
+pub id-absent : (b : List ℕ) → id_section b ≡ None → build_id_of b ≡ None
+unfolding id_section build_id_of
+id-absent b none = ap (λ (o : Option ℕ). build_id_in b o) none
+
+id-by : (b : List ℕ) (i : ℕ) → id_section b ≡ Some i → build_id_of b ≡ build_id_at i (id_in (order_of b) (contents_of b i))
+unfolding id_section build_id_of
+id-by b i there = ap (λ (o : Option ℕ). build_id_in b o) there
+
+pub id-unfit : (b : List ℕ) (i : ℕ) → id_section b ≡ Some i → id_in (order_of b) (contents_of b i) ≡ None → build_id_of b ≡ None
+id-unfit b i there bad = id-by b i there ∙ ap (λ (o : Option Descriptor). build_id_at i o) bad
+
+pub id-found : (b : List ℕ) (i : ℕ) (d : Descriptor) → id_section b ≡ Some i → id_in (order_of b) (contents_of b i) ≡ Some d
+    → build_id_of b ≡ Some (record { section = i; descriptor = d })
+id-found b i d there is = id-by b i there ∙ ap (λ (o : Option Descriptor). build_id_at i o) is
 
 -- neither is one whose id has its bytes alone
 same-section : (b : List ℕ) (i j : ℕ) → id_section b ≡ Some i → id_section b ≡ Some j → i ≡ j
@@ -100,5 +116,7 @@ found-place b i place d is own place_is = subst (λ (k : ℕ). IsIdPlace b k d.s
 pub ruleset find_rules = (absent-excludes)
 
 pub ruleset found_rules = (own-excludes, is-id, fails-unfit, found-place)
+
+pub ruleset section_rules = (id-absent, id-unfit, id-found)
 
 pub ruleset id_rules = (length-take, length-drop)

@@ -23,4 +23,4 @@ mod place;
 
 pub use digest::{digest_of_pieces, id_text, set_id};
 pub use dw_base::{Kind, NoMemory, Refusal};
-pub use place::{IdPlace, find_id};
+pub use place::{IdPlace, SectionId, find_id, section_id};

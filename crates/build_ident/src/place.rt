@@ -3,7 +3,7 @@
 
 ghost use Rattle.std.specs.Prelude.{◌≡◌, ◌≤◌, ◌<◌, ◌+◌, false, length, IfErr, IfOk, IfNone, IfSome, OnOk, MatchOption};
 ghost use Rattle.dw_base.specs.Elf.{nth_section, order_of, contents_of, section_count, name_table};
-ghost use Rattle.dw_base.specs.Notes.{id_in, is_id_section};
+ghost use Rattle.dw_base.specs.Notes.{build_id_of, id_in, is_id_section};
 ghost use Rattle.dw_base.specs.SectionNames.{note_build_id};
 ghost use Rattle.dw_base.specs.Texts.{has_nul, same_text, text, text_in};
 ghost use Rattle.dw_base.specs.declared.fault.Refusal.{Refusal};
@@ -27,6 +27,17 @@ pub struct IdPlace {
     pub len: u8,
 }
 
+/// The build-id of a file by the section of its note.
+#[derive(Clone, Copy, Debug, PartialEq, Eq)]
+pub struct SectionId {
+    /// The number of the section.
+    pub section: u32,
+    /// Where the id begins, in bytes from the section's start.
+    pub place: u64,
+    /// How many bytes it has: 2 to 20.
+    pub size: u64,
+}
+
 /// The place of the build-id. `None` exactly where no section may have its note. Refused as `BuildId` at
 /// (the section, 0) exactly where that section has no such note that fits, the id has not 2 to 20 bytes,
 /// or they also belong to the file header, the program headers or another section.
@@ -45,6 +56,22 @@ pub fn find_id(elf: &ElfFile) -> Result<Option<IdPlace>, Refusal>
     };
     let place = found(elf, section)?;
     Ok(Some(place))
+}
+
+/// The build-id of a file, whatever else its bytes belong to: that of the first section that may have it, `None` where that has none.
+#[tactic(auto, using(crate::proofs::IdLaws::section_rules))]
+pub fn section_id(elf: &ElfFile) -> Option<SectionId>
+    ensures value { MatchOption result (build_id_of elf.now.bytes.now ≡ None) (λ id. build_id_of elf.now.bytes.now ≡ Some (record { section = id.section; descriptor = record { place = id.place; size = id.size } })) }
+    ensures inside { IfSome result (λ id. (nth_section elf.now.bytes.now id.section).offset + (id.place + id.size) ≤ length elf.now.bytes.now) }
+    ensures there { IfSome result (λ id. id.section < section_count elf.now.bytes.now) }
+{
+    let section = id_section(elf)?;
+    let field = id_field(elf, section)?;
+    Some(SectionId {
+        section,
+        place: field.place,
+        size: field.size,
+    })
 }
 
 /// The place of the build-id, whose note stands in this section.
