@@ -16,5 +16,4 @@ pub mod CallerLaws
 pub mod SectionOrderLaws
 pub mod SectionListLaws
 pub mod TableLaws
-pub mod SharedLaws
 pub mod LastEntryLaws

@@ -2,6 +2,7 @@ pub mod UnitTableLaws
 pub mod StretchLaws
 pub mod RestLaws
 pub mod PlacedLaws
+pub mod KeptLaws
 pub mod KnownLaws
 pub mod HeaderListLaws
 pub mod ListedLaws

@@ -32,7 +32,7 @@ use std::alloc::{AllocError, Global};
 use std::collections::HashMap;
 
 /// The bytes of the view's section of abbreviations, none where it has no such section.
-#[tactic(auto, using(dw_entries::proofs::SharedLaws::bytes_rules))]
+#[tactic(auto, using(crate::proofs::KeptLaws::bytes_rules))]
 fn abbrevs_of<'v>(view: &'v View) -> &'v [u8]
     ensures bytes { result.now ≡ (debug_data view.now).base.abbrevs.bytes }
 {
@@ -114,7 +114,7 @@ fn add_table(
 }
 
 /// Keeps tables behind others, and their numbers.
-#[tactic(auto, using(dw_entries::proofs::SharedLaws::keep_rules))]
+#[tactic(auto, using(crate::proofs::KeptLaws::popped_rules))]
 fn add_tables(
     view: &View,
     mut kept: Vec<KeptTable>,
@@ -133,7 +133,7 @@ fn add_tables(
 }
 
 /// The tables of these units that can be read; those that overlap too often are left out.
-#[tactic(auto, using(dw_entries::proofs::SharedLaws::unit_rules))]
+#[tactic(auto, using(crate::proofs::KeptLaws::kept_rules))]
 fn kept_tables(
     alloc: Global,
     view: &View,

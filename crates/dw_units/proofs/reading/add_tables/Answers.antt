@@ -1,5 +1,5 @@
 -- One table more is known, and one less is left.
-use Rattle.dw_entries.proofs.SharedLaws.{popped-left}
+use Rattle.dw_units.proofs.KeptLaws.{popped-left}
 use Rattle.dw_units.proofs.reading.add_tables.Goals as goal
 
 pub loop-one-preserved : goal.loop-one-preserved
