@@ -1,30 +1,28 @@
--- What was found of paths: the readings of the debug data of a view, what they say of paths, and why there are none.
-use Rattle.std.proofs.Common.{true, ◌≡◌, ◌⊎◌, inl, inr, ℕ, ◌+◌, ◌<◌, ◌≤◌, List, [], ◌∷◌, ◌++◌, length, drop, replicate, Option, Some, None, refl, sym, ap, ◌∙◌, subst, arith, append_assoc}
+-- What was found of texts: the readings of the debug data of a view, what they say of texts, and why there are none.
+use Rattle.std.proofs.Common.{true, ◌≡◌, ◌⊎◌, inl, inr, ℕ, ◌+◌, ◌<◌, ◌≤◌, List, [], ◌∷◌, ◌++◌, length, drop, replicate, Option, Some, None, refl, sym, ap, ◌∙◌, subst, arith}
 use Rattle.std.proofs.lemmas.List.{length-append, length-drop, length-replicate}
 use Rattle.dw_base.specs.Cells.{Cell, bytes_of, cells_at, offset_of}
 use Rattle.dw_base.specs.DebugData.{Around, DataReadings, ReadsAll, around_of, indexing_of, line_source, macro_places, path_slots}
 use Rattle.dw_base.specs.DebugSections.{name_of}
 use Rattle.dw_base.specs.FileViews.{View, section_bytes, section_named, view_cells}
 use Rattle.dw_base.specs.Forms.{width_size}
-use Rattle.dw_base.specs.IndexFails.{IndexFails, SlotFits}
+use Rattle.dw_base.specs.IndexFails.{IndexFails}
 use Rattle.dw_base.specs.LineReadings.{LineReading, table_starts}
 use Rattle.dw_base.specs.LineTables.{LineTable}
 use Rattle.dw_base.specs.MacroReadings.{MacroReading}
 use Rattle.dw_base.specs.NamePieces.{NameMode, at_table, at_string, at_rest, no_names, NameState, ReadsNames}
 use Rattle.dw_base.specs.OffsetPieces.{OffsetMode, at_contribution, at_slot, no_offsets, OffsetState, FitsOffsets, ReadsOffsets, offset_grammar, past_offsets}
-use Rattle.dw_base.specs.Paths.{PathMap}
 use Rattle.dw_base.specs.Pieces.{Piece, Chain, EachPiece, joined}
-use Rattle.dw_base.specs.Readings.{Readings, EachReading}
+use Rattle.dw_base.specs.Readings.{Readings}
 use Rattle.dw_base.specs.Refusals.{Blames}
 use Rattle.dw_base.specs.SectionTexts.{NameTexts, name_role, name_role_by, offset_role, slot_role}
 use Rattle.dw_base.specs.SlotTexts.{contributions_in}
 use Rattle.dw_base.specs.Slots.{slots_of}
 use Rattle.dw_base.specs.StringOffsetFails.{ContributionsFail}
 use Rattle.dw_base.specs.StringOffsets.{AreContributions, ContributionsUpTo}
-use Rattle.dw_base.specs.TextChanges.{NamesTextBy, InlineFits}
+use Rattle.dw_base.specs.TextChanges.{NamesTextBy}
 use Rattle.dw_base.specs.TextIndexes.{EachUse, Indexing, NamesSlot, holds_number}
 use Rattle.dw_base.specs.Texts.{ends_in}
-use Rattle.dw_base.specs.UnitHeaders.{UnitSection}
 use Rattle.dw_base.specs.RelocationRows.{FieldPlace, field_place, offset_field, slot_field as slot_place, slot_fields as slot_places, moving_sections}
 use Rattle.dw_base.specs.RelocationRows.FieldsFail.{offset as offset_row}
 use Rattle.dw_base.specs.ViewData.{cells_located, debug_data, located, string_offsets}
@@ -50,31 +48,31 @@ use Rattle.dw_offsets.specs.SlotMarks.{AreMarks}
 use Rattle.dw_offsets.specs.NameFields.{fields_of_names}
 use Rattle.dw_offsets.proofs.NamePieceLaws.{NamesRead, names-read}
 use Rattle.dw_offsets.proofs.OffsetPieceLaws.{contributions-read}
-use Rattle.dw_offsets.proofs.SlotPieceLaws.{SlotsAround, SlotsSay, SlotsFail, slot_fails, shared_fails, offset_fails, slots-fail, slots-say}
+use Rattle.dw_offsets.proofs.SlotPieceLaws.{SlotsAround, SlotsSay, SlotsFail, slot_fails, offset_fails, slots-fail, slots-say}
 use Rattle.dw_find.specs.AllFields.{Fields, all_of, fields_read, standing}
-use Rattle.dw_find.specs.FoundPaths.{PathsFound, PathsRefuse, SlotsFound, UnitPathsRefuse, UnitsFound, UnitsNamed}
-use Rattle.dw_find.specs.FoundPaths.PathsRefuse.{units, starts, inline, string_tables, name_tables, name_offsets, relocations, slots, shared}
-use Rattle.dw_find.specs.FoundPaths.UnitPathsRefuse.{texts as refused_texts, inline as refused_inline}
+use Rattle.dw_find.specs.FoundPaths.{FieldsFound, SlotsFound, UnitsFound, UnitsNamed}
+use Rattle.dw_find.specs.ReadData.{DataRefuses}
+use Rattle.dw_find.specs.ReadData.DataRefuses.{units, starts, string_tables, name_tables, name_offsets, relocations, slots}
 use Rattle.dw_find.specs.Fields.{IsOffsetField}
-use Rattle.dw_find.specs.IndexedTexts.{SlotsMarked, TablesStart, TextsIndexed, UnitsStart, indexing_with}
+use Rattle.dw_find.specs.IndexedTexts.{SlotsMarked, TablesStart, TextsIndexed, TextsRefuse, UnitsStart, indexing_with}
 use Rattle.dw_find.specs.MacroNames.{MacrosStray}
 use Rattle.dw_find.specs.MacroSections.{SectionUnits, UnitsFoundIn, macros_of, macros_read}
 use Rattle.dw_find.specs.IndexedTexts.TextsRefuse.{units as texts_units, starts as texts_starts, index as texts_index}
 use Rattle.dw_find.specs.NamedSlots.{LieWithin}
-use Rattle.dw_find.specs.NameSections.{names_of_view, names_read, names_texts}
+use Rattle.dw_find.specs.NameSections.{names_of_view, names_read}
 use Rattle.dw_find.proofs.SlotRunLaws.{contributions-lie}
-use Rattle.dw_find.specs.ViewFields.{AllHaveOffsets, AllRoomsFit, AllHavePlaces, HasPlaces}
+use Rattle.dw_find.specs.ViewFields.{AllHaveOffsets, AllHavePlaces, HasPlaces}
 use Rattle.dw_find.specs.SlotPaths.{offset_fields, read_fields, slots_by, slots_of_view, slots_read}
-use Rattle.dw_find.specs.TextPlaces.{AllFitRooms, AllPlaced, InlinesFit}
+use Rattle.dw_find.specs.TextPlaces.{AllPlaced}
 use Rattle.dw_find.specs.SectionFields.{SectionFields, field_by}
 use Rattle.dw_find.specs.ViewLines.{lines_of_view, starts_of}
 use Rattle.dw_find.proofs.ApartLaws.{slots-apart}
-use Rattle.dw_find.proofs.FoundLaws.{FoundReadings, found-readings, found-fits}
+use Rattle.dw_find.proofs.FoundLaws.{FoundReadings, found-readings}
 use Rattle.dw_find.proofs.MacroAskedLaws.{asked-of}
 use Rattle.dw_find.proofs.MacroFoundLaws.{PieceNames, SectionsRead, holds-else, sections-read}
 use Rattle.dw_find.proofs.MacroNameLaws.{units-in}
 use Rattle.dw_find.proofs.NameHaveLaws.{names-offsets, names-places, strings-are}
-use Rattle.dw_find.proofs.MacroPathLaws.{have-both, have-macros, macro-imports, macro-texts, macros-order, places-start, rooms-both, rooms-macros}
+use Rattle.dw_find.proofs.MacroPathLaws.{have-both, have-macros, macro-imports, macro-texts, macros-order, places-start}
 use Rattle.dw_find.proofs.MacroStartLaws.{all-cells}
 use Rattle.dw_find.proofs.UnitPlaceLaws.{first-number}
 use Rattle.dw_find.proofs.MacroHaveLaws.{offsets-have}
@@ -84,7 +82,7 @@ use Rattle.dw_find.proofs.TableStartLaws.{read-starts}
 use Rattle.dw_find.proofs.FoundUnitLaws.{lines-offsets}
 use Rattle.dw_find.proofs.OffsetPlaceLaws.{offsets-in, offsets-placed, offsets-of}
 use Rattle.dw_find.proofs.PlaceValueLaws.{EachOf, offset-fields}
-use Rattle.dw_find.proofs.SectionFactLaws.{SectionFacts, all-facts, has-offsets, says-bytes, has-places}
+use Rattle.dw_find.proofs.SectionFactLaws.{SectionFacts, all-facts, has-offsets, has-places}
 use Rattle.dw_find.proofs.SlotPlaceLaws.{SlotsIn}
 use Rattle.dw_find.specs.UnitPlaces.{PlacesStart, UnitPlaces}
 use Rattle.dw_base.specs.NameTables.{AreNameTables}
@@ -115,7 +113,7 @@ field-head x y xs ys e = cc
 field-tail : (x y : FieldPlace) (xs ys : List FieldPlace) → x ∷ xs ≡ y ∷ ys → xs ≡ ys
 field-tail x y xs ys e = cc
 
-fields-are : (paths : List ℕ) (xs : List (Piece OffsetState)) → slot_fields paths xs ≡ offset_fields InStr paths xs
+pub fields-are : (paths : List ℕ) (xs : List (Piece OffsetState)) → slot_fields paths xs ≡ offset_fields InStr paths xs
 fields-are paths [] = refl
 fields-are paths (x ∷ xs) =
     field-is paths x.state.mode x.state.slot x.state.place (length x.cells) (slot_fields paths xs) (offset_fields InStr paths xs) (fields-are paths xs)
@@ -204,7 +202,7 @@ slot-sized : (w : Width) (size : ℕ) → size ≡ width_size w → (size ≡ 4)
 slot-sized W32 size e = inl e
 slot-sized W64 size e = inr e
 
-some-size : (w : Width) (n : ℕ) → n ≡ width_size w → 0 < n
+pub some-size : (w : Width) (n : ℕ) → n ≡ width_size w → 0 < n
 some-size W32 n e = omega (arith, e)
 some-size W64 n e = omega (arith, e)
 
@@ -276,7 +274,7 @@ strings-there : (v : View) (i : ℕ) → section_named v (name_of StrOffsets) �
 unfolding section_named
 strings-there v i e = (section_after-within v (name_of StrOffsets) 0 i e).1
 
-slots-offsets-of : (v : View) (rs : DataReadings) → ReadsOffsets (debug_data v).base.order ((debug_data v).found StrOffsets).contents rs.offsets
+pub slots-offsets-of : (v : View) (rs : DataReadings) → ReadsOffsets (debug_data v).base.order ((debug_data v).found StrOffsets).contents rs.offsets
     → NameTexts (slot_role (path_slots (around_of (debug_data v) rs))) (around_of (debug_data v) rs) rs.offsets → AllHaveOffsets v (slots_read v rs)
 slots-offsets-of v rs r names = slots-offsets-by v rs (section_named v (name_of StrOffsets)) (strings-there v) (offsets-of v rs.offsets r) names
 
@@ -300,30 +298,16 @@ offsets-each : (v : View) (us : List SectionFields) → EachOf (SectionFacts v) 
 offsets-each v [] h = tt
 offsets-each v (u ∷ us) h = (has-offsets v u h.0, offsets-each v us h.1)
 
-rooms-each : (m : PathMap) (v : View) (before zs : List UnitSection) (us ws : List SectionFields) → (debug_data v).found Info ≡ before ++ zs → AllPlaced (debug_data v) zs us
-    → AllFitRooms m zs us → AllRoomsFit m v ws → AllRoomsFit m v (us ++ ws)
-rooms-each m v before [] [] ws split all fits rest = rest
-rooms-each m v before [] (u ∷ us) ws split all fits rest = absurd all
-rooms-each m v before (z ∷ zs) [] ws split all fits rest = rest
-rooms-each m v before (z ∷ zs) (u ∷ us) ws split all fits rest = (
-  subst (λ (bs : List ℕ). InlinesFit m bs u.inline) (says-bytes v before zs z u split all.0) fits.0,
-  rooms-each m v (before ++ z ∷ []) zs us ws (split ∙ sym (append_assoc before (z ∷ []) zs)) all.1 fits.1 rest,
-)
-
-slots-rooms : (m : PathMap) (v : View) (o : Option ℕ) (fields : List OffsetField) → AllRoomsFit m v (slots_by o fields)
-slots-rooms m v None fields = tt
-slots-rooms m v (Some i) fields = (tt, tt)
-
 -- what was found
-record Parts (m : PathMap) (v : View) (list : List Contribution) (marks first : List ℕ) (us : List SectionFields) (tables : List NameTable) : Type 0 where
+record Parts (v : View) (list : List Contribution) (marks first : List ℕ) (us : List SectionFields) (tables : List NameTable) : Type 0 where
   offsets : OffsetsRead v list
   found : FoundReadings (debug_data v) 0 ((debug_data v).found Info) us
   names : NamesRead v (names_cells v) tables
   marked : SlotsMarked (indexing_with (debug_data v) list found.readings) marks
 
-parts-of : (m : PathMap) (v : View) (list : List Contribution) (marks first : List ℕ) (places : UnitPlaces) (us : List SectionFields) (tables : List NameTable) → AreContributions v.order (string_offsets v) list
-    → AreRead v tables → UnitsFound m (debug_data v) first places us → TextsIndexed (debug_data v) list marks → Parts m v list marks first us tables
-parts-of m v list marks first places us tables are names found indexed =
+parts-of : (v : View) (list : List Contribution) (marks first : List ℕ) (places : UnitPlaces) (us : List SectionFields) (tables : List NameTable) → AreContributions v.order (string_offsets v) list
+    → AreRead v tables → UnitsFound (debug_data v) first places us → TextsIndexed (debug_data v) list marks → Parts v list marks first us tables
+parts-of v list marks first places us tables are names found indexed =
     let f : FoundReadings (debug_data v) 0 ((debug_data v).found Info) us = found-readings (debug_data v) 0 ((debug_data v).found Info) us found.placed in
     record { offsets = offsets-read v list are; found = f; names = names-read v tables names; marked = indexed.each f.readings f.reads }
 
@@ -340,24 +324,22 @@ abbrev five_lists : List SectionFields → List SectionFields → List SectionFi
 five_lists us ss ls ms ns = record { units = us; slots = ss; lines = ls; macros = ms; names = ns }
 
 -- all of it but its relocations
-record PathsRead (m : PathMap) (v : View) (all : Fields) (ts : List LineTable) : Type 0 where
+record FieldsRead (v : View) (all : Fields) (marks : List ℕ) (ts : List LineTable) : Type 0 where
   readings : DataReadings
   reads : DataReads (debug_data v) readings
-  inline : EachReading (InlineFits m) readings.units
-  slots : EachPiece (SlotFits m (around_of (debug_data v) readings)) readings.offsets
+  marked : AreMarks marks (indexing_of (debug_data v) readings) (indexing_of (debug_data v) readings).uses
   offsets : AllHaveOffsets v (all_of all)
   places : AllHavePlaces v (standing all)
-  rooms : AllRoomsFit m v (standing all)
   is : all ≡ fields_read v readings ts
   tables : ts ≡ tables_read (line_source (debug_data v)) readings.lines
 
-paths-read : (m : PathMap) (v : View) (list : List Contribution) (marks starts_ : List ℕ) (tables : List NameTable) (ts : List LineTable) (ss : List SectionUnits)
+fields-read : (v : View) (list : List Contribution) (marks starts_ : List ℕ) (tables : List NameTable) (ts : List LineTable) (ss : List SectionUnits)
     (us slots_ : List SectionFields) (all : Fields) → AreContributions v.order (string_offsets v) list → AreRead v tables → TablesFound v ts → starts_ ≡ starts_of ts
-    → UnitsFoundIn v ss → UnitsNamed m v list starts_ ss marks us → SlotsFound m v list marks [] slots_
-    → all ≡ five_lists us slots_ (lines_of_view v ts) (macros_of v ss) (names_of_view v (fields_of_names tables)) → PathsRead m v all ts
+    → UnitsFoundIn v ss → UnitsNamed v list starts_ ss marks us → SlotsFound v list marks [] slots_
+    → all ≡ five_lists us slots_ (lines_of_view v ts) (macros_of v ss) (names_of_view v (fields_of_names tables)) → FieldsRead v all marks ts
 unfolding tables-start
-paths-read m v list marks starts_ tables ts ss us slots_ all are named lines starts_are units_are n slots_found all_is =
-    let p : Parts m v list marks starts_ us tables = parts-of m v list marks starts_ n.places us tables are named n.found n.indexed in
+fields-read v list marks starts_ tables ts ss us slots_ all are named lines starts_are units_are n slots_found all_is =
+    let p : Parts v list marks starts_ us tables = parts-of v list marks starts_ n.places us tables are named n.found n.indexed in
     let macros : SectionsRead v (PieceNames (debug_data v) starts_ n.places) ((debug_data v).found Macro) ss =
     sections-read v (PieceNames (debug_data v) starts_ n.places) ((debug_data v).found Macro) ss (holds-else (debug_data v) starts_ n.places)
     (asked-of v starts_ n.places ss (first-number v n.places n.start) units_are n.named) in
@@ -367,9 +349,9 @@ paths-read m v list marks starts_ tables ts ss us slots_ all are named lines sta
     let start_is : starts_ ≡ table_starts lines.readings = (tables-start v ts starts_ lines starts_are).is in
     let units_start : PlacesStart n.places (macro_places (debug_data v) (readings_with p.found.readings p.offsets.pieces lines.readings macros.readings p.names.pieces)) =
     places-start v n.places (readings_with p.found.readings p.offsets.pieces lines.readings macros.readings p.names.pieces) n.start (macros-order v macros.readings macros.reads) in
-    let say : SlotsSay m (around_of (debug_data v) (readings_with p.found.readings p.offsets.pieces lines.readings macros.readings p.names.pieces)) p.offsets.pieces slots_found.fields =
-    slots-say m (around_of (debug_data v) (readings_with p.found.readings p.offsets.pieces lines.readings macros.readings p.names.pieces)) (slots_in v) (string_cells v) p.offsets.pieces marks
-    slots_found.fields around (subst (λ (cs_ : List Contribution). SlotsTaken m (slots_in v) marks (slots_of cs_) [] slots_found.fields) (sym same_list) slots_found.taken) in
+    let say : SlotsSay (around_of (debug_data v) (readings_with p.found.readings p.offsets.pieces lines.readings macros.readings p.names.pieces)) p.offsets.pieces slots_found.fields =
+    slots-say (around_of (debug_data v) (readings_with p.found.readings p.offsets.pieces lines.readings macros.readings p.names.pieces)) (slots_in v) (string_cells v) p.offsets.pieces marks
+    slots_found.fields around (subst (λ (cs_ : List Contribution). SlotsTaken (slots_in v) marks (slots_of cs_) [] slots_found.fields) (sym same_list) slots_found.taken) in
     let fields : slots_found.fields ≡ read_fields (debug_data v) (readings_with p.found.readings p.offsets.pieces lines.readings macros.readings p.names.pieces) =
     say.fields_are ∙ fields-are (path_slots (around_of (debug_data v) (readings_with p.found.readings p.offsets.pieces lines.readings macros.readings p.names.pieces))) p.offsets.pieces in
     let slots_is : slots_ ≡ slots_read v (readings_with p.found.readings p.offsets.pieces lines.readings macros.readings p.names.pieces) =
@@ -385,11 +367,6 @@ paths-read m v list marks starts_ tables ts ss us slots_ all are named lines sta
     (have-macros v (us ++ slots_read v (readings_with p.found.readings p.offsets.pieces lines.readings macros.readings p.names.pieces)) macros.readings
     (places-append v us (slots_read v (readings_with p.found.readings p.offsets.pieces lines.readings macros.readings p.names.pieces)) (places-each v us (all-facts v [] ((debug_data v).found Info) us refl n.found.placed)) (slots-places v (readings_with p.found.readings p.offsets.pieces lines.readings macros.readings p.names.pieces) i.offsets)) macros.reads)
     (names-places v (readings_with p.found.readings p.offsets.pieces lines.readings macros.readings p.names.pieces) p.names.reads) in
-    let rooms : AllRoomsFit m v (((us ++ slots_read v (readings_with p.found.readings p.offsets.pieces lines.readings macros.readings p.names.pieces)) ++ macros_read macros.readings) ++ names_read v (readings_with p.found.readings p.offsets.pieces lines.readings macros.readings p.names.pieces)) =
-    rooms-both m v ((us ++ slots_read v (readings_with p.found.readings p.offsets.pieces lines.readings macros.readings p.names.pieces)) ++ macros_read macros.readings) (names_read v (readings_with p.found.readings p.offsets.pieces lines.readings macros.readings p.names.pieces))
-    (rooms-macros m v (us ++ slots_read v (readings_with p.found.readings p.offsets.pieces lines.readings macros.readings p.names.pieces)) macros.readings
-    (rooms-each m v [] ((debug_data v).found Info) us (slots_read v (readings_with p.found.readings p.offsets.pieces lines.readings macros.readings p.names.pieces)) refl n.found.placed n.found.fits (slots-rooms m v (section_named v (name_of StrOffsets)) (read_fields (debug_data v) (readings_with p.found.readings p.offsets.pieces lines.readings macros.readings p.names.pieces)))))
-    (slots-rooms m v (section_named v (name_of Names)) (names_texts InStr p.names.pieces)) in
     record {
       readings = readings_with p.found.readings p.offsets.pieces lines.readings macros.readings p.names.pieces;
       reads = record {
@@ -408,9 +385,8 @@ paths-read m v list marks starts_ tables ts ss us slots_ all are named lines sta
         macro_values = p.found.units (around_of (debug_data v) (readings_with p.found.readings p.offsets.pieces lines.readings macros.readings p.names.pieces)).lasting starts_ n.places refl units_start n.found.named;
         imports = macro-imports v (readings_with p.found.readings p.offsets.pieces lines.readings macros.readings p.names.pieces) starts_ n.places macros.readings units_start macros.each;
       };
-      inline = found-fits (debug_data v).base m 0 ((debug_data v).found Info) p.found.readings p.found.reads
-          (subst (AllFitRooms m ((debug_data v).found Info)) (sym p.found.says) n.found.fits);
-      slots = say.fits;
+      marked = subst (λ (g : Indexing). AreMarks marks g g.uses)
+          (indexing-is v list p.found.readings p.offsets.pieces lines.readings macros.readings p.names.pieces p.offsets.list_is) p.marked.slots;
       offsets = subst (λ (x : Fields). AllHaveOffsets v (all_of x)) (sym is)
           (offsets-append v us (slots_read v (readings_with p.found.readings p.offsets.pieces lines.readings macros.readings p.names.pieces) ++ (lines_of_view v ts ++ (macros_read macros.readings ++ names_read v (readings_with p.found.readings p.offsets.pieces lines.readings macros.readings p.names.pieces))))
           (offsets-each v us (all-facts v [] ((debug_data v).found Info) us refl n.found.placed))
@@ -422,64 +398,61 @@ paths-read m v list marks starts_ tables ts ss us slots_ all are named lines sta
           (names-offsets v (readings_with p.found.readings p.offsets.pieces lines.readings macros.readings p.names.pieces) p.names.reads
           (all-names v (readings_with p.found.readings p.offsets.pieces lines.readings macros.readings p.names.pieces) p.names.pieces p.names.texts))))));
       places = subst (λ (x : Fields). AllHavePlaces v (standing x)) (sym is) have;
-      rooms = subst (λ (x : Fields). AllRoomsFit m v (standing x)) (sym is) rooms;
       is = is ∙ ap (λ (ws : List SectionFields). five_lists ws (slots_read v (readings_with p.found.readings p.offsets.pieces lines.readings macros.readings p.names.pieces)) (lines_of_view v ts) (macros_read macros.readings) (names_read v (readings_with p.found.readings p.offsets.pieces lines.readings macros.readings p.names.pieces)))
           (sym p.found.says);
       tables = lines.is;
     }
 
-pub paths-found : (m : PathMap) (v : View) (list : List Contribution) (marks first slice : List ℕ) (tables : List NameTable) (ts : List LineTable) (ss : List SectionUnits)
+pub fields-found : (v : View) (list : List Contribution) (marks first slice : List ℕ) (tables : List NameTable) (ts : List LineTable) (ss : List SectionUnits)
     (us slots_first slots_ lines_first lines_ macros_first macros_ names_first names_ : List SectionFields) (all : Fields) → AreContributions v.order (string_offsets v) list → AreRead v tables → TablesFound v ts
-    → first ≡ starts_of ts → slice ≡ first → UnitsFoundIn v ss → UnitsNamed m v list slice ss marks us → slots_first ≡ [] → SlotsFound m v list marks slots_first slots_ → lines_first ≡ []
+    → first ≡ starts_of ts → slice ≡ first → UnitsFoundIn v ss → UnitsNamed v list slice ss marks us → slots_first ≡ [] → SlotsFound v list marks slots_first slots_ → lines_first ≡ []
     → lines_ ≡ lines_first ++ lines_of_view v ts → macros_first ≡ [] → macros_ ≡ macros_first ++ macros_of v ss → names_first ≡ [] → names_ ≡ names_first ++ names_of_view v (fields_of_names tables)
-    → LeftRelocationsRead (debug_data v) (moving_sections v) → all ≡ five_lists us slots_ lines_ macros_ names_ → PathsFound m v all ts
-paths-found m v list marks first slice tables ts ss us slots_first slots_ lines_first lines_ macros_first macros_ names_first names_ all are named lines starts_are same units_are n s slots_found l lines_are o
+    → LeftRelocationsRead (debug_data v) (moving_sections v) → all ≡ five_lists us slots_ lines_ macros_ names_ → FieldsFound v all marks ts
+fields-found v list marks first slice tables ts ss us slots_first slots_ lines_first lines_ macros_first macros_ names_first names_ all are named lines starts_are same units_are n s slots_found l lines_are o
     macros_are q names_are rest all_is =
-    let r : PathsRead m v all ts =
-    paths-read m v list marks slice tables ts ss us slots_ all are named lines (same ∙ starts_are) units_are n
-    (subst (λ (none : List SectionFields). SlotsFound m v list marks none slots_) s slots_found)
+    let r : FieldsRead v all marks ts =
+    fields-read v list marks slice tables ts ss us slots_ all are named lines (same ∙ starts_are) units_are n
+    (subst (λ (none : List SectionFields). SlotsFound v list marks none slots_) s slots_found)
     (all_is ∙ ap (λ (ws : List SectionFields). five_lists us slots_ ws macros_ names_) (lines_are ∙ ap (λ (none : List SectionFields). none ++ lines_of_view v ts) l)
     ∙ ap (λ (ws : List SectionFields). five_lists us slots_ (lines_of_view v ts) ws names_) (macros_are ∙ ap (λ (none : List SectionFields). none ++ macros_of v ss) o)
     ∙ ap (five_lists us slots_ (lines_of_view v ts) (macros_of v ss)) (names_are ∙ ap (λ (none : List SectionFields). none ++ names_of_view v (fields_of_names tables)) q)) in
     record {
       readings = r.readings;
       reads = r.reads;
-      inline = r.inline;
-      slots = r.slots;
+      marked = r.marked;
+      placed = subst (λ (x : Fields). AllPlaced (debug_data v) ((debug_data v).found Info) x.units) (sym all_is) n.found.placed;
       offsets = r.offsets;
       places = r.places;
-      rooms = r.rooms;
       is = r.is;
       tables = r.tables;
       relocations = record { headers = n.found.headers.all; values = values-left (debug_data v) r.readings (moving_sections v) r.reads rest; left = rest };
     }
 
 -- why nothing was found
-pub contributions-fault : (m : PathMap) (v : View) (f : Fault) → Blames (ContributionsFail v.order (string_offsets v)) f → Blames (PathsRefuse m v) f
-contributions-fault m v NoMemory h = tt
-contributions-fault m v (Refused r) h = string_tables h
+pub contributions-fault : (v : View) (f : Fault) → Blames (ContributionsFail v.order (string_offsets v)) f → Blames (DataRefuses v) f
+contributions-fault v NoMemory h = tt
+contributions-fault v (Refused r) h = string_tables h
 
-names-row : (m : PathMap) (v : View) (r : Refusal) → NamesRefuse v r → PathsRefuse m v r
-names-row m v r (named_tables f) = name_tables f
-names-row m v r (named_offsets list start t u some is f) = name_offsets (named_offsets list start t u some is f)
+names-row : (v : View) (r : Refusal) → NamesRefuse v r → DataRefuses v r
+names-row v r (named_tables f) = name_tables f
+names-row v r (named_offsets list start t u some is f) = name_offsets (named_offsets list start t u some is f)
 
-pub names-fault : (m : PathMap) (v : View) (f : Fault) → Blames (NamesRefuse v) f → Blames (PathsRefuse m v) f
-names-fault m v NoMemory h = tt
-names-fault m v (Refused r) h = names-row m v r h
+pub names-fault : (v : View) (f : Fault) → Blames (NamesRefuse v) f → Blames (DataRefuses v) f
+names-fault v NoMemory h = tt
+names-fault v (Refused r) h = names-row v r h
 
-units-row : (m : PathMap) (v : View) (list : List Contribution) (r : Refusal) → AreContributions v.order (string_offsets v) list → UnitPathsRefuse m (debug_data v) list r → PathsRefuse m v r
-units-row m v list r are (refused_inline h) = inline h
-units-row m v list r are (refused_texts (texts_units h)) = units h
-units-row m v list r are (refused_texts (texts_starts h)) = starts h
-units-row m v list r are (refused_texts (texts_index us reads h)) =
+units-row : (v : View) (list : List Contribution) (r : Refusal) → AreContributions v.order (string_offsets v) list → TextsRefuse (debug_data v) list r → DataRefuses v r
+units-row v list r are (texts_units h) = units h
+units-row v list r are (texts_starts h) = starts h
+units-row v list r are (texts_index us reads h) =
     let o : OffsetsRead v list = offsets-read v list are in
     slots (index_row (readings_with us o.pieces [] [] []) (indexes-read v list us o [] [] [] reads)
     (subst (λ (g : Indexing). IndexFails g r) (indexing-is v list us o.pieces [] [] [] o.list_is) h))
 
-pub units-fault : (m : PathMap) (v : View) (list : List Contribution) (f : Fault) → AreContributions v.order (string_offsets v) list
-    → Blames (UnitPathsRefuse m (debug_data v) list) f → Blames (PathsRefuse m v) f
-units-fault m v list NoMemory are h = tt
-units-fault m v list (Refused r) are h = units-row m v list r are h
+pub units-fault : (v : View) (list : List Contribution) (f : Fault) → AreContributions v.order (string_offsets v) list
+    → Blames (TextsRefuse (debug_data v) list) f → Blames (DataRefuses v) f
+units-fault v list NoMemory are h = tt
+units-fault v list (Refused r) are h = units-row v list r are h
 
 -- slots are fields of offsets
 slot-use : (m : OffsetMode) (place : ℕ) (rest before behind : List FieldPlace) (f : FieldPlace) → slot_place m place ++ rest ≡ before ++ f ∷ behind
@@ -494,30 +467,29 @@ slots-use [] [] behind f e = absurd cc
 slots-use [] (b ∷ bs) behind f e = absurd cc
 slots-use (x ∷ xs) before behind f e = slot-use x.state.mode x.state.place (slot_places xs) before behind f e (λ bs more. slots-use xs bs behind f more)
 
-slots-row : (m : PathMap) (v : View) (rs : DataReadings) (r : Refusal) → IndexesRead (debug_data v) rs
-    → SlotsFail m (slots_in v) (around_of (debug_data v) rs) rs.offsets r → PathsRefuse m v r
+slots-row : (v : View) (rs : DataReadings) (r : Refusal) → IndexesRead (debug_data v) rs
+    → SlotsFail (slots_in v) (around_of (debug_data v) rs) rs.offsets r → DataRefuses v r
 unfolding debug_data
-slots-row m v rs r i (slot_fails h) = slots (slot_row rs i h)
-slots-row m v rs r i (shared_fails h) = shared rs i h
-slots-row m v rs r i (offset_fails f is h) = relocations (left_slots rs.offsets i.offsets (offset_row f is (slots-use rs.offsets is.before is.behind f is.is) h))
+slots-row v rs r i (slot_fails h) = slots (slot_row rs i h)
+slots-row v rs r i (offset_fails f is h) = relocations (left_slots rs.offsets i.offsets (offset_row f is (slots-use rs.offsets is.before is.behind f is.is) h))
 
-pub slots-fault : (m : PathMap) (v : View) (list : List Contribution) (starts_ : List ℕ) (ss : List SectionUnits) (marks : List ℕ) (tables : List NameTable) (us : List SectionFields) (f : Fault)
-    → AreContributions v.order (string_offsets v) list → AreRead v tables → UnitsNamed m v list starts_ ss marks us
-    → Blames (SlotsRefuse m (slots_in v) marks (slots_of list)) f → Blames (PathsRefuse m v) f
-slots-fault m v list starts_ ss marks tables us NoMemory are named n h = tt
-slots-fault m v list starts_ ss marks tables us (Refused r) are named n h =
-    let p : Parts m v list marks starts_ us tables = parts-of m v list marks starts_ n.places us tables are named n.found n.indexed in
+pub slots-fault : (v : View) (list : List Contribution) (starts_ : List ℕ) (ss : List SectionUnits) (marks : List ℕ) (tables : List NameTable) (us : List SectionFields) (f : Fault)
+    → AreContributions v.order (string_offsets v) list → AreRead v tables → UnitsNamed v list starts_ ss marks us
+    → Blames (SlotsRefuse (slots_in v) (slots_of list)) f → Blames (DataRefuses v) f
+slots-fault v list starts_ ss marks tables us NoMemory are named n h = tt
+slots-fault v list starts_ ss marks tables us (Refused r) are named n h =
+    let p : Parts v list marks starts_ us tables = parts-of v list marks starts_ n.places us tables are named n.found n.indexed in
     let same = contributions-around v list p.found.readings p.offsets [] [] p.names.pieces in
-    slots-row m v (readings_with p.found.readings p.offsets.pieces [] [] p.names.pieces) r
+    slots-row v (readings_with p.found.readings p.offsets.pieces [] [] p.names.pieces) r
     (indexes-read v list p.found.readings p.offsets [] [] p.names.pieces p.found.reads)
-    (slots-fail m (around_of (debug_data v) (readings_with p.found.readings p.offsets.pieces [] [] p.names.pieces)) (slots_in v) (string_cells v) p.offsets.pieces marks r
+    (slots-fail (around_of (debug_data v) (readings_with p.found.readings p.offsets.pieces [] [] p.names.pieces)) (slots_in v) (string_cells v) p.offsets.pieces marks r
     (slots-around v list marks p.found.readings p.offsets [] [] p.names.pieces p.marked)
-    (subst (λ (cs_ : List Contribution). SlotsRefuse m (slots_in v) marks (slots_of cs_) r) (sym same) h))
+    (subst (λ (cs_ : List Contribution). SlotsRefuse (slots_in v) (slots_of cs_) r) (sym same) h))
 
-pub macros-row : (m : PathMap) (v : View) (first : List ℕ) (places : UnitPlaces) (ss : List SectionUnits) (us : List SectionFields) (r : Refusal)
-    → TablesStart (debug_data v) first → UnitsFoundIn v ss → UnitsStart (debug_data v) places → UnitsFound m (debug_data v) first places us
-    → MacrosStray v first places ss r → PathsRefuse m v r
-macros-row m v first places ss us r tables_start units_are start found stray =
+pub macros-row : (v : View) (first : List ℕ) (places : UnitPlaces) (ss : List SectionUnits) (us : List SectionFields) (r : Refusal)
+    → TablesStart (debug_data v) first → UnitsFoundIn v ss → UnitsStart (debug_data v) places → UnitsFound (debug_data v) first places us
+    → MacrosStray v first places ss r → DataRefuses v r
+macros-row v first places ss us r tables_start units_are start found stray =
     let f : FoundReadings (debug_data v) 0 ((debug_data v).found Info) us = found-readings (debug_data v) 0 ((debug_data v).found Info) us found.placed in
     starts (macros-fail v f.readings first places ss r f.reads tables_start start units_are stray)
 
@@ -534,18 +506,18 @@ lie-marks v list marks are is =
     contributions-lie v.order (string_offsets v) list (length marks) are size
 
 -- units that aren't listed
-pub list-fault : (m : PathMap) (v : View) (f : Fault) → Blames (UnitListFails (debug_data v)) f → Blames (PathsRefuse m v) f
-list-fault m v NoMemory h = tt
-list-fault m v (Refused r) h = units (list-refuses (debug_data v) r h)
+pub list-fault : (v : View) (f : Fault) → Blames (UnitListFails (debug_data v)) f → Blames (DataRefuses v) f
+list-fault v NoMemory h = tt
+list-fault v (Refused r) h = units (list-refuses (debug_data v) r h)
 
 -- a section that has relocations was read again: why it can't be is a row, but for macro units, which can be
-fields-row : (m : PathMap) (v : View) (ss : List SectionUnits) (r : Refusal) → UnitsFoundIn v ss → FieldsRefuse v r → PathsRefuse m v r
-fields-row m v ss r found (left_field f) = relocations f
-fields-row m v ss r found (entries z h list t f) = units (data_fails (entry_row z h list t f))
-fields-row m v ss r found (macros before behind z split f) = absurd (units-exclude v ss before behind z r found split f)
+fields-row : (v : View) (ss : List SectionUnits) (r : Refusal) → UnitsFoundIn v ss → FieldsRefuse v r → DataRefuses v r
+fields-row v ss r found (left_field f) = relocations f
+fields-row v ss r found (entries z h list t f) = units (data_fails (entry_row z h list t f))
+fields-row v ss r found (macros before behind z split f) = absurd (units-exclude v ss before behind z r found split f)
 
-pub fields-fault : (m : PathMap) (v : View) (ss : List SectionUnits) (f : Fault) → UnitsFoundIn v ss → Blames (FieldsRefuse v) f → Blames (PathsRefuse m v) f
-fields-fault m v ss NoMemory found h = tt
-fields-fault m v ss (Refused r) found h = fields-row m v ss r found h
+pub fields-fault : (v : View) (ss : List SectionUnits) (f : Fault) → UnitsFoundIn v ss → Blames (FieldsRefuse v) f → Blames (DataRefuses v) f
+fields-fault v ss NoMemory found h = tt
+fields-fault v ss (Refused r) found h = fields-row v ss r found h
 
 pub ruleset found_rules = (list-fault, fields-fault, tables-named, units-in, contributions-fault, names-fault, units-fault, slots-fault, lie-marks)

@@ -8,24 +8,16 @@ use Rattle.dw_base.specs.FileViews.{View, ViewSection, first_filled, is_filled, 
 use Rattle.dw_base.specs.LineReadings.{LineReading, AreTables}
 use Rattle.dw_base.specs.LineSources.{LineSource}
 use Rattle.dw_base.specs.LineTables.{LineTable}
-use Rattle.dw_base.specs.Paths.{PathMap}
-use Rattle.dw_base.specs.Refusals.{Blames, at}
 use Rattle.dw_base.specs.Texts.{ends_in, same_text}
 use Rattle.dw_base.specs.ViewData.{debug_data, located, located_at}
 use Rattle.dw_base.specs.declared.debug_sections.DebugSection.TheVariants.{Info, Str, LineStr, Line}
-use Rattle.dw_base.specs.declared.fault.Fault.{Fault}
-use Rattle.dw_base.specs.declared.fault.Fault.TheVariants.{NoMemory, Refused}
-use Rattle.dw_base.specs.declared.string_offsets.Contribution.{Contribution}
 use Rattle.dw_base.proofs.FileViewLaws.{section_after-within}
 use Rattle.dw_base.proofs.TextLaws.{ends_in-inside, same_text-true}
 use Rattle.dw_lines.specs.ViewTables.{tables_read}
 use Rattle.dw_lines.proofs.ReadingLaws.{source-is}
-use Rattle.dw_find.specs.FoundPaths.{UnitsFound, UnitPathsRefuse, texts}
-use Rattle.dw_find.specs.FoundPaths.UnitPathsRefuse.{inline}
+use Rattle.dw_find.specs.FoundPaths.{UnitsFound}
 use Rattle.dw_find.specs.Fields.{AreOffsetFields}
-use Rattle.dw_find.specs.IndexedTexts.{TextsRefuse}
 use Rattle.dw_find.specs.ViewFields.{AllHaveOffsets}
-use Rattle.dw_find.specs.TextPlaces.{AllPlaced, AllFitRooms}
 use Rattle.dw_find.specs.NamedStarts.{AllStarts}
 use Rattle.dw_find.specs.SectionFields.{SectionFields}
 use Rattle.dw_find.specs.UnitTexts.{AllTaken, texts_of}
@@ -126,26 +118,17 @@ taken-headers d (y ∷ ys) (u ∷ us) all [] behind z split = subst (HeaderOffse
 taken-headers d (y ∷ ys) (u ∷ us) all (b ∷ bs) behind z split = taken-headers d ys us all.1 bs behind z (tail-same y b ys (bs ++ z ∷ behind) split)
 
 -- what was found of paths in units
-pub units-found : (m : PathMap) (d : DebugData) (starts : List ℕ) (places : UnitPlaces) (us : List SectionFields) → AllTaken d (d.found Info) us → AllFitRooms m (d.found Info) us
-    → AllStarts d starts places (d.found Info) us → UnitsFound m d starts places us
-units-found m d starts places us taken fits all = record {
+pub units-found : (d : DebugData) (starts : List ℕ) (places : UnitPlaces) (us : List SectionFields) → AllTaken d (d.found Info) us → AllStarts d starts places (d.found Info) us
+    → UnitsFound d starts places us
+units-found d starts places us taken all = record {
   headers = record { all = λ before behind z split. taken-headers d (d.found Info) us taken before behind z split };
   placed = taken-placed d (d.found Info) us taken;
-  fits = fits;
   named = all;
 }
-
-pub placed-found : (d : DebugData) (us : List SectionFields) → AllTaken d (d.found Info) us → AllPlaced d (d.found Info) us
-placed-found d us taken = taken-placed d (d.found Info) us taken
-
-pub texts-fault : (m : PathMap) (d : DebugData) (list : List Contribution) (f : Fault) → Blames (TextsRefuse d list) f
-    → Blames (UnitPathsRefuse m d list) f
-texts-fault m d list NoMemory b = tt
-texts-fault m d list (Refused r) b = texts b
 
 pub tables-same : (v : View) (s l a b : Located) → s ≡ a → l ≡ b → a ≡ located v Str → b ≡ located v LineStr → record { str = s; line_str = l } ≡ texts_of (debug_data v)
 unfolding debug_data
 tables-same v s l a b s_is l_is a_is b_is =
     ap (λ (x : Located). record { str = x; line_str = l }) (s_is ∙ a_is) ∙ ap (λ (x : Located). record { str = located v Str; line_str = x }) (l_is ∙ b_is)
 
-pub ruleset unit_rules = (units-found, placed-found, texts-fault, inline)
+pub ruleset unit_rules = (units-found)

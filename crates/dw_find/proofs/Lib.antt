@@ -55,4 +55,5 @@ pub mod FoundUnitLaws
 pub mod MacroPathLaws
 pub mod NameHaveLaws
 pub mod FoundPathLaws
+pub mod MapCheckLaws
 pub mod ReadDataLaws

@@ -1,13 +1,9 @@
--- Debug data that are read: what is refused with a map that changes no path is refused for what debug data say alone; and what was read excludes what refuses.
-use Rattle.std.proofs.Common.{true, false, ◌≡◌, ℕ, Bool, nat_le, List, [], ◌∷◌, ◌++◌, length, refl, sym, ap, ◌∙◌, subst, arith}
-use Rattle.std.proofs.lemmas.Bool.Decides.{nat_tests}
+-- Debug data that are read: what was read excludes what refuses.
+use Rattle.std.proofs.Common.{◌≡◌, ℕ, List, ◌∷◌, ◌++◌, sym, ◌∙◌, subst}
 use Rattle.dw_base.specs.Cells.{CellSection, Located}
 use Rattle.dw_base.specs.DebugData.{DataReadings}
 use Rattle.dw_base.specs.FileViews.{View}
-use Rattle.dw_base.specs.IndexFails.{shared as shared_slot}
-use Rattle.dw_base.specs.InlinePaths.{inline_fits}
 use Rattle.dw_base.specs.LineTables.{LineTable}
-use Rattle.dw_base.specs.Paths.{ChangesNone, PathMap, is_prefix, path_map}
 use Rattle.dw_base.specs.Refusals.{Blames}
 use Rattle.dw_base.specs.RelocationRows.{moving_sections}
 use Rattle.dw_base.specs.StringOffsetFails.{ContributionsFail}
@@ -15,9 +11,8 @@ use Rattle.dw_base.specs.ViewData.{debug_data, string_offsets}
 use Rattle.dw_base.specs.declared.fault.Fault.{Fault}
 use Rattle.dw_base.specs.declared.fault.Fault.TheVariants.{NoMemory, Refused}
 use Rattle.dw_base.specs.declared.fault.Refusal.{Refusal}
-use Rattle.dw_base.proofs.PathLaws.{ChangesNone-same}
 use Rattle.dw_base.proofs.ViewCellLaws.{offsets-located}
-use Rattle.dw_meaning.specs.DataFails.{InlineFails, grows, LinesFail}
+use Rattle.dw_meaning.specs.DataFails.{LinesFail}
 use Rattle.dw_meaning.specs.DataOutput.{DataReads}
 use Rattle.dw_meaning.proofs.DataRowLaws.{data-excludes}
 use Rattle.dw_meaning.proofs.LineRowLaws.{lines-exclude}
@@ -29,8 +24,7 @@ use Rattle.dw_meaning.proofs.StartRowLaws.{starts-exclude}
 use Rattle.dw_meaning.proofs.ValueRowLaws.{texts-exclude}
 use Rattle.dw_base.specs.MacroOffsets.{UnitsRefuse, units as read_units, offsets as read_offsets}
 use Rattle.dw_base.specs.NameOffsets.{NamesRefuse, tables as named_tables, offsets as named_offsets}
-use Rattle.dw_find.specs.FoundPaths.{PathsFound, PathsRefuse}
-use Rattle.dw_find.specs.FoundPaths.PathsRefuse.{units as found_units, starts as found_starts, inline as found_inline, string_tables as found_string_tables, name_tables as found_name_tables, name_offsets as found_name_offsets, relocations as found_relocations, slots as found_slots, shared as found_shared}
+use Rattle.dw_find.specs.FoundPaths.{FieldsFound}
 use Rattle.dw_find.specs.MacroSections.{SectionUnits, UnitsFailIn, UnitsFoundIn, units as section_fails, offsets as section_offsets}
 use Rattle.dw_find.specs.ReadData.{DataRead, DataRefuses}
 use Rattle.dw_find.specs.ReadData.DataRefuses.{units, starts, string_tables, slots, name_tables, name_offsets, relocations, lines, macros}
@@ -41,35 +35,6 @@ use Rattle.dw_base.specs.declared.debug_sections.DebugSection.TheVariants.{StrOf
 use Rattle.dw_meaning.specs.RelocationFails.{RelocationsReadIn}
 use Rattle.dw_meaning.specs.RelocationFails.OffsetsFailIn.{names as offset_names, macros as offset_macros}
 
-le-same : (n : ℕ) → nat_le n n ≡ true
-le-same n = grind (arith, nat_tests)
-
-fits-same : (m : PathMap) (t : List ℕ) → ChangesNone m → inline_fits m t ≡ true
-fits-same m t same = ap (λ (l : List ℕ). nat_le (length l) (length t)) (same.stays t) ∙ le-same (length t)
-
-not-both : (b : Bool) → b ≡ true → b ≡ false → ⊥
-not-both b e f =
-    let same : true ≡ false = sym e ∙ f in
-    absurd cc
-
-inline-never : (m : PathMap) (v : View) (r : Refusal) → ChangesNone m → InlineFails m (debug_data v) r → ⊥
-inline-never m v r same (grows z h list number a x place w there stands path inline over) = not-both _ (fits-same m _ same) over
-
-row-same : (m : PathMap) (v : View) (r : Refusal) → ChangesNone m → PathsRefuse m v r → DataRefuses v r
-row-same m v r same (found_units h) = units h
-row-same m v r same (found_starts h) = starts h
-row-same m v r same (found_inline h) = absurd (inline-never m v r same h)
-row-same m v r same (found_string_tables h) = string_tables h
-row-same m v r same (found_name_tables h) = name_tables h
-row-same m v r same (found_name_offsets h) = name_offsets h
-row-same m v r same (found_relocations h) = relocations h
-row-same m v r same (found_slots h) = slots h
-row-same m v r same (found_shared readings i (shared_slot x there path other changes)) = absurd (changes (same.stays _))
-
-pub found-fault : (m : PathMap) (v : View) (f : Fault) → ChangesNone m → Blames (PathsRefuse m v) f → Blames (DataRefuses v) f
-found-fault m v NoMemory same h = tt
-found-fault m v (Refused r) same h = row-same m v r same h
-
 pub lines-fault : (v : View) (f : Fault) → Blames (LinesFail (debug_data v)) f → Blames (DataRefuses v) f
 lines-fault v NoMemory h = tt
 lines-fault v (Refused r) h = lines h
@@ -78,9 +43,9 @@ pub macros-fault : (v : View) (f : Fault) → Blames (UnitsFailIn v) f → Blame
 macros-fault v NoMemory h = tt
 macros-fault v (Refused r) h = macros h
 
-pub data-read : (m : PathMap) (v : View) (us : Fields) (ts slice : List LineTable) (ss : List SectionUnits) → slice ≡ ts → PathsFound m v us slice → UnitsFoundIn v ss
+pub data-read : (v : View) (us : Fields) (marks : List ℕ) (ts slice : List LineTable) (ss : List SectionUnits) → slice ≡ ts → FieldsFound v us marks slice → UnitsFoundIn v ss
     → DataRead v ts ss
-data-read m v us ts slice ss same f units_ = record {
+data-read v us marks ts slice ss same f units_ = record {
   readings = f.readings;
   reads = f.reads;
   tables = sym same ∙ f.tables;
@@ -91,16 +56,6 @@ data-read m v us ts slice ss same f units_ = record {
 -- those of a slice of the sections are those of the sections
 pub slice-units : (v : View) (ss slice : List SectionUnits) → slice ≡ ss → UnitsFoundIn v ss → UnitsFoundIn v slice
 slice-units v ss slice same found = subst (UnitsFoundIn v) (sym same) found
-
--- a map of one word twice is such a map, and there is one
-pub is-word : is_prefix (47 ∷ 97 ∷ []) ≡ true
-unfolding is_prefix
-is-word = refl
-
-pub same-none : (m : PathMap) → m ≡ path_map (47 ∷ 97 ∷ []) (47 ∷ 97 ∷ []) → ChangesNone m
-same-none m is = subst ChangesNone (sym is) (ChangesNone-same (47 ∷ 97 ∷ []) is-word)
-
-pub ruleset map_rules = (same-none, is-word)
 
 -- what was read excludes each row
 strings-exclude : (v : View) (rs : DataReadings) (r : Refusal) → DataReads (debug_data v) rs → ContributionsFail v.order (string_offsets v) r → ⊥
@@ -134,7 +89,7 @@ data_read-excludes v rs r reads h (lines f) = lines-exclude (debug_data v) rs.li
 data_read-excludes v rs r reads h (macros (section_fails z before behind split f)) = macros-exclude v rs before behind z r reads split f
 data_read-excludes v rs r reads h (macros (section_offsets z before behind split f)) = units-row v rs before behind z r reads h split f
 
-pub found-excludes : {m : PathMap} {v : View} {us : Fields} {ts : List LineTable} (r : Refusal) → PathsFound m v us ts → DataRefuses v r → ⊥
-found-excludes {m} {v} {us} {ts} r found f = data_read-excludes v found.readings r found.reads found.relocations f
+pub found-excludes : {v : View} {us : Fields} {marks : List ℕ} {ts : List LineTable} (r : Refusal) → FieldsFound v us marks ts → DataRefuses v r → ⊥
+found-excludes {v} {us} {marks} {ts} r found f = data_read-excludes v found.readings r found.reads found.relocations f
 
-pub ruleset read_rules = (found-fault, lines-fault, macros-fault, data-read, slice-units)
+pub ruleset read_rules = (lines-fault, macros-fault, data-read, slice-units)

@@ -3,7 +3,8 @@
 //! This layer promises: where debug data are read, they can be read (each unit, entry, string offset, name table, line
 //! table and macro unit, each offset of a text names one, each value by index a slot, and what is to say where a line table
 //! or a macro unit starts says it), and what was found of paths is what they say; they are
-//! refused only by a condition that holds in them, at its place.
+//! refused only by a condition that holds in them, at its place. A map can be applied to the paths that were found, or a
+//! condition says why it can't.
 //! It does not promise: anything of what the paths are mapped to; rows of line tables.
 //! Read first: `specs/ReadData.antt`, then `specs/FoundPaths.antt`, `specs/AllFields.antt`, `specs/SectionFields.antt` and `specs/TextPlaces.antt`.
 //!
@@ -24,6 +25,7 @@ mod found;
 mod later;
 mod lines;
 mod macros;
+mod map_checks;
 mod paths;
 mod reading;
 mod rooms;
@@ -41,7 +43,8 @@ pub use fields::InlinePath;
 pub use found::SectionFields;
 pub use lines::starts_of;
 pub use macros::{MacroSection, macro_sections};
-pub use paths::found_paths;
+pub use map_checks::check_map;
+pub use paths::found_fields;
 pub use reading::{ReadTables, read_data};
 pub use starts::{start_in, start_number, with_start};
 pub use tables::{table_number, table_texts};

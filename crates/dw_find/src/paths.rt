@@ -12,11 +12,12 @@ ghost use Rattle.dw_offsets.specs.PathSlots.{SlotsRefuse, slots_in};
 ghost use Rattle.dw_base.specs.declared.debug_sections.DebugSection.TheVariants.{Info};
 ghost use Rattle.dw_lines.specs.ViewTables.{TablesFound};
 ghost use Rattle.dw_units.specs.UnitLists.{ListsAll};
-ghost use Rattle.dw_find.specs.FoundPaths.{PathsFound, PathsRefuse, SlotsFound, UnitPathsRefuse, UnitsFound, UnitsNamed};
-ghost use Rattle.dw_find.specs.IndexedTexts.{TablesStart, TextsIndexed, UnitsStart};
+ghost use Rattle.dw_find.specs.FoundPaths.{FieldsFound, SlotsFound, UnitsFound, UnitsNamed};
+ghost use Rattle.dw_find.specs.IndexedTexts.{TablesStart, TextsIndexed, TextsRefuse, UnitsStart};
 ghost use Rattle.dw_find.specs.MacroSections.{UnitsFoundIn};
 ghost use Rattle.dw_find.specs.NameSections.{names_of_view};
 ghost use Rattle.dw_find.specs.NamedSlots.{no_slots};
+ghost use Rattle.dw_find.specs.ReadData.{DataRefuses};
 ghost use Rattle.dw_find.specs.SlotPaths.{slots_with};
 ghost use Rattle.dw_find.specs.UnitTexts.{texts_of};
 
@@ -25,7 +26,6 @@ use crate::all_sections::all_texts;
 use crate::found::{SectionFields, TextTable, TextTables};
 use crate::lines::{push_lines, starts_of};
 use crate::macros::{MacroSection, macros_name, push_macros};
-use crate::rooms::all_rooms_fit;
 use crate::slots::NamedSlots;
 use crate::unit_places::UnitPlaces;
 use dw_base::{DebugSection, Fault};
@@ -35,30 +35,28 @@ use dw_offsets::{
     ContributionList, NameTableList, OffsetField, SlotMarks, all_slots, contributions, name_fields,
     name_tables,
 };
-use dw_paths::Maps;
 use dw_units::{Units, read_units};
 use dw_view::View;
 use std::alloc::{AllocError, Global};
 
-/// What the debug data of the view say of texts, kind by kind. Refused where one of their sections or a name table can't be read or
-/// names no text, where what is to say where a line table or a macro unit starts names none, where a path that stands in
-/// its value would grow, where a slot is shared, and where a relocation stands that may not.
+/// What the debug data of the view say of texts, kind by kind, and which slots values by index name. Refused where one of their sections or
+/// a name table can't be read or names no text, where what is to say where a line table or a macro unit starts names none, and where a
+/// relocation stands that may not.
 #[tactic(auto, using(crate::proofs::FoundPathLaws::found_rules))]
-pub fn found_paths(
+pub fn found_fields(
     alloc: Global,
     view: &View,
-    maps: &Maps,
     tables: &[LineTable],
     macros: &[MacroSection],
-) -> Result<Fields, Fault>
+) -> Result<(Fields, SlotMarks), Fault>
     requires tables { TablesFound view.now tables.now }
     requires macros { UnitsFoundIn view.now macros.now }
-    ensures found { IfOk result (λ fields. PathsFound maps.now view.now fields tables.now) }
-    ensures refused { IfErr result (Blames (PathsRefuse maps.now view.now)) }
+    ensures found { IfOk result (λ found. FieldsFound view.now found.0 found.1 tables.now) }
+    ensures refused { IfErr result (Blames (DataRefuses view.now)) }
 {
     let units = read_units(alloc, view)?;
-    let fields = listed_paths(alloc, view, maps, &units, tables, macros)?;
-    Ok(fields)
+    let found = listed_paths(alloc, view, &units, tables, macros)?;
+    Ok(found)
 }
 
 /// The same, where the units are listed.
@@ -66,23 +64,22 @@ pub fn found_paths(
 fn listed_paths(
     alloc: Global,
     view: &View,
-    maps: &Maps,
     listed: &Units,
     tables: &[LineTable],
     macros: &[MacroSection],
-) -> Result<Fields, Fault>
+) -> Result<(Fields, SlotMarks), Fault>
     requires listed { ListsAll (debug_data view.now) listed.now.tables ((debug_data view.now).found Info) listed.now.units }
     requires tables { TablesFound view.now tables.now }
     requires macros { UnitsFoundIn view.now macros.now }
-    ensures found { IfOk result (λ fields. PathsFound maps.now view.now fields tables.now) }
-    ensures refused { IfErr result (Blames (PathsRefuse maps.now view.now)) }
+    ensures found { IfOk result (λ found. FieldsFound view.now found.0 found.1 tables.now) }
+    ensures refused { IfErr result (Blames (DataRefuses view.now)) }
 {
     let list = contributions(alloc, view)?;
     let names = name_tables(alloc, view)?;
     let starts = starts_of(alloc, tables)?;
-    let (marks, units) = named_paths(alloc, view, maps, listed, &list, starts.as_slice(), macros)?;
+    let (marks, units) = named_paths(alloc, view, listed, &list, starts.as_slice(), macros)?;
     let mut slots = Vec::new(alloc);
-    push_slots(alloc, view, maps, &list, &marks, &mut slots)?;
+    push_slots(alloc, view, &list, &marks, &mut slots)?;
     let mut lines = Vec::new(alloc);
     push_lines(alloc, view, tables, &mut lines)?;
     let mut macro_fields = Vec::new(alloc);
@@ -92,7 +89,7 @@ fn listed_paths(
     let named = names.as_slice();
     check_fields(alloc, view, listed, list.as_slice(), named, tables)?;
     let fields = Fields::new(units, slots, lines, macro_fields, name_texts);
-    Ok(fields)
+    Ok((fields, marks))
 }
 
 /// What the unit sections say of paths, with the slots that their values name marked. What is to say where a line table
@@ -101,7 +98,6 @@ fn listed_paths(
 fn named_paths(
     alloc: Global,
     view: &View,
-    maps: &Maps,
     listed: &Units,
     list: &ContributionList,
     starts: &[u64],
@@ -111,13 +107,13 @@ fn named_paths(
     requires contributions { AreContributions view.now.order (string_offsets view.now) list.now }
     requires starts { TablesStart (debug_data view.now) starts.now }
     requires macros { UnitsFoundIn view.now macros.now }
-    ensures named { IfOk result (λ found. UnitsNamed maps.now view.now list.now starts.now macros.now found.0 found.1.items) }
-    ensures refused { IfErr result (Blames (PathsRefuse maps.now view.now)) }
+    ensures named { IfOk result (λ found. UnitsNamed view.now list.now starts.now macros.now found.0 found.1.items) }
+    ensures refused { IfErr result (Blames (DataRefuses view.now)) }
 {
     let marks = no_marks(alloc, view)?;
     let mut slots = NamedSlots::new(list, marks);
     let places = UnitPlaces::new(alloc, view, macros)?;
-    let paths = unit_paths(alloc, view, maps, listed, starts, &places, &mut slots)?;
+    let paths = unit_paths(alloc, view, listed, starts, &places, &mut slots)?;
     macros_name(view, starts, &places, macros)?;
     Ok((slots.marks, paths))
 }
@@ -143,7 +139,6 @@ fn offsets_bytes<'a>(view: &'a View) -> &'a [u8]
 fn unit_paths(
     alloc: Global,
     view: &View,
-    maps: &Maps,
     listed: &Units,
     starts: &[u64],
     places: &UnitPlaces,
@@ -153,13 +148,12 @@ fn unit_paths(
     requires none { slots.old ≡ no_slots slots.old.list (length slots.old.marks) }
     requires starts { TablesStart (debug_data view.now) starts.now }
     requires units { UnitsStart (debug_data view.now) places.now }
-    ensures found { IfOk result (λ us. UnitsFound maps.now (debug_data view.now) starts.now places.now us.items) }
+    ensures found { IfOk result (λ us. UnitsFound (debug_data view.now) starts.now places.now us.items) }
     ensures indexed { OnOk result (TextsIndexed (debug_data view.now) slots.old.list slots.new.marks) }
-    ensures refused { IfErr result (Blames (UnitPathsRefuse maps.now (debug_data view.now) slots.old.list)) }
+    ensures refused { IfErr result (Blames (TextsRefuse (debug_data view.now) slots.old.list)) }
 {
     let tables = text_tables(view);
     let paths = all_texts(alloc, view, listed, &tables, starts, places, slots)?;
-    all_rooms_fit(view, maps, paths.as_slice())?;
     Ok(paths)
 }
 
@@ -178,16 +172,15 @@ fn text_tables<'a>(view: &'a View) -> TextTables<'a>
 fn push_slots(
     alloc: Global,
     view: &View,
-    maps: &Maps,
     list: &ContributionList,
     marks: &SlotMarks,
     paths: &mut Vec<SectionFields>,
 ) -> Result<(), Fault>
     requires contributions { AreContributions view.now.order (string_offsets view.now) list.now }
-    ensures found { OnOk result (SlotsFound maps.now view.now list.now marks.now paths.old.items paths.new.items) }
-    ensures refused { IfErr result (Blames (SlotsRefuse maps.now (slots_in view.now) marks.now (slots_of list.now))) }
+    ensures found { OnOk result (SlotsFound view.now list.now marks.now paths.old.items paths.new.items) }
+    ensures refused { IfErr result (Blames (SlotsRefuse (slots_in view.now) (slots_of list.now))) }
 {
-    let fields = all_slots(alloc, view, maps, list, marks)?;
+    let fields = all_slots(alloc, view, list, marks)?;
     if let Some(section) = view.first(DebugSection::StrOffsets) {
         paths.push(slots_with(alloc, section, fields))?;
     }

@@ -3,16 +3,14 @@
 //! Read first: `specs/ReadData.antt`.
 
 ghost use Rattle.std.specs.Prelude.{IfErr, IfOk, OnOk};
-ghost use Rattle.dw_base.specs.Paths.{ChangesNone};
 ghost use Rattle.dw_base.specs.Refusals.{Blames};
 ghost use Rattle.dw_base.specs.declared.fault.Refusal.{Refusal as RefusalOf};
 ghost use Rattle.dw_find.specs.ReadData.{DataRead, DataRefuses};
 
 use crate::macros::{MacroSection, macro_sections};
-use crate::paths::found_paths;
-use dw_base::{Fault, NoMemory};
+use crate::paths::found_fields;
+use dw_base::Fault;
 use dw_lines::{LineTable, line_tables};
-use dw_paths::Maps;
 use dw_view::View;
 use std::alloc::Global;
 
@@ -37,18 +35,6 @@ pub fn read_data(alloc: Global, view: &View) -> Result<ReadTables, Fault>
 {
     let lines = line_tables(alloc, view)?;
     let macros = macro_sections(alloc, view)?;
-    let maps = same_map(alloc)?;
-    found_paths(alloc, view, &maps, lines.as_slice(), macros.as_slice())?;
+    found_fields(alloc, view, lines.as_slice(), macros.as_slice())?;
     Ok(ReadTables { lines, macros })
-}
-
-/// A map that changes no path.
-#[tactic(auto, using(crate::proofs::ReadDataLaws::map_rules))]
-fn same_map(alloc: Global) -> Result<Maps, NoMemory>
-    ensures none { IfOk result (λ m. ChangesNone m) }
-{
-    match Maps::new(alloc, b"/a", b"/a")? {
-        Some(maps) => Ok(maps),
-        None => unreachable!(),
-    }
 }

@@ -11,5 +11,6 @@ pub mod NamePieceLaws
 pub mod SlotNumberLaws
 pub mod SlotMarkLaws
 pub mod PathSlotLaws
+pub mod SharedSlotLaws
 pub mod NamedSlotLaws
 pub mod SlotPieceLaws

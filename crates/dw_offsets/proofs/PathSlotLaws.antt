@@ -1,5 +1,5 @@
 -- Laws of the pass over the slots of string offsets.
-use Rattle.std.proofs.Common.{Bool, true, false, ◌≡◌, ◌≢◌, ℕ, zero, suc, ◌+◌, ◌-◌, ◌*◌, ◌/◌, ◌<◌, ◌≤◌, nat_eq, nat_lt, List, [], ◌∷◌, ◌++◌, length, get_or, take, Option, Some, None, refl, sym, ap, ◌∙◌, subst, arith, append_assoc}
+use Rattle.std.proofs.Common.{Bool, true, false, ◌≡◌, ℕ, zero, suc, ◌+◌, ◌-◌, ◌*◌, ◌/◌, ◌<◌, ◌≤◌, nat_eq, nat_lt, List, [], ◌∷◌, ◌++◌, length, get_or, take, Option, Some, None, refl, sym, ap, ◌∙◌, subst, arith, append_assoc}
 use Rattle.std.specs.Prelude.{Result, Ok, Err, is_some, IfErr, IfOk, OnOk}
 use Rattle.std.proofs.lemmas.Bool.{eqb-true}
 use Rattle.std.proofs.lemmas.Bool.Decides.{nat_tests}
@@ -9,18 +9,17 @@ use Rattle.dw_base.specs.Cells.{offset_into}
 use Rattle.dw_base.specs.FileViews.{View, kind_at, section_bytes, section_named}
 use Rattle.dw_base.specs.Forms.{width_size}
 use Rattle.dw_base.specs.Lists.{tabulate}
-use Rattle.dw_base.specs.Paths.{PathMap, mapped_path}
 use Rattle.dw_base.specs.Refusals.{at, Blames}
 use Rattle.dw_base.specs.RelocationRows.{OffsetFails, OffsetReads}
 use Rattle.dw_base.specs.Slots.{Slot, slot_at, slot_total, slots_of}
 use Rattle.dw_base.specs.StringOffsets.{AreContributions, ContributionsUpTo, no_contributions, more_contributions}
-use Rattle.dw_base.specs.Texts.{ends_in, text_in}
+use Rattle.dw_base.specs.Texts.{ends_in}
 use Rattle.dw_base.specs.ViewData.{cells_located, located, located_at, string_offsets}
 use Rattle.dw_base.specs.declared.debug_sections.DebugSection.{DebugSection}
 use Rattle.dw_base.specs.declared.debug_sections.DebugSection.TheVariants.{Str, StrOffsets}
 use Rattle.dw_base.specs.declared.fault.Fault.{Fault}
 use Rattle.dw_base.specs.declared.fault.Fault.TheVariants.{NoMemory, Refused}
-use Rattle.dw_base.specs.declared.fault.Kind.TheVariants.{StringOffset, SharedIndex}
+use Rattle.dw_base.specs.declared.fault.Kind.TheVariants.{StringOffset}
 use Rattle.dw_base.specs.declared.fault.Refusal.{Refusal}
 use Rattle.dw_base.specs.declared.shared.Order.{Order}
 use Rattle.dw_base.specs.declared.shared.Width.{Width}
@@ -28,14 +27,14 @@ use Rattle.dw_base.specs.declared.shared.Width.TheVariants.{W32, W64}
 use Rattle.dw_base.specs.declared.string_offsets.Contribution.{Contribution}
 use Rattle.dw_base.specs.declared.view_fields.Field.{Field}
 use Rattle.dw_base.proofs.ViewCellLaws.{length-view_cells, offset_at-cells}
-use Rattle.dw_offsets.specs.PathSlots.{SlotTable, table_with, table_in, slots_in, as_field, slot_offset, SlotTaken, EachSlot, field_of, fields_of, SlotsTaken, IsAmong, SlotRefuses, no_offset, no_text, shared, SlotsRefuse, slot, LiesIn, AllLieIn}
+use Rattle.dw_offsets.specs.PathSlots.{SlotTable, table_with, table_in, slots_in, as_field, slot_offset, SlotTaken, EachSlot, field_of, fields_of, SlotsTaken, IsAmong, SlotRefuses, no_offset, no_text, SlotsRefuse, slot, LiesIn, AllLieIn}
 use Rattle.dw_offsets.specs.SlotMarks.{marked}
 use Rattle.dw_base.specs.ViewOffsets.{offset_read}
 use Rattle.dw_base.proofs.ViewOffsetLaws.{offset-fails, offset-is, offset-reads, some-named}
 use Rattle.dw_offsets.specs.declared.fields.OffsetField.{OffsetField}
 
 -- a slot
-abbrev slot_of : ℕ → ℕ → Slot
+abbrev pub slot_of : ℕ → ℕ → Slot
 slot_of place size = record { place = place; size = size }
 
 -- a section of a view
@@ -139,66 +138,30 @@ wide-inside c i le lt w =
 
 pub ruleset start_laws = (start-narrow, start-wide, narrow-inside, wide-inside)
 
--- whether a slot can be taken
-never : (b : Bool) → b ≡ false → b ≡ true → ⊥
-never b f t = absurd cc
-
--- what was read of it: that no relocation refuses it, and the offset
+-- whether a slot can be taken: what was read of it: that no relocation refuses it, and the offset
 ends-is : (t : SlotTable) (place size : ℕ) (f : Field) (b : Bool) → offset_into t.str f ≡ slot_offset t (slot_of place size)
     → b ≡ ends_in t.str.bytes (offset_into t.str f) → ends_in t.str.bytes (slot_offset t (slot_of place size)) ≡ b
 ends-is t place size f b is e = ap (ends_in t.str.bytes) (sym is) ∙ sym e
 
-pub check-no_offset : (m : PathMap) (t : SlotTable) (marks : List ℕ) (place size : ℕ) (r : Refusal)
-    → OffsetFails t.order t.number t.cells (as_field (slot_of place size)) r → SlotRefuses m t marks (slot_of place size) r
-check-no_offset m t marks place size r f = no_offset f
+pub check-no_offset : (t : SlotTable) (place size : ℕ) (r : Refusal) → OffsetFails t.order t.number t.cells (as_field (slot_of place size)) r
+    → SlotRefuses t (slot_of place size) r
+check-no_offset t place size r f = no_offset f
 
-pub check-no_text : (m : PathMap) (t : SlotTable) (marks : List ℕ) (place size : ℕ) (f : Field) (b : Bool) → OffsetReads t.order t.cells (as_field (slot_of place size))
+pub check-no_text : (t : SlotTable) (place size : ℕ) (f : Field) (b : Bool) → OffsetReads t.order t.cells (as_field (slot_of place size))
     → offset_into t.str f ≡ slot_offset t (slot_of place size) → b ≡ ends_in t.str.bytes (offset_into t.str f) → b ≡ false
-    → SlotRefuses m t marks (slot_of place size) (at StringOffset t.number place)
-check-no_text m t marks place size f b reads is e none = no_text reads (ends-is t place size f b is e ∙ none)
+    → SlotRefuses t (slot_of place size) (at StringOffset t.number place)
+check-no_text t place size f b reads is e none = no_text reads (ends-is t place size f b is e ∙ none)
 
-pub check-no_path : (m : PathMap) (t : SlotTable) (marks : List ℕ) (place size : ℕ) (f : Field) (b p : Bool) → OffsetReads t.order t.cells (as_field (slot_of place size))
-    → offset_into t.str f ≡ slot_offset t (slot_of place size) → b ≡ ends_in t.str.bytes (offset_into t.str f) → b ≡ true
-    → p ≡ marked true marks place → p ≡ false → SlotTaken m t marks (slot_of place size)
-check-no_path m t marks place size f b p reads is e ends mark none = record {
-  reads = reads;
-  ends = ends-is t place size f b is e ∙ ends;
-  stays = λ path other. absurd (never p none (mark ∙ path));
-}
+pub check-taken : (t : SlotTable) (place size : ℕ) (f : Field) (b : Bool) → OffsetReads t.order t.cells (as_field (slot_of place size))
+    → offset_into t.str f ≡ slot_offset t (slot_of place size) → b ≡ ends_in t.str.bytes (offset_into t.str f) → b ≡ true → SlotTaken t (slot_of place size)
+check-taken t place size f b reads is e ends = record { reads = reads; ends = ends-is t place size f b is e ∙ ends }
 
-pub check-no_other : (m : PathMap) (t : SlotTable) (marks : List ℕ) (place size : ℕ) (f : Field) (b p : Bool) → OffsetReads t.order t.cells (as_field (slot_of place size))
-    → offset_into t.str f ≡ slot_offset t (slot_of place size) → b ≡ ends_in t.str.bytes (offset_into t.str f) → b ≡ true
-    → p ≡ marked false marks place → p ≡ false → SlotTaken m t marks (slot_of place size)
-check-no_other m t marks place size f b p reads is e ends mark none = record {
-  reads = reads;
-  ends = ends-is t place size f b is e ∙ ends;
-  stays = λ path other. absurd (never p none (mark ∙ other));
-}
-
-pub check-stays : (m : PathMap) (t : SlotTable) (marks : List ℕ) (place size : ℕ) (f : Field) (b : Bool) → OffsetReads t.order t.cells (as_field (slot_of place size))
-    → offset_into t.str f ≡ slot_offset t (slot_of place size) → b ≡ ends_in t.str.bytes (offset_into t.str f) → b ≡ true
-    → mapped_path m (text_in t.str.bytes (offset_into t.str f)) ≡ text_in t.str.bytes (offset_into t.str f) → SlotTaken m t marks (slot_of place size)
-check-stays m t marks place size f b reads is e ends same = record {
-  reads = reads;
-  ends = ends-is t place size f b is e ∙ ends;
-  stays = λ path other. subst (λ (n : ℕ). mapped_path m (text_in t.str.bytes n) ≡ text_in t.str.bytes n) is same;
-}
-
-pub check-shared : (m : PathMap) (t : SlotTable) (marks : List ℕ) (place size : ℕ) (f : Field) (b p o : Bool) → OffsetReads t.order t.cells (as_field (slot_of place size))
-    → offset_into t.str f ≡ slot_offset t (slot_of place size) → b ≡ ends_in t.str.bytes (offset_into t.str f) → b ≡ true
-    → p ≡ marked true marks place → p ≡ true → o ≡ marked false marks place → o ≡ true
-    → mapped_path m (text_in t.str.bytes (offset_into t.str f)) ≢ text_in t.str.bytes (offset_into t.str f)
-    → SlotRefuses m t marks (slot_of place size) (at SharedIndex t.number place)
-check-shared m t marks place size f b p o reads is e ends path is_path other is_other changes =
-    shared reads (ends-is t place size f b is e ∙ ends) (sym path ∙ is_path) (sym other ∙ is_other)
-    (λ same. changes (subst (λ (n : ℕ). mapped_path m (text_in t.str.bytes n) ≡ text_in t.str.bytes n) (sym is) same))
-
-pub ruleset check_laws = (check-no_offset, check-no_text, check-no_path, check-no_other, check-stays, check-shared)
+pub ruleset check_laws = (check-no_offset, check-no_text, check-taken)
 
 -- a slot that was taken
-pub taken-one : (m : PathMap) (t : SlotTable) (marks : List ℕ) (place size : ℕ) (old new : List OffsetField) (p : Bool) → SlotTaken m t marks (slot_of place size)
-    → p ≡ marked true marks place → new ≡ old ++ record { at = place; size = size; path = p } ∷ [] → SlotsTaken m t marks (slot_of place size ∷ []) old new
-taken-one m t marks place size old new p taken mark e = record {
+pub taken-one : (t : SlotTable) (marks : List ℕ) (place size : ℕ) (old new : List OffsetField) (p : Bool) → SlotTaken t (slot_of place size)
+    → p ≡ marked true marks place → new ≡ old ++ record { at = place; size = size; path = p } ∷ [] → SlotsTaken t marks (slot_of place size ∷ []) old new
+taken-one t marks place size old new p taken mark e = record {
   taken = (taken, tt);
   fields = e ∙ ap (λ (b : Bool). old ++ record { at = place; size = size; path = b } ∷ []) mark;
 }
@@ -215,17 +178,17 @@ fields-append marks [] ys = refl
 fields-append marks (x ∷ xs) ys =
     ap (λ (r : List OffsetField). field_of marks x ∷ r) (fields-append marks xs ys)
 
-pub taken-append : (m : PathMap) (t : SlotTable) (marks : List ℕ) (xs ys : List Slot) (old mid new : List OffsetField) → SlotsTaken m t marks xs old mid
-    → SlotsTaken m t marks ys mid new → SlotsTaken m t marks (xs ++ ys) old new
-taken-append m t marks xs ys old mid new a b = record {
-  taken = each-append (SlotTaken m t marks) xs ys a.taken b.taken;
+pub taken-append : (t : SlotTable) (marks : List ℕ) (xs ys : List Slot) (old mid new : List OffsetField) → SlotsTaken t marks xs old mid
+    → SlotsTaken t marks ys mid new → SlotsTaken t marks (xs ++ ys) old new
+taken-append t marks xs ys old mid new a b = record {
+  taken = each-append (SlotTaken t) xs ys a.taken b.taken;
   fields =
       b.fields ∙ ap (λ (f : List OffsetField). f ++ fields_of marks ys) a.fields ∙ append_assoc old (fields_of marks xs) (fields_of marks ys)
       ∙ ap (λ (r : List OffsetField). old ++ r) (sym (fields-append marks xs ys));
 }
 
-pub taken-none : (m : PathMap) (t : SlotTable) (marks : List ℕ) (old new : List OffsetField) → new ≡ old → SlotsTaken m t marks [] old new
-taken-none m t marks old new e = record { taken = tt; fields = e ∙ sym (append-nil old) }
+pub taken-none : (t : SlotTable) (marks : List ℕ) (old new : List OffsetField) → new ≡ old → SlotsTaken t marks [] old new
+taken-none t marks old new e = record { taken = tt; fields = e ∙ sym (append-nil old) }
 
 among-left : (xs ys : List Slot) (s : Slot) → IsAmong xs s → IsAmong (xs ++ ys) s
 among-left xs ys s a = record {
@@ -241,48 +204,48 @@ among-right xs ys s a = record {
   is = ap (λ (l : List Slot). xs ++ l) a.is ∙ sym (append_assoc xs a.before (s ∷ a.behind));
 }
 
-refuse-left : (m : PathMap) (t : SlotTable) (marks : List ℕ) (xs ys : List Slot) (r : Refusal) → SlotsRefuse m t marks xs r → SlotsRefuse m t marks (xs ++ ys) r
-refuse-left m t marks xs ys r (slot s among refuses) = slot s (among-left xs ys s among) refuses
+refuse-left : (t : SlotTable) (xs ys : List Slot) (r : Refusal) → SlotsRefuse t xs r → SlotsRefuse t (xs ++ ys) r
+refuse-left t xs ys r (slot s among refuses) = slot s (among-left xs ys s among) refuses
 
-refuse-right : (m : PathMap) (t : SlotTable) (marks : List ℕ) (xs ys : List Slot) (r : Refusal) → SlotsRefuse m t marks ys r → SlotsRefuse m t marks (xs ++ ys) r
-refuse-right m t marks xs ys r (slot s among refuses) = slot s (among-right xs ys s among) refuses
+refuse-right : (t : SlotTable) (xs ys : List Slot) (r : Refusal) → SlotsRefuse t ys r → SlotsRefuse t (xs ++ ys) r
+refuse-right t xs ys r (slot s among refuses) = slot s (among-right xs ys s among) refuses
 
 -- the slots of a contribution up to an index, one more, and one that can't be taken
-contribution-more : (m : PathMap) (t : SlotTable) (marks : List ℕ) (c : Contribution) (i next : ℕ) (old mid new : List OffsetField) → next ≡ suc i
-    → SlotsTaken m t marks (tabulate (slot_at c) i) old mid → SlotsTaken m t marks (slot_at c i ∷ []) mid new
-    → SlotsTaken m t marks (tabulate (slot_at c) next) old new
-contribution-more m t marks c i next old mid new e a b =
-    subst (λ (n : ℕ). SlotsTaken m t marks (tabulate (slot_at c) n) old new) (sym e) (taken-append m t marks (tabulate (slot_at c) i) (slot_at c i ∷ []) old mid new a b)
+contribution-more : (t : SlotTable) (marks : List ℕ) (c : Contribution) (i next : ℕ) (old mid new : List OffsetField) → next ≡ suc i
+    → SlotsTaken t marks (tabulate (slot_at c) i) old mid → SlotsTaken t marks (slot_at c i ∷ []) mid new
+    → SlotsTaken t marks (tabulate (slot_at c) next) old new
+contribution-more t marks c i next old mid new e a b =
+    subst (λ (n : ℕ). SlotsTaken t marks (tabulate (slot_at c) n) old new) (sym e) (taken-append t marks (tabulate (slot_at c) i) (slot_at c i ∷ []) old mid new a b)
 
-refuse-under : (m : PathMap) (t : SlotTable) (marks : List ℕ) (c : Contribution) (i n : ℕ) (r : Refusal) → i < n → SlotRefuses m t marks (slot_at c i) r
-    → SlotsRefuse m t marks (tabulate (slot_at c) n) r
-refuse-under m t marks c i zero r lt refuses = absurd (omega (arith, lt))
-refuse-under m t marks c i (suc n) r lt refuses = by_last (nat_eq i n) (λ below. refuse-under m t marks c i n r below refuses) refl
+refuse-under : (t : SlotTable) (c : Contribution) (i n : ℕ) (r : Refusal) → i < n → SlotRefuses t (slot_at c i) r
+    → SlotsRefuse t (tabulate (slot_at c) n) r
+refuse-under t c i zero r lt refuses = absurd (omega (arith, lt))
+refuse-under t c i (suc n) r lt refuses = by_last (nat_eq i n) (λ below. refuse-under t c i n r below refuses) refl
   where
-    by_last : (b : Bool) → (i < n → SlotsRefuse m t marks (tabulate (slot_at c) n) r) → nat_eq i n ≡ b → SlotsRefuse m t marks (tabulate (slot_at c) n ++ slot_at c n ∷ []) r
+    by_last : (b : Bool) → (i < n → SlotsRefuse t (tabulate (slot_at c) n) r) → nat_eq i n ≡ b → SlotsRefuse t (tabulate (slot_at c) n ++ slot_at c n ∷ []) r
     by_last true rest e =
-        refuse-right m t marks (tabulate (slot_at c) n) (slot_at c n ∷ []) r
-        (slot (slot_at c n) (record { before = []; behind = []; is = refl }) (subst (λ (k : ℕ). SlotRefuses m t marks (slot_at c k) r) (eqb-true i n e) refuses))
+        refuse-right t (tabulate (slot_at c) n) (slot_at c n ∷ []) r
+        (slot (slot_at c n) (record { before = []; behind = []; is = refl }) (subst (λ (k : ℕ). SlotRefuses t (slot_at c k) r) (eqb-true i n e) refuses))
     by_last false rest e =
-        refuse-left m t marks (tabulate (slot_at c) n) (slot_at c n ∷ []) r (rest (grind (arith, nat_tests)))
+        refuse-left t (tabulate (slot_at c) n) (slot_at c n ∷ []) r (rest (grind (arith, nat_tests)))
 
 slot-is : (c : Contribution) (i place size : ℕ) → place ≡ (slot_at c i).place → size ≡ width_size c.width → slot_of place size ≡ slot_at c i
 slot-is c i place size p s = ap (λ (n : ℕ). slot_of n size) p ∙ ap (λ (n : ℕ). slot_of (slot_at c i).place n) s
 
-pub contribution-next : (m : PathMap) (t : SlotTable) (marks : List ℕ) (c : Contribution) (i place size : ℕ) (old mid new : List OffsetField)
-    → place ≡ (slot_at c i).place → size ≡ width_size c.width → SlotsTaken m t marks (tabulate (slot_at c) i) old mid
-    → SlotsTaken m t marks (slot_of place size ∷ []) mid new → SlotsTaken m t marks (tabulate (slot_at c) (i + 1)) old new
-contribution-next m t marks c i place size old mid new p s a b =
-    contribution-more m t marks c i (i + 1) old mid new (omega arith) a
-    (subst (λ (x : Slot). SlotsTaken m t marks (x ∷ []) mid new) (slot-is c i place size p s) b)
+pub contribution-next : (t : SlotTable) (marks : List ℕ) (c : Contribution) (i place size : ℕ) (old mid new : List OffsetField)
+    → place ≡ (slot_at c i).place → size ≡ width_size c.width → SlotsTaken t marks (tabulate (slot_at c) i) old mid
+    → SlotsTaken t marks (slot_of place size ∷ []) mid new → SlotsTaken t marks (tabulate (slot_at c) (i + 1)) old new
+contribution-next t marks c i place size old mid new p s a b =
+    contribution-more t marks c i (i + 1) old mid new (omega arith) a
+    (subst (λ (x : Slot). SlotsTaken t marks (x ∷ []) mid new) (slot-is c i place size p s) b)
 
-pub contribution-refused : (m : PathMap) (t : SlotTable) (marks : List ℕ) (c : Contribution) (i place size total : ℕ) (x : Fault)
+pub contribution-refused : (t : SlotTable) (c : Contribution) (i place size total : ℕ) (x : Fault)
     → place ≡ (slot_at c i).place → size ≡ width_size c.width → total ≡ slot_total c → i < total
-    → Blames (SlotRefuses m t marks (slot_of place size)) x → Blames (SlotsRefuse m t marks (tabulate (slot_at c) (slot_total c))) x
-contribution-refused m t marks c i place size total NoMemory p s is lt refuses = tt
-contribution-refused m t marks c i place size total (Refused r) p s is lt refuses =
-    refuse-under m t marks c i (slot_total c) r (omega (arith, is, lt))
-    (subst (λ (x : Slot). SlotRefuses m t marks x r) (slot-is c i place size p s) refuses)
+    → Blames (SlotRefuses t (slot_of place size)) x → Blames (SlotsRefuse t (tabulate (slot_at c) (slot_total c))) x
+contribution-refused t c i place size total NoMemory p s is lt refuses = tt
+contribution-refused t c i place size total (Refused r) p s is lt refuses =
+    refuse-under t c i (slot_total c) r (omega (arith, is, lt))
+    (subst (λ (x : Slot). SlotRefuses t x r) (slot-is c i place size p s) refuses)
 
 pub ruleset contribution_laws = (taken-none, contribution-next)
 
@@ -296,32 +259,32 @@ slots_of-more (x ∷ xs) (suc i) c d lt e =
     ap (λ (l : List Slot). tabulate (slot_at x) (slot_total x) ++ l) (slots_of-more xs i c d (omega (arith, lt)) e)
     ∙ sym (append_assoc (tabulate (slot_at x) (slot_total x)) (slots_of (take i xs)) (tabulate (slot_at c) (slot_total c)))
 
-pub all-more : (m : PathMap) (t : SlotTable) (marks : List ℕ) (list : List Contribution) (i next : ℕ) (c d : Contribution) (old mid new : List OffsetField)
-    → i < length list → c ≡ get_or list i d → next ≡ suc i → SlotsTaken m t marks (slots_of (take i list)) old mid
-    → SlotsTaken m t marks (tabulate (slot_at c) (slot_total c)) mid new → SlotsTaken m t marks (slots_of (take next list)) old new
-all-more m t marks list i next c d old mid new lt e n a b =
-    subst (λ (l : List Slot). SlotsTaken m t marks l old new)
+pub all-more : (t : SlotTable) (marks : List ℕ) (list : List Contribution) (i next : ℕ) (c d : Contribution) (old mid new : List OffsetField)
+    → i < length list → c ≡ get_or list i d → next ≡ suc i → SlotsTaken t marks (slots_of (take i list)) old mid
+    → SlotsTaken t marks (tabulate (slot_at c) (slot_total c)) mid new → SlotsTaken t marks (slots_of (take next list)) old new
+all-more t marks list i next c d old mid new lt e n a b =
+    subst (λ (l : List Slot). SlotsTaken t marks l old new)
     (sym (ap (λ (k : ℕ). slots_of (take k list)) n ∙ slots_of-more list i c d lt e))
-    (taken-append m t marks (slots_of (take i list)) (tabulate (slot_at c) (slot_total c)) old mid new a b)
+    (taken-append t marks (slots_of (take i list)) (tabulate (slot_at c) (slot_total c)) old mid new a b)
 
-pub all-taken : (m : PathMap) (t : SlotTable) (marks : List ℕ) (list : List Contribution) (n : ℕ) (old new : List OffsetField) → length list ≤ n
-    → SlotsTaken m t marks (slots_of (take n list)) old new → SlotsTaken m t marks (slots_of list) old new
-all-taken m t marks list n old new le a =
-    subst (λ (l : List Contribution). SlotsTaken m t marks (slots_of l) old new) (take_all n list le) a
+pub all-taken : (t : SlotTable) (marks : List ℕ) (list : List Contribution) (n : ℕ) (old new : List OffsetField) → length list ≤ n
+    → SlotsTaken t marks (slots_of (take n list)) old new → SlotsTaken t marks (slots_of list) old new
+all-taken t marks list n old new le a =
+    subst (λ (l : List Contribution). SlotsTaken t marks (slots_of l) old new) (take_all n list le) a
 
-refuse-one : (m : PathMap) (t : SlotTable) (marks : List ℕ) (list : List Contribution) (i : ℕ) (c d : Contribution) (r : Refusal) → i < length list → c ≡ get_or list i d
-    → SlotsRefuse m t marks (tabulate (slot_at c) (slot_total c)) r → SlotsRefuse m t marks (slots_of list) r
-refuse-one m t marks [] i c d r lt e f = absurd (omega (arith, lt))
-refuse-one m t marks (x ∷ xs) zero c d r lt e f =
-    refuse-left m t marks (tabulate (slot_at x) (slot_total x)) (slots_of xs) r
-    (subst (λ (y : Contribution). SlotsRefuse m t marks (tabulate (slot_at y) (slot_total y)) r) e f)
-refuse-one m t marks (x ∷ xs) (suc i) c d r lt e f =
-    refuse-right m t marks (tabulate (slot_at x) (slot_total x)) (slots_of xs) r (refuse-one m t marks xs i c d r (omega (arith, lt)) e f)
+refuse-one : (t : SlotTable) (list : List Contribution) (i : ℕ) (c d : Contribution) (r : Refusal) → i < length list → c ≡ get_or list i d
+    → SlotsRefuse t (tabulate (slot_at c) (slot_total c)) r → SlotsRefuse t (slots_of list) r
+refuse-one t [] i c d r lt e f = absurd (omega (arith, lt))
+refuse-one t (x ∷ xs) zero c d r lt e f =
+    refuse-left t (tabulate (slot_at x) (slot_total x)) (slots_of xs) r
+    (subst (λ (y : Contribution). SlotsRefuse t (tabulate (slot_at y) (slot_total y)) r) e f)
+refuse-one t (x ∷ xs) (suc i) c d r lt e f =
+    refuse-right t (tabulate (slot_at x) (slot_total x)) (slots_of xs) r (refuse-one t xs i c d r (omega (arith, lt)) e f)
 
-pub all-refused : (m : PathMap) (t : SlotTable) (marks : List ℕ) (list : List Contribution) (i : ℕ) (c d : Contribution) (x : Fault) → i < length list → c ≡ get_or list i d
-    → Blames (SlotsRefuse m t marks (tabulate (slot_at c) (slot_total c))) x → Blames (SlotsRefuse m t marks (slots_of list)) x
-all-refused m t marks list i c d NoMemory lt e f = tt
-all-refused m t marks list i c d (Refused r) lt e f = refuse-one m t marks list i c d r lt e f
+pub all-refused : (t : SlotTable) (list : List Contribution) (i : ℕ) (c d : Contribution) (x : Fault) → i < length list → c ≡ get_or list i d
+    → Blames (SlotsRefuse t (tabulate (slot_at c) (slot_total c))) x → Blames (SlotsRefuse t (slots_of list)) x
+all-refused t list i c d NoMemory lt e f = tt
+all-refused t list i c d (Refused r) lt e f = refuse-one t list i c d r lt e f
 
 -- the contribution of a number lies in the section
 pub lies-in : (size : ℕ) (list : List Contribution) (i : ℕ) (c d : Contribution) → AllLieIn size list → c ≡ get_or list i d → i < length list → LiesIn size c
@@ -365,10 +328,10 @@ none-list order bytes list end e (more_contributions before c start u is) =
     let base : c.base ≡ start + is.lengths.2 + 4 = ap (λ (x : Contribution). x.base) is.is in
     absurd (omega (arith, base, is.header, e))
 
-pub none-taken : (m : PathMap) (v : View) (marks : List ℕ) (list : List Contribution) (new : List OffsetField) → None ≡ section_named v (name_of StrOffsets)
-    → AreContributions v.order (string_offsets v) list → new ≡ [] → SlotsTaken m (slots_in v) marks (slots_of list) [] new
-none-taken m v marks list new none u empty =
+pub none-taken : (v : View) (marks : List ℕ) (list : List Contribution) (new : List OffsetField) → None ≡ section_named v (name_of StrOffsets)
+    → AreContributions v.order (string_offsets v) list → new ≡ [] → SlotsTaken (slots_in v) marks (slots_of list) [] new
+none-taken v marks list new none u empty =
     let nothing : list ≡ [] = none-list v.order (string_offsets v).bytes list (length (string_offsets v).bytes) (none-there v none) u in
-    subst (λ (l : List Contribution). SlotsTaken m (slots_in v) marks (slots_of l) [] new) (sym nothing) (taken-none m (slots_in v) marks [] new empty)
+    subst (λ (l : List Contribution). SlotsTaken (slots_in v) marks (slots_of l) [] new) (sym nothing) (taken-none (slots_in v) marks [] new empty)
 
 pub ruleset pass_laws = (contributions-lie, none-taken)

@@ -36,7 +36,7 @@ use Rattle.dw_offsets.specs.declared.fields.OffsetField.{OffsetField}
 use Rattle.dw_base.specs.declared.texts.TextSection.TheVariants.{InStr}
 use Rattle.dw_offsets.proofs.SlotNumberLaws.{StandsAt as SlotStands, slot-stands, slot-absent}
 use Rattle.dw_offsets.specs.NamedPlaces.{place_by, use_place, is_place, names_place}
-use Rattle.dw_offsets.specs.PathSlots.{SlotTable, as_field, slot_offset, named_text, SlotTaken, EachSlot, fields_of, SlotsTaken, IsAmong, SlotRefuses, no_offset, no_text as slot_no_text, shared as slot_shared, SlotsRefuse, slot, slot_field, slot_fields}
+use Rattle.dw_offsets.specs.PathSlots.{SlotTable, as_field, slot_offset, named_text, SlotTaken, EachSlot, FieldShared, FieldsShared, FieldsStay, fields_of, SlotsTaken, IsAmong, SlotRefuses, no_offset, no_text as slot_no_text, shared as field_shared, field as among_fields, SlotsRefuse, slot, slot_field, slot_fields, slot_in}
 use Rattle.dw_offsets.specs.SlotMarks.{marked, AreMarks}
 
 -- the slots among pieces
@@ -428,41 +428,25 @@ rest-taken P at_contribution s rest h = h
 rest-taken P (at_slot w end) s rest h = h.1
 rest-taken P no_offsets s rest h = h
 
-piece-names : (m : PathMap) (t : SlotTable) (marks : List ℕ) (around : Around) (x : Piece OffsetState) (rest : List Slot) (mode : OffsetMode) → (around.stands Str).bytes ≡ t.str.bytes
-    → KnownBy mode around t marks x → EachSlot (SlotTaken m t marks) (listed_by mode (slot_piece x) ++ rest)
+piece-names : (t : SlotTable) (marks : List ℕ) (around : Around) (x : Piece OffsetState) (rest : List Slot) (mode : OffsetMode) → (around.stands Str).bytes ≡ t.str.bytes
+    → KnownBy mode around t marks x → EachSlot (SlotTaken t) (listed_by mode (slot_piece x) ++ rest)
     → NamesTextBy (offset_role (path_slots around) mode x.state.slot) around x.cells
-piece-names m t marks around x rest at_contribution str known h = tt
-piece-names m t marks around x rest (at_slot w end) str known h =
+piece-names t marks around x rest at_contribution str known h = tt
+piece-names t marks around x rest (at_slot w end) str known h =
     ap (ends_in (around.stands Str).bytes) known.offset ∙ ap (λ (bs : List ℕ). ends_in bs (slot_offset t (slot_piece x))) str ∙ h.0.ends
-piece-names m t marks around x rest no_offsets str known h = tt
+piece-names t marks around x rest no_offsets str known h = tt
 
 text-same : (around : Around) (t : SlotTable) (marks : List ℕ) (x : Piece OffsetState) → (around.stands Str).bytes ≡ t.str.bytes → SlotKnown around t marks x
     → field_text around.lasting.base.order (around.stands Str) x.cells ≡ named_text t (slot_piece x)
 text-same around t marks x str known =
     ap (text_in (around.stands Str).bytes) known.offset ∙ ap (λ (bs : List ℕ). text_in bs (slot_offset t (slot_piece x))) str
 
-piece-fits : (m : PathMap) (t : SlotTable) (marks : List ℕ) (around : Around) (x : Piece OffsetState) (rest : List Slot) (mode : OffsetMode) → (around.stands Str).bytes ≡ t.str.bytes
-    → KnownBy mode around t marks x → EachSlot (SlotTaken m t marks) (listed_by mode (slot_piece x) ++ rest)
-    → SlotFitsBy mode m around x.state.slot x.cells
-piece-fits m t marks around x rest at_contribution str known h = tt
-piece-fits m t marks around x rest (at_slot w end) str known h = λ path other.
-    subst (λ (u : List ℕ). mapped_path m u ≡ u) (sym (text-same around t marks x str known)) (h.0.stays (known.paths ∙ path) (known.others ∙ other))
-piece-fits m t marks around x rest no_offsets str known h = tt
-
-pieces-name : (m : PathMap) (t : SlotTable) (marks : List ℕ) (around : Around) (xs : List (Piece OffsetState)) → (around.stands Str).bytes ≡ t.str.bytes → AllKnown around t marks xs
-    → EachSlot (SlotTaken m t marks) (piece_slots xs) → NameTexts (slot_role (path_slots around)) around xs
-pieces-name m t marks around [] str known h = tt
-pieces-name m t marks around (x ∷ xs) str known h = (
-  piece-names m t marks around x (piece_slots xs) x.state.mode str known.0 h,
-  pieces-name m t marks around xs str known.1 (rest-taken (SlotTaken m t marks) x.state.mode (slot_piece x) (piece_slots xs) h),
-)
-
-pieces-fit : (m : PathMap) (t : SlotTable) (marks : List ℕ) (around : Around) (xs : List (Piece OffsetState)) → (around.stands Str).bytes ≡ t.str.bytes → AllKnown around t marks xs
-    → EachSlot (SlotTaken m t marks) (piece_slots xs) → EachPiece (SlotFits m around) xs
-pieces-fit m t marks around [] str known h = tt
-pieces-fit m t marks around (x ∷ xs) str known h = (
-  piece-fits m t marks around x (piece_slots xs) x.state.mode str known.0 h,
-  pieces-fit m t marks around xs str known.1 (rest-taken (SlotTaken m t marks) x.state.mode (slot_piece x) (piece_slots xs) h),
+pieces-name : (t : SlotTable) (marks : List ℕ) (around : Around) (xs : List (Piece OffsetState)) → (around.stands Str).bytes ≡ t.str.bytes → AllKnown around t marks xs
+    → EachSlot (SlotTaken t) (piece_slots xs) → NameTexts (slot_role (path_slots around)) around xs
+pieces-name t marks around [] str known h = tt
+pieces-name t marks around (x ∷ xs) str known h = (
+  piece-names t marks around x (piece_slots xs) x.state.mode str known.0 h,
+  pieces-name t marks around xs str known.1 (rest-taken (SlotTaken t) x.state.mode (slot_piece x) (piece_slots xs) h),
 )
 
 piece-field : (t : SlotTable) (marks : List ℕ) (around : Around) (x : Piece OffsetState) (rest : List Slot) (mode : OffsetMode) → KnownBy mode around t marks x
@@ -480,22 +464,48 @@ pieces-fields t marks around (x ∷ xs) known =
     ∙ ap (λ (l : List OffsetField). slot_field (path_slots around) x.state.mode x.state.slot x.state.place (length x.cells) ++ l) (pieces-fields t marks around xs known.1)
 
 -- what the pass over the slots found is what the pieces say
-pub record SlotsSay (m : PathMap) (around : Around) (xs : List (Piece OffsetState)) (fields : List OffsetField) : Type 0 where
+pub record SlotsSay (around : Around) (xs : List (Piece OffsetState)) (fields : List OffsetField) : Type 0 where
   pub texts : NameTexts (slot_role (path_slots around)) around xs
-  pub fits : EachPiece (SlotFits m around) xs
   pub fields_are : fields ≡ slot_fields (path_slots around) xs
 
-pub slots-say : (m : PathMap) (around : Around) (t : SlotTable) (cells : List Cell) (xs : List (Piece OffsetState)) (marks : List ℕ) (fields : List OffsetField)
-    → SlotsAround around t cells xs marks → SlotsTaken m t marks (slots_of (around.lasting.kept StrOffsets).contributions) [] fields → SlotsSay m around xs fields
-slots-say m around t cells xs marks fields a h =
+pub slots-say : (around : Around) (t : SlotTable) (cells : List Cell) (xs : List (Piece OffsetState)) (marks : List ℕ) (fields : List OffsetField)
+    → SlotsAround around t cells xs marks → SlotsTaken t marks (slots_of (around.lasting.kept StrOffsets).contributions) [] fields → SlotsSay around xs fields
+slots-say around t cells xs marks fields a h =
     let all : piece_slots xs ≡ slots_of (around.lasting.kept StrOffsets).contributions = slots-are t.order cells xs a.reads ∙ ap slots_of a.list in
     let known : AllKnown around t marks xs = all-known around t cells xs marks a in
-    let taken : EachSlot (SlotTaken m t marks) (piece_slots xs) = subst (λ (l : List Slot). EachSlot (SlotTaken m t marks) l) (sym all) h.taken in
+    let taken : EachSlot (SlotTaken t) (piece_slots xs) = subst (λ (l : List Slot). EachSlot (SlotTaken t) l) (sym all) h.taken in
     record {
-      texts = pieces-name m t marks around xs (ap (λ (z : Located). z.bytes) a.str) known taken;
-      fits = pieces-fit m t marks around xs (ap (λ (z : Located). z.bytes) a.str) known taken;
+      texts = pieces-name t marks around xs (ap (λ (z : Located). z.bytes) a.str) known taken;
       fields_are = h.fields ∙ ap (fields_of marks) (sym all) ∙ pieces-fields t marks around xs known;
     }
+
+-- where the texts of the fields stay, each slot among the pieces may be mapped
+piece-fits : (m : PathMap) (t : SlotTable) (marks : List ℕ) (around : Around) (x : Piece OffsetState) (rest : List OffsetField) (mode : OffsetMode)
+    → (around.stands Str).bytes ≡ t.str.bytes → KnownBy mode around t marks x
+    → FieldsStay m t marks (slot_field (path_slots around) mode x.state.slot x.state.place (length x.cells) ++ rest) → SlotFitsBy mode m around x.state.slot x.cells
+piece-fits m t marks around x rest at_contribution str known h = tt
+piece-fits m t marks around x rest (at_slot w end) str known h = λ path other.
+    subst (λ (u : List ℕ). mapped_path m u ≡ u) (sym (text-same around t marks x str known)) (h.0.stays path (known.others ∙ other))
+piece-fits m t marks around x rest no_offsets str known h = tt
+
+rest-stay : (m : PathMap) (t : SlotTable) (marks paths : List ℕ) (mode : OffsetMode) (n place size : ℕ) (rest : List OffsetField)
+    → FieldsStay m t marks (slot_field paths mode n place size ++ rest) → FieldsStay m t marks rest
+rest-stay m t marks paths at_contribution n place size rest h = h
+rest-stay m t marks paths (at_slot w end) n place size rest h = h.1
+rest-stay m t marks paths no_offsets n place size rest h = h
+
+pieces-fit : (m : PathMap) (t : SlotTable) (marks : List ℕ) (around : Around) (xs : List (Piece OffsetState)) → (around.stands Str).bytes ≡ t.str.bytes → AllKnown around t marks xs
+    → FieldsStay m t marks (slot_fields (path_slots around) xs) → EachPiece (SlotFits m around) xs
+pieces-fit m t marks around [] str known h = tt
+pieces-fit m t marks around (x ∷ xs) str known h = (
+  piece-fits m t marks around x (slot_fields (path_slots around) xs) x.state.mode str known.0 h,
+  pieces-fit m t marks around xs str known.1
+      (rest-stay m t marks (path_slots around) x.state.mode x.state.slot x.state.place (length x.cells) (slot_fields (path_slots around) xs) h),
+)
+
+pub slots-fit : (m : PathMap) (around : Around) (t : SlotTable) (cells : List Cell) (xs : List (Piece OffsetState)) (marks : List ℕ)
+    → SlotsAround around t cells xs marks → FieldsStay m t marks (slot_fields (path_slots around) xs) → EachPiece (SlotFits m around) xs
+slots-fit m around t cells xs marks a h = pieces-fit m t marks around xs (ap (λ (z : Located). z.bytes) a.str) (all-known around t cells xs marks a) h
 
 -- the slots among pieces as fields
 abbrev slot_places : List Slot → List FieldPlace
@@ -521,10 +531,9 @@ places-append [] ys = refl
 places-append (x ∷ xs) ys = ap (λ (l : List FieldPlace). as_field x ∷ l) (places-append xs ys)
 
 -- and what it refuses is refused at a piece
-pub data SlotsFail (m : PathMap) (t : SlotTable) (around : Around) (xs : List (Piece OffsetState)) : Refusal → Type 0 where
-  slot_fails : {r : Refusal} → SlotFails t.number around xs r → SlotsFail m t around xs r
-  shared_fails : {r : Refusal} → SharedFails m t.number around xs r → SlotsFail m t around xs r
-  offset_fails : (f : FieldPlace) {r : Refusal} → IsField (offset_fields xs) f → OffsetFails t.order t.number t.cells f r → SlotsFail m t around xs r
+pub data SlotsFail (t : SlotTable) (around : Around) (xs : List (Piece OffsetState)) : Refusal → Type 0 where
+  slot_fails : {r : Refusal} → SlotFails t.number around xs r → SlotsFail t around xs r
+  offset_fails : (f : FieldPlace) {r : Refusal} → IsField (offset_fields xs) f → OffsetFails t.order t.number t.cells f r → SlotsFail t around xs r
 
 -- the slot of a piece among others
 record SlotAmong (around : Around) (t : SlotTable) (marks : List ℕ) (xs : List (Piece OffsetState)) (s : Slot) : Type 0 where
@@ -533,18 +542,21 @@ record SlotAmong (around : Around) (t : SlotTable) (marks : List ℕ) (xs : List
   known : SlotKnown around t marks piece
   same : slot_piece piece ≡ s
 
+slot-behind : (x y : Piece OffsetState) (xs : List (Piece OffsetState)) → HasSlot xs y → HasSlot (x ∷ xs) y
+slot-behind x y xs h = record {
+  before = x ∷ h.before;
+  behind = h.behind;
+  pieces = ap (λ (l : List (Piece OffsetState)). x ∷ l) h.pieces;
+  width = h.width;
+  end = h.end;
+  mode = h.mode;
+}
+
 among-behind : (around : Around) (t : SlotTable) (marks : List ℕ) (x : Piece OffsetState) (xs : List (Piece OffsetState)) (s : Slot) → SlotAmong around t marks xs s
     → SlotAmong around t marks (x ∷ xs) s
 among-behind around t marks x xs s a = record {
   piece = a.piece;
-  has = record {
-    before = x ∷ a.has.before;
-    behind = a.has.behind;
-    pieces = ap (λ (l : List (Piece OffsetState)). x ∷ l) a.has.pieces;
-    width = a.has.width;
-    end = a.has.end;
-    mode = a.has.mode;
-  };
+  has = slot-behind x a.piece xs a.has;
   known = a.known;
   same = a.same;
 }
@@ -588,25 +600,17 @@ piece-among around t marks [] before behind s known e = absurd (none-among befor
 piece-among around t marks (x ∷ xs) before behind s known e =
     among-step x.state.mode around t marks x xs before behind s refl known.0 (λ front f. piece-among around t marks xs front behind s known.1 f) e
 
-slot-fails : (m : PathMap) (around : Around) (t : SlotTable) (marks : List ℕ) (xs : List (Piece OffsetState)) (s : Slot) (r : Refusal) → (around.stands Str).bytes ≡ t.str.bytes
-    → IsField (offset_fields xs) (as_field s) → SlotAmong around t marks xs s → SlotRefuses m t marks s r → SlotsFail m t around xs r
-slot-fails m around t marks xs s r str field a (no_offset f) = offset_fails (as_field s) field f
-slot-fails m around t marks xs s r str field a (slot_no_text reads ends) =
+slot-fails : (around : Around) (t : SlotTable) (marks : List ℕ) (xs : List (Piece OffsetState)) (s : Slot) (r : Refusal) → (around.stands Str).bytes ≡ t.str.bytes
+    → IsField (offset_fields xs) (as_field s) → SlotAmong around t marks xs s → SlotRefuses t s r → SlotsFail t around xs r
+slot-fails around t marks xs s r str field a (no_offset f) = offset_fails (as_field s) field f
+slot-fails around t marks xs s r str field a (slot_no_text reads ends) =
     let place : a.piece.state.place ≡ s.place = ap (λ (z : Slot). z.place) a.same in
     let none : ends_in (around.stands Str).bytes (offset_in around InStr a.piece.cells) ≡ false =
     ap (ends_in (around.stands Str).bytes) a.known.offset ∙ ap (λ (bs : List ℕ). ends_in bs (slot_offset t (slot_piece a.piece))) str
     ∙ ap (λ (z : Slot). ends_in t.str.bytes (slot_offset t z)) a.same ∙ ends in
     let placed : is_placed (field_of around.lasting.base.order a.piece.cells) ≡ true =
     ap is_placed (a.known.field ∙ ap (λ (z : Slot). field_of t.order (cells_at t.cells z.place z.size)) a.same) ∙ reads.placed in
-    subst (λ (n : ℕ). SlotsFail m t around xs (at StringOffset t.number n)) place (slot_fails (no_text a.piece a.has placed none))
-slot-fails m around t marks xs s r str field a (slot_shared reads ends path other changes) =
-    let place : a.piece.state.place ≡ s.place = ap (λ (z : Slot). z.place) a.same in
-    let text : field_text around.lasting.base.order (around.stands Str) a.piece.cells ≡ named_text t s =
-    text-same around t marks a.piece str a.known ∙ ap (named_text t) a.same in
-    subst (λ (n : ℕ). SlotsFail m t around xs (at SharedIndex t.number n)) place
-    (shared_fails (shared a.piece a.has (sym a.known.paths ∙ ap (λ (n : ℕ). marked true marks n) place ∙ path)
-    (sym a.known.others ∙ ap (λ (n : ℕ). marked false marks n) place ∙ other)
-    (λ same. changes (subst (λ (u : List ℕ). mapped_path m u ≡ u) text same))))
+    subst (λ (n : ℕ). SlotsFail t around xs (at StringOffset t.number n)) place (slot_fails (no_text a.piece a.has placed none))
 
 slot-field : (order : Order) (cells : List Cell) (xs : List (Piece OffsetState)) (s : Slot) → ReadsOffsets order cells xs → IsAmong (piece_slots xs) s
     → IsField (offset_fields xs) (as_field s)
@@ -617,11 +621,64 @@ slot-field order cells xs s reads among = record {
       ∙ places-append among.before (s ∷ among.behind);
 }
 
-pub slots-fail : (m : PathMap) (around : Around) (t : SlotTable) (cells : List Cell) (xs : List (Piece OffsetState)) (marks : List ℕ) (r : Refusal)
-    → SlotsAround around t cells xs marks → SlotsRefuse m t marks (slots_of (around.lasting.kept StrOffsets).contributions) r → SlotsFail m t around xs r
-slots-fail m around t cells xs marks r a (slot s among refuses) =
+pub slots-fail : (around : Around) (t : SlotTable) (cells : List Cell) (xs : List (Piece OffsetState)) (marks : List ℕ) (r : Refusal)
+    → SlotsAround around t cells xs marks → SlotsRefuse t (slots_of (around.lasting.kept StrOffsets).contributions) r → SlotsFail t around xs r
+slots-fail around t cells xs marks r a (slot s among refuses) =
     let all : piece_slots xs ≡ slots_of (around.lasting.kept StrOffsets).contributions = slots-are t.order cells xs a.reads ∙ ap slots_of a.list in
     let here : piece_slots xs ≡ among.before ++ s ∷ among.behind = all ∙ among.is in
-    slot-fails m around t marks xs s r (ap (λ (z : Located). z.bytes) a.str)
+    slot-fails around t marks xs s r (ap (λ (z : Located). z.bytes) a.str)
     (slot-field t.order cells xs s a.reads (record { before = among.before; behind = among.behind; is = here }))
     (piece-among around t marks xs among.before among.behind s (all-known around t cells xs marks a) here) refuses
+
+-- the field of a slot is that of a piece
+abbrev field_piece : Around → Piece OffsetState → OffsetField
+field_piece around x = record { at = x.state.place; size = length x.cells; path = holds_number (path_slots around) x.state.slot }
+
+record FieldAmong (around : Around) (t : SlotTable) (marks : List ℕ) (xs : List (Piece OffsetState)) (f : OffsetField) : Type 0 where
+  piece : Piece OffsetState
+  has : HasSlot xs piece
+  known : SlotKnown around t marks piece
+  same : field_piece around piece ≡ f
+
+field-behind : (around : Around) (t : SlotTable) (marks : List ℕ) (x : Piece OffsetState) (xs : List (Piece OffsetState)) (f : OffsetField) → FieldAmong around t marks xs f
+    → FieldAmong around t marks (x ∷ xs) f
+field-behind around t marks x xs f a = record { piece = a.piece; has = slot-behind x a.piece xs a.has; known = a.known; same = a.same }
+
+field-step : (mode : OffsetMode) (around : Around) (t : SlotTable) (marks : List ℕ) (x : Piece OffsetState) (xs : List (Piece OffsetState)) (k : ℕ) (f d : OffsetField)
+    → x.state.mode ≡ mode → KnownBy mode around t marks x
+    → ((i : ℕ) → i < length (slot_fields (path_slots around) xs) → f ≡ get_or (slot_fields (path_slots around) xs) i d → FieldAmong around t marks xs f)
+    → k < length (slot_field (path_slots around) mode x.state.slot x.state.place (length x.cells) ++ slot_fields (path_slots around) xs)
+    → f ≡ get_or (slot_field (path_slots around) mode x.state.slot x.state.place (length x.cells) ++ slot_fields (path_slots around) xs) k d
+    → FieldAmong around t marks (x ∷ xs) f
+field-step at_contribution around t marks x xs k f d is known rest lt e = field-behind around t marks x xs f (rest k lt e)
+field-step (at_slot w end) around t marks x xs zero f d is known rest lt e = record {
+  piece = x;
+  has = record { before = []; behind = xs; pieces = refl; width = w; end = end; mode = is };
+  known = known;
+  same = sym e;
+}
+field-step (at_slot w end) around t marks x xs (suc k) f d is known rest lt e = field-behind around t marks x xs f (rest k (omega (arith, lt)) e)
+field-step no_offsets around t marks x xs k f d is known rest lt e = field-behind around t marks x xs f (rest k lt e)
+
+field-among : (around : Around) (t : SlotTable) (marks : List ℕ) (xs : List (Piece OffsetState)) (k : ℕ) (f d : OffsetField) → AllKnown around t marks xs
+    → k < length (slot_fields (path_slots around) xs) → f ≡ get_or (slot_fields (path_slots around) xs) k d → FieldAmong around t marks xs f
+field-among around t marks [] k f d known lt e = absurd (omega (arith, lt))
+field-among around t marks (x ∷ xs) k f d known lt e =
+    field-step x.state.mode around t marks x xs k f d refl known.0 (λ i under same. field-among around t marks xs i f d known.1 under same) lt e
+
+-- so one that is shared is one of a piece
+among-shared : (m : PathMap) (around : Around) (t : SlotTable) (marks : List ℕ) (xs : List (Piece OffsetState)) (f : OffsetField) (r : Refusal)
+    → (around.stands Str).bytes ≡ t.str.bytes → FieldAmong around t marks xs f → FieldShared m t marks f r → SharedFails m t.number around xs r
+among-shared m around t marks xs f r str a (field_shared path other changes) =
+    let place : a.piece.state.place ≡ f.at = ap (λ (z : OffsetField). z.at) a.same in
+    let text : field_text around.lasting.base.order (around.stands Str) a.piece.cells ≡ named_text t (slot_in f) =
+    text-same around t marks a.piece str a.known ∙ ap (λ (z : OffsetField). named_text t (slot_in z)) a.same in
+    subst (λ (n : ℕ). SharedFails m t.number around xs (at SharedIndex t.number n)) place
+    (shared a.piece a.has (ap (λ (z : OffsetField). z.path) a.same ∙ path)
+    (sym a.known.others ∙ ap (λ (n : ℕ). marked false marks n) place ∙ other)
+    (λ same. changes (subst (λ (u : List ℕ). mapped_path m u ≡ u) text same)))
+
+pub slots-shared : (m : PathMap) (around : Around) (t : SlotTable) (cells : List Cell) (xs : List (Piece OffsetState)) (marks : List ℕ) (r : Refusal)
+    → SlotsAround around t cells xs marks → FieldsShared m t marks (slot_fields (path_slots around) xs) r → SharedFails m t.number around xs r
+slots-shared m around t cells xs marks r a (among_fields k f lt is own) =
+    among-shared m around t marks xs f r (ap (λ (z : Located). z.bytes) a.str) (field-among around t marks xs k f f (all-known around t cells xs marks a) lt is) own

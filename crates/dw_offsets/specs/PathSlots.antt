@@ -1,6 +1,6 @@
--- What a pass over the slots of string offsets finds: their fields, in the order of their places; and why
--- one can't be taken (DWARF 5, 7.26).
-use Rattle.std.specs.Prelude.{true, false, ◌≡◌, ◌≢◌, ℕ, ◌<◌, ◌≤◌, List, [], ◌∷◌, ◌++◌, length, get_or, ⊤}
+-- What a pass over the slots of string offsets finds: their fields, in the order of their places; why one can't be taken; and where slots are
+-- shared by a path whose text changes and another value (DWARF 5, 7.26).
+use Rattle.std.specs.Prelude.{true, false, ◌≡◌, ◌≢◌, ℕ, ◌+◌, ◌<◌, ◌≤◌, List, [], ◌∷◌, ◌++◌, length, get_or, ⊤}
 use Rattle.dw_base.specs.Cells.{Cell, CellSection, Located, cells_at, offset_of}
 use Rattle.dw_base.specs.DebugSections.{name_of}
 use Rattle.dw_base.specs.FileViews.{View, section_named, view_cells}
@@ -49,12 +49,10 @@ slot_offset t s = offset_of t.order t.str (cells_at t.cells s.place s.size)
 abbrev pub named_text : SlotTable → Slot → List ℕ
 named_text t s = text_in t.str.bytes (slot_offset t s)
 
--- a slot can be taken: no relocation refuses it, a text that ends begins at its offset, and where a path and another value name it that text
--- stays when it is mapped
-pub record SlotTaken (m : PathMap) (t : SlotTable) (marks : List ℕ) (s : Slot) : Type 0 where
+-- a slot can be taken: no relocation refuses it, and a text that ends begins at its offset
+pub record SlotTaken (t : SlotTable) (s : Slot) : Type 0 where
   pub reads : OffsetReads t.order t.cells (as_field s)
   pub ends : ends_in t.str.bytes (slot_offset t s) ≡ true
-  pub stays : marked true marks s.place ≡ true → marked false marks s.place ≡ true → mapped_path m (named_text t s) ≡ named_text t s
 
 -- this holds of each slot
 abbrev pub EachSlot : (Slot → Type 0) → List Slot → Type 0
@@ -70,8 +68,8 @@ fields_of marks [] = []
 fields_of marks (s ∷ ss) = field_of marks s ∷ fields_of marks ss
 
 -- slots were taken, and their fields stand behind those of others
-pub record SlotsTaken (m : PathMap) (t : SlotTable) (marks : List ℕ) (slots : List Slot) (old new : List OffsetField) : Type 0 where
-  pub taken : EachSlot (SlotTaken m t marks) slots
+pub record SlotsTaken (t : SlotTable) (marks : List ℕ) (slots : List Slot) (old new : List OffsetField) : Type 0 where
+  pub taken : EachSlot (SlotTaken t) slots
   pub fields : new ≡ old ++ fields_of marks slots
 
 -- a slot among others
@@ -80,19 +78,49 @@ pub record IsAmong (slots : List Slot) (s : Slot) : Type 0 where
   pub behind : List Slot
   pub is : slots ≡ before ++ s ∷ behind
 
--- why a slot can't be taken: a relocation lies on it only in part, or gives it no place; no text that ends begins at its offset; or a path whose text
--- changes names it, and another value does
-pub data SlotRefuses (m : PathMap) (t : SlotTable) (marks : List ℕ) (s : Slot) : Refusal → Type 0 where
-  no_offset : {r : Refusal} → OffsetFails t.order t.number t.cells (as_field s) r → SlotRefuses m t marks s r
+-- why a slot can't be taken: a relocation lies on it only in part, or gives it no place; or no text that ends begins at its offset
+pub data SlotRefuses (t : SlotTable) (s : Slot) : Refusal → Type 0 where
+  no_offset : {r : Refusal} → OffsetFails t.order t.number t.cells (as_field s) r → SlotRefuses t s r
   no_text : OffsetReads t.order t.cells (as_field s) → ends_in t.str.bytes (slot_offset t s) ≡ false
-      → SlotRefuses m t marks s (at StringOffset t.number s.place)
-  shared : OffsetReads t.order t.cells (as_field s) → ends_in t.str.bytes (slot_offset t s) ≡ true → marked true marks s.place ≡ true
-      → marked false marks s.place ≡ true → mapped_path m (named_text t s) ≢ named_text t s
-      → SlotRefuses m t marks s (at SharedIndex t.number s.place)
+      → SlotRefuses t s (at StringOffset t.number s.place)
 
 -- why slots can't be: one of them can't
-pub data SlotsRefuse (m : PathMap) (t : SlotTable) (marks : List ℕ) (slots : List Slot) : Refusal → Type 0 where
-  slot : (s : Slot) {r : Refusal} → IsAmong slots s → SlotRefuses m t marks s r → SlotsRefuse m t marks slots r
+pub data SlotsRefuse (t : SlotTable) (slots : List Slot) : Refusal → Type 0 where
+  slot : (s : Slot) {r : Refusal} → IsAmong slots s → SlotRefuses t s r → SlotsRefuse t slots r
+
+-- the slot that a field is
+abbrev pub slot_in : OffsetField → Slot
+slot_in f = record { place = f.at; size = f.size }
+
+-- the field of a slot lies in the section, and a text that ends begins at its offset
+pub record IsSlotField (t : SlotTable) (f : OffsetField) : Type 0 where
+  pub some : 0 < f.size
+  pub wide : f.size ≤ 8
+  pub inside : f.at + f.size ≤ length t.cells
+  pub ends : ends_in t.str.bytes (slot_offset t (slot_in f)) ≡ true
+
+-- each of these fields does
+pub record AreSlotFields (t : SlotTable) (fields : List OffsetField) : Type 0 where
+  pub each : (k : ℕ) (f : OffsetField) → k < length fields → f ≡ get_or fields k f → IsSlotField t f
+
+-- where a path names the slot of a field, and another value does, its text stays when it is mapped
+pub record FieldStays (m : PathMap) (t : SlotTable) (marks : List ℕ) (f : OffsetField) : Type 0 where
+  pub stays : f.path ≡ true → marked false marks f.at ≡ true → mapped_path m (named_text t (slot_in f)) ≡ named_text t (slot_in f)
+
+-- so it is for each of these
+abbrev pub FieldsStay : PathMap → SlotTable → List ℕ → List OffsetField → Type 0
+FieldsStay m t marks [] = ⊤
+FieldsStay m t marks (f ∷ fs) = FieldStays m t marks f × FieldsStay m t marks fs
+
+-- the slot of a field is shared: a path whose text changes names it, and another value does
+pub data FieldShared (m : PathMap) (t : SlotTable) (marks : List ℕ) (f : OffsetField) : Refusal → Type 0 where
+  shared : f.path ≡ true → marked false marks f.at ≡ true → mapped_path m (named_text t (slot_in f)) ≢ named_text t (slot_in f)
+      → FieldShared m t marks f (at SharedIndex t.number f.at)
+
+-- so is that of one of these
+pub data FieldsShared (m : PathMap) (t : SlotTable) (marks : List ℕ) (fields : List OffsetField) : Refusal → Type 0 where
+  field : (k : ℕ) (f : OffsetField) {r : Refusal} → k < length fields → f ≡ get_or fields k f → FieldShared m t marks f r
+      → FieldsShared m t marks fields r
 
 -- the slots of a contribution lie in a section of so many bytes
 pub record LiesIn (size : ℕ) (c : Contribution) : Type 0 where

@@ -1,8 +1,7 @@
 //! The fields of slots (DWARF 5, 7.26).
 //!
 //! This file promises: the fields are given in the order of their places, each once, only where each slot can be read and
-//! names a text and none is shared by a path whose text changes and another value; and they are refused only for a slot of
-//! which that doesn't hold. One pass; a text is read only where a path and another value name its slot.
+//! names a text; and they are refused only for a slot of which that doesn't hold.
 
 ghost use Rattle.std.specs.Prelude.{◌≡◌, ◌↔◌, ◌+◌, ◌^◌, ◌≤◌, ◌<◌, ◌∷◌, [], true, Some, length, IsTrue, IfOk, IfErr, OnOk};
 ghost use Rattle.dw_base.specs.Cells.{offset_into};
@@ -17,7 +16,7 @@ ghost use Rattle.dw_base.specs.Slots.{slot_at, slot_total, slots_of};
 ghost use Rattle.dw_base.specs.StringOffsets.{AreContributions};
 ghost use Rattle.dw_base.specs.Texts.{ends_in, text_in};
 ghost use Rattle.dw_base.specs.ViewData.{located, string_offsets};
-ghost use Rattle.dw_offsets.specs.PathSlots.{AllLieIn, LiesIn, SlotRefuses, SlotTable, SlotTaken, SlotsRefuse, SlotsTaken, slot_offset, as_field, slots_in, table_in};
+ghost use Rattle.dw_offsets.specs.PathSlots.{AllLieIn, IsSlotField, LiesIn, SlotRefuses, SlotTable, SlotTaken, SlotsRefuse, SlotsTaken, slot_in, slot_offset, as_field, slots_in, table_in};
 ghost use Rattle.dw_offsets.specs.SlotTables.{TableFits};
 
 use crate::fields::OffsetField;
@@ -33,7 +32,7 @@ use std::marker::Model;
 
 /// The section of string offsets, and the texts that they name.
 #[derive(Drop)]
-struct Table<'v, 'f> {
+pub(crate) struct Table<'v, 'f> {
     /// The view.
     view: &'v View<'f>,
     /// The section's number.
@@ -53,32 +52,30 @@ impl<'v, 'f> Model for Table<'v, 'f> {
 }
 
 /// The fields of the slots, in the order of their places, each a path's where a path names the slot. `list` are the
-/// contributions of the view, and `marks` says which slots paths and other values name. Refused, for a slot of `.debug_str_offsets`: as
+/// contributions of the view, and `marks` says which slots paths name. Refused, for a slot of `.debug_str_offsets`: as
 /// `Relocation` only at a relocation that lies on it only in part, or at the slot where its relocation gives no place; at
-/// the slot as `StringOffset` only where no text that ends begins at its offset, and as `SharedIndex` only where a path
-/// whose text changes names it, and another value too.
+/// the slot as `StringOffset` only where no text that ends begins at its offset.
 #[tactic(auto, using(crate::proofs::PathSlotLaws::pass_laws))]
 pub fn all_slots(
     alloc: Global,
     view: &View,
-    maps: &Maps,
     list: &ContributionList,
     marks: &SlotMarks,
 ) -> Result<Vec<OffsetField>, Fault>
     requires contributions { AreContributions view.now.order (string_offsets view.now) list.now }
-    ensures taken { IfOk result (λ fields. SlotsTaken maps.now (slots_in view.now) marks.now (slots_of list.now) [] fields.items) }
-    ensures refused { IfErr result (Blames (SlotsRefuse maps.now (slots_in view.now) marks.now (slots_of list.now))) }
+    ensures taken { IfOk result (λ fields. SlotsTaken (slots_in view.now) marks.now (slots_of list.now) [] fields.items) }
+    ensures refused { IfErr result (Blames (SlotsRefuse (slots_in view.now) (slots_of list.now))) }
 {
     let Some(section) = view.first(DebugSection::StrOffsets) else {
         return Ok(Vec::new(alloc));
     };
     let table = table_of(view, section);
-    all_fields(alloc, &table, maps, list.as_slice(), marks)
+    all_fields(alloc, &table, list.as_slice(), marks)
 }
 
 /// The section of string offsets of a view, and the texts that they name.
 #[tactic(auto, using(crate::proofs::PathSlotLaws::table_laws))]
-fn table_of<'v, 'f>(view: &'v View<'f>, section: u32) -> Table<'v, 'f>
+pub(crate) fn table_of<'v, 'f>(view: &'v View<'f>, section: u32) -> Table<'v, 'f>
     requires there { section < length view.now.sections }
     requires found { Some section ≡ section_named view.now (name_of DebugSection.StrOffsets) }
     ensures table { result ≡ slots_in view.now }
@@ -108,17 +105,16 @@ pub fn first_bytes<'v>(view: &'v View, section: DebugSection) -> &'v [u8]
 fn all_fields(
     alloc: Global,
     table: &Table,
-    maps: &Maps,
     list: &[Contribution],
     marks: &SlotMarks,
 ) -> Result<Vec<OffsetField>, Fault>
     requires inside { AllLieIn (length table.now.cells) list.now }
-    ensures taken { IfOk result (λ fields. SlotsTaken maps.now table.now marks.now (slots_of list.now) [] fields.items) }
-    ensures refused { IfErr result (Blames (SlotsRefuse maps.now table.now marks.now (slots_of list.now))) }
+    ensures taken { IfOk result (λ fields. SlotsTaken table.now marks.now (slots_of list.now) [] fields.items) }
+    ensures refused { IfErr result (Blames (SlotsRefuse table.now (slots_of list.now))) }
 {
     let mut fields = Vec::new(alloc);
     for contribution in list {
-        push_fields(alloc, table, maps, *contribution, marks, &mut fields)?;
+        push_fields(table, *contribution, marks, &mut fields)?;
     }
     Ok(fields)
 }
@@ -126,21 +122,19 @@ fn all_fields(
 /// Adds the fields of a contribution that lies in the section.
 #[tactic(auto, using(crate::proofs::PathSlotLaws::contribution_laws))]
 fn push_fields(
-    alloc: Global,
     table: &Table,
-    maps: &Maps,
     contribution: Contribution,
     marks: &SlotMarks,
     fields: &mut Vec<OffsetField>,
 ) -> Result<(), Fault>
     requires inside { LiesIn (length table.now.cells) contribution }
-    ensures taken { OnOk result (SlotsTaken maps.now table.now marks.now (tabulate (slot_at contribution) (slot_total contribution)) fields.old.items fields.new.items) }
-    ensures refused { IfErr result (Blames (SlotsRefuse maps.now table.now marks.now (tabulate (slot_at contribution) (slot_total contribution)))) }
+    ensures taken { OnOk result (SlotsTaken table.now marks.now (tabulate (slot_at contribution) (slot_total contribution)) fields.old.items fields.new.items) }
+    ensures refused { IfErr result (Blames (SlotsRefuse table.now (tabulate (slot_at contribution) (slot_total contribution)))) }
 {
     let size = contribution.width.offset_size();
     for i in 0..slot_total(contribution) {
         let at = slot_start(contribution, i);
-        push_field(alloc, table, maps, at, size, marks, fields)?;
+        push_field(table, at, size, marks, fields)?;
     }
     Ok(())
 }
@@ -175,9 +169,7 @@ fn slot_start(contribution: Contribution, i: u64) -> u64
 /// Adds the field of a slot.
 #[tactic(auto, using(crate::proofs::PathSlotLaws::field_laws))]
 fn push_field(
-    alloc: Global,
     table: &Table,
-    maps: &Maps,
     at: u64,
     size: u8,
     marks: &SlotMarks,
@@ -186,10 +178,10 @@ fn push_field(
     requires some { 0 < size }
     requires wide { size ≤ 8 }
     requires inside { at + size ≤ length table.now.cells }
-    ensures taken { OnOk result (SlotsTaken maps.now table.now marks.now (record { place = at; size = size } ∷ []) fields.old.items fields.new.items) }
-    ensures refused { IfErr result (Blames (SlotRefuses maps.now table.now marks.now (record { place = at; size = size }))) }
+    ensures taken { OnOk result (SlotsTaken table.now marks.now (record { place = at; size = size } ∷ []) fields.old.items fields.new.items) }
+    ensures refused { IfErr result (Blames (SlotRefuses table.now (record { place = at; size = size }))) }
 {
-    check_slot(alloc, table, maps, at, size, marks)?;
+    check_slot(table, at, size)?;
     let path = marks.is_marked(at, true);
     fields.push(OffsetField { at, size, path })?;
     Ok(())
@@ -197,32 +189,16 @@ fn push_field(
 
 /// A slot can be taken.
 #[tactic(auto, using(crate::proofs::PathSlotLaws::check_laws))]
-fn check_slot(
-    alloc: Global,
-    table: &Table,
-    maps: &Maps,
-    at: u64,
-    size: u8,
-    marks: &SlotMarks,
-) -> Result<(), Fault>
+fn check_slot(table: &Table, at: u64, size: u8) -> Result<(), Refusal>
     requires some { 0 < size }
     requires wide { size ≤ 8 }
     requires inside { at + size ≤ length table.now.cells }
-    ensures taken { OnOk result (SlotTaken maps.now table.now marks.now (record { place = at; size = size })) }
-    ensures refused { IfErr result (Blames (SlotRefuses maps.now table.now marks.now (record { place = at; size = size }))) }
+    ensures taken { OnOk result (SlotTaken table.now (record { place = at; size = size })) }
+    ensures refused { IfErr result (SlotRefuses table.now (record { place = at; size = size })) }
 {
     let field = table.field(at, size)?;
     if !table.names_text(field) {
-        return Err(table.refusal(Kind::StringOffset, at).into());
-    }
-    if !marks.is_marked(at, true) {
-        return Ok(());
-    }
-    if !marks.is_marked(at, false) {
-        return Ok(());
-    }
-    if !table.stays(alloc, maps, field)? {
-        return Err(table.refusal(Kind::SharedIndex, at).into());
+        return Err(table.refusal(Kind::StringOffset, at));
     }
     Ok(())
 }
@@ -248,8 +224,17 @@ impl<'v, 'f> Table<'v, 'f> {
         names_text(self.view, &self.texts, field)
     }
 
+    /// What the field of a slot that can be taken reads as.
+    #[tactic(auto, using(crate::proofs::SharedSlotLaws::value_laws))]
+    pub(crate) fn value(&self, field: OffsetField) -> Field
+        requires field { IsSlotField self.now field }
+        ensures offset { offset_into self.now.str result ≡ slot_offset self.now (slot_in field) }
+    {
+        self.view.value(self.section, field.at, field.size)
+    }
+
     /// The text where a field says stays when it is mapped.
-    fn stays(&self, alloc: Global, maps: &Maps, field: Field) -> Result<bool, NoMemory>
+    pub(crate) fn stays(&self, alloc: Global, maps: &Maps, field: Field) -> Result<bool, NoMemory>
         requires ends { ends_in self.now.str.bytes (offset_into self.now.str field) ≡ true }
         ensures stays { IfOk result (λ b. IsTrue b ↔ (mapped_path maps.now (text_in self.now.str.bytes (offset_into self.now.str field)) ≡ text_in self.now.str.bytes (offset_into self.now.str field))) }
     {
@@ -257,7 +242,7 @@ impl<'v, 'f> Table<'v, 'f> {
     }
 
     /// What refuses a slot.
-    fn refusal(&self, kind: Kind, at: u64) -> Refusal
+    pub(crate) fn refusal(&self, kind: Kind, at: u64) -> Refusal
         ensures refusal { result ≡ record { kind = kind; section = self.now.number; offset = at } }
     {
         Refusal::at(kind, self.section, at)

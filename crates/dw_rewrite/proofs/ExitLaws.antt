@@ -62,9 +62,11 @@ use Rattle.dw_base.proofs.SectionLaws.{length-contents}
 use Rattle.dw_meaning.proofs.TableKeptLaws.{TablePlace, nowhere, lies_at}
 use Rattle.dw_rewrite.specs.Bodies.{BodiesRefuse, FileBodiesMade, long_table, held_bodies, moved_numbers}
 use Rattle.dw_find.specs.AllFields.{Fields}
-use Rattle.dw_find.specs.FoundPaths.{PathsFound, PathsRefuse}
+use Rattle.dw_find.specs.FoundPaths.{MapRefuses, PathsFound}
 use Rattle.dw_rewrite.specs.Bodies.BodiesRefuse.{addend_of, line_table_of, long_lines_of, long_table_of}
-use Rattle.dw_find.specs.FoundPaths.PathsRefuse.{units as paths_units, starts as paths_starts, inline as paths_inline, string_tables as paths_string_tables, name_tables as paths_name_tables, name_offsets as paths_name_offsets, relocations as paths_relocations, slots as paths_slots, shared as paths_shared}
+use Rattle.dw_find.specs.FoundPaths.MapRefuses.{inline as map_inline, shared as map_shared}
+use Rattle.dw_find.specs.ReadData.{DataRefuses}
+use Rattle.dw_find.specs.ReadData.DataRefuses.{units as data_units, starts as data_starts, string_tables as data_string_tables, name_tables as data_name_tables, name_offsets as data_name_offsets, relocations as data_relocations, slots as data_slots, lines as data_lines, macros as data_macros}
 use Rattle.dw_rewrite.specs.CheckedFiles.{IsChecked}
 use Rattle.dw_rewrite.specs.Rewritten.{AllStand, IsInFile, body_with, long_fault, long_or, long_refusal, told_refusal}
 use Rattle.dw_find.specs.MacroSections.{SectionUnits, UnitsFailIn, UnitsFoundIn}
@@ -118,23 +120,40 @@ names_fail : (b : List ℕ) (r : Refusal) → ElfReads b → NamesRefuse (view_o
 names_fail b r reads (tables_refuse h) = name_tables_row reads h
 names_fail b r reads (names_refuse list start t up some is h) = relocations_row reads (offset_rows (names_before list start t up some is h))
 
-data_fail : (m : PathMap) (b : List ℕ) (r : Refusal) → ElfReads b → PathsRefuse m (view_of b) r → EditFails m b r
-data_fail m b r reads (paths_units (data_fails h)) = file (units_row reads h)
-data_fail m b r reads (paths_units (text_fails h)) = file (texts_row reads h)
-data_fail m b r reads (paths_units (header_fails before behind z split h)) = file (relocations_row reads (headers before behind z split h))
-data_fail m b r reads (paths_units (relocation_fails h)) = file (relocations_row reads (values h))
-data_fail m b r reads (paths_starts h) = file (starts_row reads h)
-data_fail m b r reads (paths_inline h) = inline reads h
-data_fail m b r reads (paths_string_tables h) = file (string_tables_row reads h)
-data_fail m b r reads (paths_name_tables h) = file (name_tables_row reads h)
-data_fail m b r reads (paths_name_offsets h) = file (names_fail b r reads h)
-data_fail m b r reads (paths_relocations h) = file (relocations_row reads (left h))
-data_fail m b r reads (paths_slots h) = file (slots_row reads h)
-data_fail m b r reads (paths_shared readings i h) = shared readings reads i h
+units_refuse : (b : List ℕ) (z : CellSection) (before behind : List CellSection) (r : Refusal) → ElfReads b → (file_data b).found Macro ≡ before ++ z ∷ behind
+    → UnitsRefuse (view_of b) z.number r → FileFails b r
+units_refuse b z before behind r reads split (units_are_wrong h) = macros_row z before behind reads split h
+units_refuse b z before behind r reads split (offsets_refuse list start up some h) = relocations_row reads (offset_rows (macros_before before behind z list start split up some h))
 
-pub refused_paths : (m : PathMap) (b : List ℕ) (v : View) (f : Fault) → IsChecked b → v ≡ view_of b → Blames (PathsRefuse m v) f → Blames (EditFails m b) f
-refused_paths m b v NoMemory j is h = tt
-refused_paths m b v (Refused r) j is h = data_fail m b r j.elf (subst (λ (w : View). PathsRefuse m w r) is h)
+macro_fail : (m : PathMap) (b : List ℕ) (r : Refusal) → ElfReads b → UnitsFailIn (view_of b) r → EditFails m b r
+macro_fail m b r reads (units_fail z before behind split h) = file (macros_row z before behind reads split h)
+macro_fail m b r reads (offsets_fail z before behind split h) = file (units_refuse b z before behind r reads split h)
+
+data_fail : (m : PathMap) (b : List ℕ) (r : Refusal) → ElfReads b → DataRefuses (view_of b) r → EditFails m b r
+data_fail m b r reads (data_units (data_fails h)) = file (units_row reads h)
+data_fail m b r reads (data_units (text_fails h)) = file (texts_row reads h)
+data_fail m b r reads (data_units (header_fails before behind z split h)) = file (relocations_row reads (headers before behind z split h))
+data_fail m b r reads (data_units (relocation_fails h)) = file (relocations_row reads (values h))
+data_fail m b r reads (data_starts h) = file (starts_row reads h)
+data_fail m b r reads (data_string_tables h) = file (string_tables_row reads h)
+data_fail m b r reads (data_name_tables h) = file (name_tables_row reads h)
+data_fail m b r reads (data_name_offsets h) = file (names_fail b r reads h)
+data_fail m b r reads (data_relocations h) = file (relocations_row reads (left h))
+data_fail m b r reads (data_slots h) = file (slots_row reads h)
+data_fail m b r reads (data_lines h) = file (lines_row reads h)
+data_fail m b r reads (data_macros h) = macro_fail m b r reads h
+
+pub refused_data : (m : PathMap) (b : List ℕ) (v : View) (f : Fault) → IsChecked b → v ≡ view_of b → Blames (DataRefuses v) f → Blames (EditFails m b) f
+refused_data m b v NoMemory j is h = tt
+refused_data m b v (Refused r) j is h = data_fail m b r j.elf (subst (λ (w : View). DataRefuses w r) is h)
+
+map_fail : (m : PathMap) (b : List ℕ) (r : Refusal) → ElfReads b → MapRefuses m (view_of b) r → EditFails m b r
+map_fail m b r reads (map_inline h) = inline reads h
+map_fail m b r reads (map_shared readings i h) = shared readings reads i h
+
+pub refused_map : (m : PathMap) (b : List ℕ) (v : View) (f : Fault) → IsChecked b → v ≡ view_of b → Blames (MapRefuses m v) f → Blames (EditFails m b) f
+refused_map m b v NoMemory j is h = tt
+refused_map m b v (Refused r) j is h = map_fail m b r j.elf (subst (λ (w : View). MapRefuses m w r) is h)
 
 pub found_paths : (m : PathMap) (b : List ℕ) (v : View) (us : Fields) (ts : List LineTable) → v ≡ view_of b → PathsFound m v us ts → PathsFound m (view_of b) us ts
 found_paths m b v us ts is h = subst (λ (w : View). PathsFound m w us ts) is h
@@ -145,7 +164,7 @@ seen_tables b v ts is h = subst (λ (w : View). TablesFound w ts) (sym is) h
 pub seen_macros : (b : List ℕ) (v : View) (ss : List SectionUnits) → v ≡ view_of b → UnitsFoundIn (view_of b) ss → UnitsFoundIn v ss
 seen_macros b v ss is h = subst (λ (w : View). UnitsFoundIn w ss) (sym is) h
 
-pub ruleset paths_rules = (refused_paths, found_paths, seen_tables, seen_macros)
+pub ruleset paths_rules = (refused_data, refused_map, found_paths, seen_tables, seen_macros)
 
 -- so are line tables that can't be read.
 pub refused_tables : (m : PathMap) (b : List ℕ) (v : View) (f : Fault) → IsChecked b → v ≡ view_of b → Blames (LinesFail (debug_data v)) f → Blames (EditFails m b) f
@@ -158,15 +177,6 @@ found_tables b v ts is h = subst (λ (w : View). TablesFound w ts) is h
 pub ruleset tables_rules = (refused_tables, found_tables)
 
 -- and macro units.
-units_refuse : (b : List ℕ) (z : CellSection) (before behind : List CellSection) (r : Refusal) → ElfReads b → (file_data b).found Macro ≡ before ++ z ∷ behind
-    → UnitsRefuse (view_of b) z.number r → FileFails b r
-units_refuse b z before behind r reads split (units_are_wrong h) = macros_row z before behind reads split h
-units_refuse b z before behind r reads split (offsets_refuse list start up some h) = relocations_row reads (offset_rows (macros_before before behind z list start split up some h))
-
-macro_fail : (m : PathMap) (b : List ℕ) (r : Refusal) → ElfReads b → UnitsFailIn (view_of b) r → EditFails m b r
-macro_fail m b r reads (units_fail z before behind split h) = file (macros_row z before behind reads split h)
-macro_fail m b r reads (offsets_fail z before behind split h) = file (units_refuse b z before behind r reads split h)
-
 pub refused_macros : (m : PathMap) (b : List ℕ) (v : View) (f : Fault) → IsChecked b → v ≡ view_of b → Blames (UnitsFailIn v) f → Blames (EditFails m b) f
 refused_macros m b v NoMemory j is h = tt
 refused_macros m b v (Refused r) j is h = macro_fail m b r j.elf (subst (λ (w : View). UnitsFailIn w r) is h)

@@ -27,7 +27,7 @@ use crate::loaded_sections::check_unloaded;
 use crate::new_sections::Body;
 use crate::refusal::{fixed, too_large};
 use dw_base::{Fault, Kind, Refusal};
-use dw_find::{Fields, MacroSection, found_paths, macro_sections};
+use dw_find::{Fields, MacroSection, check_map, found_fields, macro_sections};
 use dw_lines::{LineTable, line_tables};
 use dw_paths::Maps;
 use dw_view::{RelocationSources, View};
@@ -177,7 +177,7 @@ fn macros_in(
     Ok(macros)
 }
 
-/// What the debug data of the file say of texts.
+/// What the debug data of the file say of texts, where the map can be applied to the paths among them.
 #[tactic(auto, using(crate::proofs::ExitLaws::paths_rules))]
 fn paths_in(
     alloc: Global,
@@ -194,7 +194,8 @@ fn paths_in(
     ensures found { IfOk result (λ paths. PathsFound maps.now (view_of elf.now.bytes.now) paths tables.now) }
     ensures refused { IfErr result (Blames (EditFails maps.now elf.now.bytes.now)) }
 {
-    let paths = found_paths(alloc, view, maps, tables, macros)?;
+    let (paths, marks) = found_fields(alloc, view, tables, macros)?;
+    check_map(alloc, view, maps, &paths, &marks, tables)?;
     Ok(paths)
 }
 

@@ -1,6 +1,6 @@
 -- The starts are those of the view's line tables.
 use Rattle.std.proofs.Common.{◌∙◌}
-use Rattle.dw_find.proofs.FoundPathLaws.{paths-found, tables-start}
+use Rattle.dw_find.proofs.FoundPathLaws.{fields-found, tables-start}
 use Rattle.dw_find.proofs.paths.listed_paths.Goals as goal
 
 pub named_paths-requires-clause-starts : goal.named_paths-requires-clause-starts
@@ -9,7 +9,7 @@ named_paths-requires-clause-starts c =
 
 pub returns-clause-found : goal.returns-clause-found
 returns-clause-found c =
-    paths-found c.args.maps.now c.args.view.now _ _ c.in_ok-starts.starts.items c.as_slice.result.now _ c.args.tables.now c.args.macros.now c.in_ok-marks.units.items
+    fields-found c.args.view.now _ _ c.in_ok-starts.starts.items c.as_slice.result.now _ c.args.tables.now c.args.macros.now c.in_ok-marks.units.items
     c.new-slots.result.items c.push_slots.new.paths.items c.new-lines.result.items c.push_lines.new.paths.items c.new-macro_fields.result.items c.push_macros.new.paths.items
     c.new-name_texts.result.items c.push_names.new.paths.items
     c.new-fields.result c.in_ok-list.ensures.read c.in_ok-names.ensures.offsets c.requires.tables c.in_ok-starts.ensures c.as_slice.ensures.value c.requires.macros

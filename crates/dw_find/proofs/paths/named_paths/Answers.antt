@@ -13,7 +13,7 @@ macros_name-requires-clause-starts c = starts-rise (debug_data c.args.view.now) 
 pub returns-in_err-macros_name-clause-refused : goal.returns-in_err-macros_name-clause-refused
 returns-in_err-macros_name-clause-refused c =
     let p = err_from_is_err_and c.from_residual-in_err-macros_name.result c.from_residual-in_err-macros_name.ensures.1 in
-    rw (p.1, p.2) (macros-row c.args.maps.now c.args.view.now c.args.starts.now c.in_ok-places.places c.args.macros.now _ c.in_err-macros_name.field-0.0 c.requires.starts
+    rw (p.1, p.2) (macros-row c.args.view.now c.args.starts.now c.in_ok-places.places c.args.macros.now _ c.in_err-macros_name.field-0.0 c.requires.starts
     c.requires.macros c.in_ok-places.ensures.start c.in_ok-paths.ensures.found c.in_err-macros_name.ensures.refused)
 
 pub returns-clause-named : goal.returns-clause-named

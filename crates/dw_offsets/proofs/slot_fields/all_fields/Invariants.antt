@@ -5,4 +5,4 @@ use Rattle.dw_offsets.proofs.slot_fields.all_fields.Given as goal
 
 -- the slots of the contributions so far were taken
 abbrev pub invariant-loop-contribution : goal.invariant-loop-contribution
-invariant-loop-contribution l = SlotsTaken l.maps l.table l.marks (slots_of (take l.contribution-index l.list)) [] l.fields.items
+invariant-loop-contribution l = SlotsTaken l.table l.marks (slots_of (take l.contribution-index l.list)) [] l.fields.items

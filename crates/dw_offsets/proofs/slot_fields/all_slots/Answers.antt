@@ -4,5 +4,5 @@ use Rattle.dw_offsets.proofs.slot_fields.all_slots.Goals as goal
 
 pub returns-in_default-clause-taken : goal.returns-in_default-clause-taken
 returns-in_default-clause-taken c =
-    none-taken c.args.maps.now c.args.view.now c.args.marks.now c.args.list.now c.new.result.items c.in_default.ensures.section c.requires.contributions
+    none-taken c.args.view.now c.args.marks.now c.args.list.now c.new.result.items c.in_default.ensures.section c.requires.contributions
     c.new.ensures.items

@@ -5,4 +5,4 @@ use Rattle.dw_offsets.proofs.slot_fields.push_fields.Given as goal
 
 -- the slots so far were taken
 abbrev pub invariant-loop-i : goal.invariant-loop-i
-invariant-loop-i l = SlotsTaken l.maps l.table l.marks (tabulate (slot_at l.contribution) l.i) l.fn.fields.items l.fields.items
+invariant-loop-i l = SlotsTaken l.table l.marks (tabulate (slot_at l.contribution) l.i) l.fn.fields.items l.fields.items
