@@ -37,6 +37,7 @@ use Rattle.dw_meaning.specs.RelocationFails.OffsetsFailIn.{names}
 use Rattle.dw_meaning.specs.RelocationFails.RelocationsFail.{left, offsets as lost_offsets}
 use Rattle.dw_meaning.proofs.LeftRowLaws.{headers-left, values-left}
 use Rattle.dw_meaning.proofs.LineRowLaws.{TableAmong, table-among}
+use Rattle.dw_find.proofs.FoundPathLaws.{all-names}
 use Rattle.refusal_laws.specs.Decided.{Both, Decided, TakenOrRefused, refused, taken}
 use Rattle.refusal_laws.specs.Readable.{HasNameTables, HasParts}
 use Rattle.refusal_laws.proofs.Decisions.{decided-among, decided-both, decided-by}
@@ -45,7 +46,7 @@ use Rattle.refusal_laws.proofs.LayoutDecisions.{layout-decided}
 use Rattle.refusal_laws.proofs.LeftDecisions.{left-decided}
 use Rattle.refusal_laws.proofs.ListDecisions.{Among, Each, decided-list, macros-map, readings-map}
 use Rattle.refusal_laws.proofs.NameDecisions.{names-decided}
-use Rattle.refusal_laws.proofs.PartPieces.{MacroText, MacroTextBy, PartsRead, names-there, parts-read}
+use Rattle.refusal_laws.proofs.PartPieces.{MacroText, MacroTextBy, PartsRead, parts-read}
 use Rattle.refusal_laws.proofs.PiecePlaces.{PlacedPiece, all-placed, macros-placed, slots-placed}
 use Rattle.refusal_laws.proofs.SlotDecisions.{indexes-decided, indexes-read, shared-decided, slots-decided}
 use Rattle.refusal_laws.proofs.StartDecisions.{MacroLine, MacroLineBy, NamesLine, StartsHold, starts-decided}
@@ -117,7 +118,7 @@ read-decided b p q =
       macro_texts = macros-map (MacroText (view_of b)) (MacroLine (around_of (file_data b) q.readings))
           (λ x. NamesTextBy (macro_role x.state) (around_of (file_data b) q.readings) x.cells) q.readings.macros
           (λ x text line. macro-names x.state.mode b q.readings x.cells text line) q.macros h.second.second.second.second.macro_lines;
-      name_texts = names-there (view_of b) q.readings q.readings.names q.names;
+      name_texts = all-names (view_of b) q.readings q.readings.names q.names;
       indexes = h.second.second.second.first;
       forms = h.second.second.second.second.forms;
       macro_values = h.second.second.second.second.values;

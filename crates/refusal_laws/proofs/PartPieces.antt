@@ -1,20 +1,17 @@
--- Parts of debug data that can be read are pieces, and the offsets of texts in macro units and name tables name texts.
+-- Parts of debug data that can be read are pieces, and the offsets of texts in macro units name texts.
 use Rattle.std.specs.Bool.{⊤}
 use Rattle.std.specs.Prelude.{Ok}
 use Rattle.std.proofs.Common.{false, ◌≡◌, ℕ, List, [], ◌∷◌, ◌++◌, length, Some, IsTrue, refl, sym, ◌∙◌, subst, append_assoc}
 use Rattle.dw_base.specs.Cells.{Cell, CellSection, bytes_of, offset_of}
-use Rattle.dw_base.specs.DebugData.{DataReadings, around_of}
+use Rattle.dw_base.specs.DebugData.{DataReadings}
 use Rattle.dw_base.specs.DebugSections.{name_of}
 use Rattle.dw_base.specs.FileViews.{View, section_named}
 use Rattle.dw_base.specs.MacroPieces.{MacroMode, MacroState, OffsetUse, at_line, at_offset, at_operation, at_unit, no_macros, of_text, of_unit}
 use Rattle.dw_base.specs.MacroReadings.{EachMacro, MacroReading, ReadsAllMacros}
 use Rattle.dw_base.specs.MacroUnits.{unit_operation}
-use Rattle.dw_base.specs.NamePieces.{NameMode, NameState, at_rest, at_string, at_table, no_names}
 use Rattle.dw_base.specs.OffsetPieces.{OffsetState, ReadsOffsets}
 use Rattle.dw_base.specs.Pieces.{EachPiece, Piece}
-use Rattle.dw_base.specs.SectionTexts.{NameTexts, name_role, name_role_by}
 use Rattle.dw_base.specs.StringOffsets.{AreContributions, ContributionsUpTo}
-use Rattle.dw_base.specs.TextChanges.{NamesTextBy}
 use Rattle.dw_base.specs.Texts.{ends_in}
 use Rattle.dw_base.specs.ViewData.{cells_located, debug_data, located, macro_sections, string_offsets}
 use Rattle.dw_base.specs.declared.debug_sections.DebugSection.TheVariants.{Macro, Names, Str, StrOffsets}
@@ -115,20 +112,6 @@ offsets-there v list are =
     subst (λ (bs : List ℕ). ContributionsUpTo v.order bs list (length bs)) (sym (string-bytes v)) are in
     let r = contributions-read v.order (string_cells v) list up in
     record { pieces = r.pieces; reads = r.reads }
-
--- ### Name tables
-
-string-names : (m : NameMode) (v : View) (rs : DataReadings) (p : List Cell) → StringNamesBy m v p → NamesTextBy (name_role_by m) (around_of (debug_data v) rs) p
-unfolding debug_data
-string-names at_table v rs p h = tt
-string-names (at_string width left end) v rs p h = h
-string-names (at_rest end) v rs p h = tt
-string-names no_names v rs p h = tt
-
-pub names-there : (v : View) (rs : DataReadings) (xs : List (Piece NameState)) → EachPiece (λ x. StringNamesBy x.state.mode v x.cells) xs
-    → NameTexts name_role (around_of (debug_data v) rs) xs
-names-there v rs [] h = tt
-names-there v rs (x ∷ xs) h = (string-names x.state.mode v rs x.cells h.0, names-there v rs xs h.1)
 
 -- ### All
 

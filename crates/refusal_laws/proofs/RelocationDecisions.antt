@@ -14,6 +14,7 @@ use Rattle.dw_base.specs.declared.debug_sections.DebugSection.TheVariants.{Abbre
 use Rattle.dw_base.specs.declared.elf_numbers.TheConstants.{ET_REL}
 use Rattle.dw_base.specs.declared.fault.Kind.TheVariants.{Relocation as RelocationKind}
 use Rattle.dw_base.specs.declared.fault.Refusal.{Refusal}
+use Rattle.dw_base.proofs.TableRelocationLaws.{together-first, together-further}
 use Rattle.refusal_laws.specs.Decided.{Decided, taken, refused, SomeFails, some_fails}
 use Rattle.refusal_laws.proofs.ListDecisions.{Among, Each, decided-list, each-among}
 use Rattle.refusal_laws.proofs.Decisions.{clash, decided-by, decided-among, decided-both, decided-each, decided-other, decided-below, decided-true, decided-false, decided-if, decided-at}
@@ -27,24 +28,6 @@ all-at : (P : PlacedRelocation → Type 0) (list : List PlacedRelocation) → Ea
 all-at P list all r h = each-among P list r (record { before = h.before; behind = h.behind; is = h.is }) all
 
 -- no two of a list begin at one place
-together-further : (x : PlacedRelocation) (xs : List PlacedRelocation) (r q : PlacedRelocation) → BeginTogether xs r q → BeginTogether (x ∷ xs) r q
-together-further x xs r q h = record {
-  before = x ∷ h.before;
-  between = h.between;
-  behind = h.behind;
-  both = ap (λ (l : List PlacedRelocation). x ∷ l) h.both;
-  place = h.place;
-}
-
-together-first : (x : PlacedRelocation) (xs : List PlacedRelocation) (q : PlacedRelocation) → IsAmong xs q → x.place ≡ q.place → BeginTogether (x ∷ xs) x q
-together-first x xs q h same = record {
-  before = [];
-  between = h.before;
-  behind = h.behind;
-  both = ap (λ (l : List PlacedRelocation). x ∷ l) h.is;
-  place = same;
-}
-
 none-together : (r q : PlacedRelocation) → BeginTogether [] r q → ⊥
 none-together r q h = by h.before h.between h.behind h.both
   where
