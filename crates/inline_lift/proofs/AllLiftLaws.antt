@@ -1,5 +1,5 @@
 -- What is asked of the pieces of lifted units holds of all pieces of a section.
-use Rattle.std.proofs.Common.{Bool, true, false, ◌≡◌, ◌≢◌, ◌⊎◌, inl, inr, ℕ, ◌+◌, ◌-◌, ◌^◌, ◌<◌, ◌==◌, List, [], ◌∷◌, ◌++◌, length, Option, Some, None, refl, sym, ap, ◌∙◌, subst, arith, if◌then◌else◌}
+use Rattle.std.proofs.Common.{Bool, true, false, ◌≡◌, ◌≢◌, ◌⊎◌, inl, inr, ℕ, ◌+◌, ◌-◌, ◌^◌, ◌<◌, ◌==◌, List, [], ◌∷◌, length, Option, Some, None, refl, sym, ap, ◌∙◌, subst, arith, if◌then◌else◌}
 use Rattle.std.proofs.lemmas.Bool.{eqb-true, ne_eqb}
 use Rattle.dw_base.specs.AbbreviationBytes.{abbreviations_at}
 use Rattle.dw_base.specs.AbbreviationTables.{Abbreviation, IsTable, abbreviation_of}
@@ -13,7 +13,7 @@ use Rattle.dw_base.specs.UnitStates.{Mode, at_header, at_code, at_values, at_cho
 use Rattle.dw_base.specs.declared.units.UnitHeader.{UnitHeader}
 use Rattle.dw_base.specs.declared.values.Spec.{Spec}
 use Rattle.dw_base.proofs.AbbreviationLaws.{table-found}
-use Rattle.inline_lift.specs.GrowingPaths.{Fate, fate_if, fate_of, fates, grows, is_grown, room_left}
+use Rattle.inline_lift.specs.GrowingPaths.{Fate, any_grown, fate_if, fate_of, fates, grows, is_grown, room_left}
 use Rattle.inline_lift.specs.LiftFails.{CodeLifts, ValueLifts}
 use Rattle.inline_lift.specs.Lifted.{Lift, lifted_abbrevs, own_table}
 use Rattle.inline_lift.specs.LiftedTables.{Copy, copies_in, lifted_specs, lifted_table}
@@ -42,11 +42,11 @@ own-lifts l unit table list r o e small =
       read,
     )
 
-none-own : (l : Lift) (unit table : ℕ) → own_table l unit ≡ None → own_table l unit ≡ Some table → ⊥
+pub none-own : (l : Lift) (unit table : ℕ) → own_table l unit ≡ None → own_table l unit ≡ Some table → ⊥
 none-own l unit table none some = let both : None ≡ Some table = sym none ∙ some in cc
 
 -- the abbreviation of the first entry is lifted, and every other stays
-found-code : (xs : List Abbreviation) (code : ℕ) (a : Abbreviation) → abbreviation_of xs code ≡ Some a → (a.code == code) ≡ true
+pub found-code : (xs : List Abbreviation) (code : ℕ) (a : Abbreviation) → abbreviation_of xs code ≡ Some a → (a.code == code) ≡ true
 found-code [] code a e = absurd cc
 found-code (x ∷ xs) code a e = by_code (x.code == code) refl (found-code xs code a) e
   where
@@ -75,7 +75,6 @@ other-found list code n fs gs other all = by_found (abbreviation_of list n) refl
 -- what is asked of each piece
 pub record CanLift (l : Lift) (x : Piece UnitState) : Type 0 where
   pub value : ValueLifts l.map x
-  pub code : CodeLifts l.copies x
   pub short : length x.cells < 2 ^ 32
 
 -- the unit of a state was read with its table
@@ -83,11 +82,13 @@ pub record Inside (l : Lift) (s : UnitState) : Type 0 where
   pub order : s.header.params.order ≡ l.base.order
   pub table : IsTable l.base.abbrevs.bytes s.header.abbrevs s.table
 
--- where pieces stand: in front of a unit; in front of its entries; or behind the code of its first entry
-pub data Stage (l : Lift) (xs : List (Piece UnitState)) (s : UnitState) : Type 0 where
-  at_unit : s.mode ≡ at_header → Stage l xs s
-  before_first : (t : UnitState) → s ≡ fresh t → Inside l s → Known l s.unit s.table (root_ahead l.map xs) → Stage l xs s
-  behind_first : (r : Root) → s.entry ≢ 0 → s.mode ≢ at_header → Inside l s → Known l s.unit s.table (Some r) → Stage l xs s
+-- where pieces stand: in front of a unit; in front of its entries; or behind the code of its first entry, of which nothing more grows where the unit
+-- has no table of its own, and whose code is known where a path grows in it
+pub data Stage (l : Lift) (o : Option ℕ) (xs : List (Piece UnitState)) (s : UnitState) : Type 0 where
+  at_unit : s.mode ≡ at_header → Stage l o xs s
+  before_first : (t : UnitState) → s ≡ fresh t → Inside l s → Known l s.unit s.table (root_ahead l.map xs) → Stage l o xs s
+  behind_first : (r : Root) → s.entry ≢ 0 → s.mode ≢ at_header → Inside l s → Known l s.unit s.table (Some r) → (any_grown r.fates ≡ true → o ≡ Some r.code)
+      → (own_table l s.unit ≡ None → any_grown (fates l.map xs) ≡ false) → Stage l o xs s
 
 -- a state behind another in the same unit, behind its first entry's code
 pub record Inner (s t : UnitState) : Type 0 where
@@ -144,15 +145,17 @@ past-inner (at_chosen number tag start x xs) base s p other some f = inside-inne
 past-inner stuck base s p other some f = absurd f
 
 -- so what is known of the unit stays
-pub inner-stage : (l : Lift) (xs : List (Piece UnitState)) (s t : UnitState) (r : Root) → Inside l s → Known l s.unit s.table (Some r) → GoesOn s t → Stage l xs t
-inner-stage l xs s t r i known (inl e) = at_unit e
-inner-stage l xs s t r i known (inr g) =
+pub inner-stage : (l : Lift) (o : Option ℕ) (xs : List (Piece UnitState)) (s t : UnitState) (r : Root) → Inside l s → Known l s.unit s.table (Some r)
+    → (any_grown r.fates ≡ true → o ≡ Some r.code) → (own_table l s.unit ≡ None → any_grown (fates l.map xs) ≡ false) → GoesOn s t → Stage l o xs t
+inner-stage l o xs s t r i known rooted quiet (inl e) = at_unit e
+inner-stage l o xs s t r i known rooted quiet (inr g) =
     behind_first r g.entry g.mode
     (record {
       order = ap (λ (h : UnitHeader). h.params.order) g.header ∙ i.order;
       table = subst (λ (h : UnitHeader). IsTable l.base.abbrevs.bytes h.abbrevs t.table) (sym g.header) (subst (λ (list : List Abbreviation). IsTable l.base.abbrevs.bytes s.header.abbrevs list) (sym g.table) i.table);
     })
     (subst (λ (n : ℕ). Known l n t.table (Some r)) (sym g.unit) (subst (λ (list : List Abbreviation). Known l s.unit list (Some r)) (sym g.table) known))
+    rooted (λ none. quiet (ap (own_table l) (sym g.unit) ∙ none))
 
 -- what is known behind a header
 pub header-known : (l : Lift) (s : UnitState) (h : UnitHeader) (place : ℕ) (xs : List (Piece UnitState)) (before after : List Copy)
@@ -202,15 +205,13 @@ first-lifts l table s p xs small known e some =
         ∙ first-found s.table (code_value p) (fates l.map xs)
 
 other-lifts : (l : Lift) (table : ℕ) (s : UnitState) (p : List Cell) (gs : List Fate) (r : Root) → length (lifted_abbrevs l) < 2 ^ 32
-    → Known l s.unit s.table (Some r) → own_table l s.unit ≡ Some table
-    → ((c : Copy) (before behind : List Copy) → l.copies ≡ before ++ c ∷ behind → c.unit ≡ s.unit → c.code ≢ code_value p) → AllStay gs → EntryLifts l table gs s p
+    → Known l s.unit s.table (Some r) → own_table l s.unit ≡ Some table → (any_grown r.fates ≡ true → r.code ≢ code_value p) → AllStay gs → EntryLifts l table gs s p
 other-lifts l table s p gs r small (inl k) e codes all some = absurd (none-own l s.unit table k.1 e)
 other-lifts l table s p gs r small (inr k) e codes all some =
     let own = own-lifts l s.unit table s.table r k.1 e small in
-    let other : r.code ≢ code_value p = λ f. codes k.1.copy k.1.before k.1.behind k.1.among k.1.unit_is (k.1.code_is ∙ f) in
     ap (λ (list : List Abbreviation). abbreviation_of list (code_value p)) own.1
     ∙ abbreviation-lifted r.code r.fates s.table (code_value p)
-    ∙ other-found s.table r.code (code_value p) r.fates gs other all
+    ∙ other-found s.table r.code (code_value p) r.fates gs (codes k.0) all
 
 -- a value whose text grows
 grown-is : (b : Bool) (r : ℕ) → is_grown (fate_if b r) ≡ true → b ≡ true
@@ -225,7 +226,7 @@ value-lifts l x can i e = record {
 }
 
 -- the code of an entry behind the first leads to no path of the unit
-between-after : (s : UnitState) (place n : ℕ) → s.entry ≢ 0 → NotFirst (after_code s place n).mode
+pub between-after : (s : UnitState) (place n : ℕ) → s.entry ≢ 0 → NotFirst (after_code s place n).mode
 unfolding after_code
 between-after s place n some = by_zero (n == 0)
   where
@@ -237,15 +238,15 @@ between-after s place n some = by_zero (n == 0)
     by_zero true = inside-other s place s.entry (s.depth - 1) 1 0 [] (λ e. omega (arith, e))
     by_zero false = by_entry (abbreviation_of s.table n)
 
-pub behind-lifts : (k : Mode) (l : Lift) (table : ℕ) (s : UnitState) (p : List Cell) (xs : List (Piece UnitState)) (r : Root) → CanLift l (record { state = in_mode s k; cells = p })
-    → k ≢ at_header → Chain (unit_grammar l.base) (past k l.base (in_mode s k) p) xs → length (lifted_abbrevs l) < 2 ^ 32 → s.entry ≢ 0 → Inside l (in_mode s k)
+pub behind-lifts : (k : Mode) (l : Lift) (o : Option ℕ) (table : ℕ) (s : UnitState) (p : List Cell) (xs : List (Piece UnitState)) (r : Root) → CanLift l (record { state = in_mode s k; cells = p })
+    → CodeLifts k o (in_mode s k) p → (any_grown r.fates ≡ true → o ≡ Some r.code) → k ≢ at_header → Chain (unit_grammar l.base) (past k l.base (in_mode s k) p) xs → length (lifted_abbrevs l) < 2 ^ 32 → s.entry ≢ 0 → Inside l (in_mode s k)
     → Known l s.unit s.table (Some r) → own_table l s.unit ≡ Some table
     → PieceLifts k l table (fates l.map xs) (fate_of l.map (record { state = in_mode s k; cells = p })) (in_mode s k) p
-behind-lifts at_header l table s p xs r can other c small some i known e = absurd (other refl)
-behind-lifts at_code l table s p xs r can other c small some i known e =
-    other-lifts l table s p (fates l.map xs) r small known e (can.code some)
+behind-lifts at_header l o table s p xs r can codes rooted other c small some i known e = absurd (other refl)
+behind-lifts at_code l o table s p xs r can codes rooted other c small some i known e =
+    other-lifts l table s p (fates l.map xs) r small known e (λ grown. subst (λ (q : Option ℕ). CodeLifts at_code q (in_mode s at_code) p) (rooted grown) codes some)
     (all-stay l.map l.base (after_code (in_mode s at_code) (s.place + length p) (code_value p)) xs c (between-after (in_mode s at_code) (s.place + length p) (code_value p) some))
-behind-lifts (at_values number tag ys) l table s p xs r can other c small some i known e =
+behind-lifts (at_values number tag ys) l o table s p xs r can codes rooted other c small some i known e =
     value-lifts l (record { state = in_mode s (at_values number tag ys); cells = p }) can i
-behind-lifts (at_chosen number tag start y ys) l table s p xs r can other c small some i known e = tt
-behind-lifts stuck l table s p xs r can other c small some i known e = tt
+behind-lifts (at_chosen number tag start y ys) l o table s p xs r can codes rooted other c small some i known e = tt
+behind-lifts stuck l o table s p xs r can codes rooted other c small some i known e = tt

@@ -1,17 +1,14 @@
 -- The copy of a table of abbreviations, one number after another: a number's bytes are copied, or those of another form stand in their place;
 -- and what stands in bytes whose rest is known.
-use Rattle.std.proofs.Common.{Bool, true, false, ◌≡◌, ℕ, ◌+◌, ◌^◌, ◌<◌, nat_lt, ℤ, List, [], ◌∷◌, ◌++◌, length, take, drop, slice_index, get_or, Option, Some, None, refl, sym, ap, ◌∙◌, arith, if◌then◌else◌, append_assoc, take-append-drop}
+use Rattle.std.proofs.Common.{Bool, true, false, ◌≡◌, ℕ, ◌+◌, ◌<◌, nat_lt, ℤ, List, [], ◌∷◌, ◌++◌, length, take, drop, slice_index, get_or, Option, Some, refl, sym, ap, ◌∙◌, arith, if◌then◌else◌, append_assoc}
 use Rattle.std.proofs.lemmas.List.{drop_at, drop-drop, get_or-drop, length-drop, length-take-le}
 use Rattle.dw_base.specs.AbbreviationBytes.{TablePlace, code_next, tag_next, flag_next, name_next, form_next, number_next, ended, broken, TableState, after_bytes, after_byte, at_place, after_number, if_number, if_signed}
 use Rattle.dw_base.specs.AbbreviationTables.{Abbreviation}
-use Rattle.dw_base.specs.Lebs.{sleb, sleb_at, sleb_within, uleb, uleb_at, uleb_within, fits_i64}
+use Rattle.dw_base.specs.Lebs.{sleb, sleb_at, sleb_within, uleb, uleb_at, uleb_within}
 use Rattle.dw_base.proofs.LebLaws.{sleb_at-append, uleb_at-append}
-use Rattle.dw_base.proofs.NumberBytes.{is_none, is_whole, number-cut, signed-cut, sleb-front_of, takes_number, takes_unsigned, uleb-front_of}
+use Rattle.dw_base.proofs.NumberBytes.{is_none, is_whole, number-cut, signed-cut, signed_within-some, sleb-front_of, split-front, takes_number, takes_unsigned, uleb-front_of, unfinished, unsigned-after, within-some}
 use Rattle.inline_lift.specs.GrowingPaths.{Fate, stays, grown}
 use Rattle.inline_lift.specs.LiftedTables.{copied, copied_byte, is_ended, lifted_form, next_fate}
-
-abbrev within_number : TablePlace → List ℕ → List Abbreviation → TableState
-within_number p t list = record { place = p; number = t; list = list }
 
 -- what a number becomes whose bytes are these
 abbrev pub copied_number : Fate → List ℕ → List ℕ
@@ -28,7 +25,7 @@ copied-low stays b = refl
 copied-low (grown r) b = refl
 
 abbrev state_low : TablePlace → List ℕ → List Abbreviation → Bool → TableState
-state_low p t list low = if low then after_bytes p t list else within_number p t list
+state_low p t list low = if low then after_bytes p t list else unfinished p t list
 
 -- where a number stands, the table hasn't ended, and the next byte belongs to the number
 pub record Takes (p : TablePlace) : Type 0 where
@@ -47,7 +44,7 @@ number-takes (number_next a name) e = record { begun = refl; byte = λ t list b.
 
 -- the bytes of a number
 copied-whole : (code : ℕ) (fs : List Fate) (p : TablePlace) (t : List ℕ) (list : List Abbreviation) (front rest : List ℕ) → Takes p → is_whole front ≡ true
-    → copied code fs (within_number p t list) (front ++ rest)
+    → copied code fs (unfinished p t list) (front ++ rest)
     ≡ copied_number (next_fate code fs p) front ++ copied code fs (after_bytes p (t ++ front) list) rest
 copied-whole code fs p t list [] rest takes w = absurd cc
 copied-whole code fs p t list (b ∷ bs) rest takes w =
@@ -58,7 +55,7 @@ copied-whole code fs p t list (b ∷ bs) rest takes w =
     ∙ by_low f (nat_lt b 128) bs w (λ v. copied-whole code fs p (t ++ b ∷ []) list bs rest takes v)
   where
     by_low : (f : Fate) (low : Bool) (cs : List ℕ) → (if low then is_none cs else is_whole cs) ≡ true
-        → (is_whole cs ≡ true → copied code fs (within_number p (t ++ b ∷ []) list) (cs ++ rest)
+        → (is_whole cs ≡ true → copied code fs (unfinished p (t ++ b ∷ []) list) (cs ++ rest)
         ≡ copied_number f cs ++ copied code fs (after_bytes p ((t ++ b ∷ []) ++ cs) list) rest)
         → copied_low f low b ++ copied code fs (state_low p (t ++ b ∷ []) list low) (cs ++ rest)
         ≡ copied_number f (b ∷ cs) ++ copied code fs (after_bytes p (t ++ b ∷ cs) list) rest
@@ -70,35 +67,13 @@ copied-whole code fs p t list (b ∷ bs) rest takes w =
     by_low (grown r) false cs v step =
         step v ∙ ap (λ (u : List ℕ). lifted_form r ++ copied code fs (after_bytes p u list) rest) (append_assoc t (b ∷ []) cs)
 
--- a number is read of its own bytes
-within-read : (o : Option (ℕ × ℕ)) (v : ℕ × ℕ) → uleb_within o ≡ Some v → o ≡ Some v
-within-read None v e = absurd cc
-within-read (Some w) v e = by_fits (nat_lt w.0 (2 ^ 64)) e
-  where
-    by_fits : (b : Bool) → (if b then Some w else None) ≡ Some v → Some w ≡ Some v
-    by_fits true e = e
-    by_fits false e = absurd cc
-
-signed-read_within : (o : Option (ℤ × ℕ)) (v : ℤ × ℕ) → sleb_within o ≡ Some v → o ≡ Some v
-signed-read_within None v e = absurd cc
-signed-read_within (Some w) v e = by_fits (fits_i64 w.0) e
-  where
-    by_fits : (b : Bool) → (if b then Some w else None) ≡ Some v → Some w ≡ Some v
-    by_fits true e = e
-    by_fits false e = absurd cc
-
 unsigned-whole : (bytes : List ℕ) (at v n : ℕ) → uleb_at bytes at ≡ Some (v, n) → is_whole (take n (drop at bytes)) ≡ true
 unfolding uleb_at
-unsigned-whole bytes at v n e = (uleb-front_of (drop at bytes) (v, n) (within-read (uleb (drop at bytes)) (v, n) e)).whole
+unsigned-whole bytes at v n e = (uleb-front_of (drop at bytes) (v, n) (within-some (uleb (drop at bytes)) (v, n) e)).whole
 
 signed-whole : (bytes : List ℕ) (at : ℕ) (v : ℤ) (n : ℕ) → sleb_at bytes at ≡ Some (v, n) → is_whole (take n (drop at bytes)) ≡ true
 unfolding sleb_at
-signed-whole bytes at v n e = (sleb-front_of (drop at bytes) (v, n) (signed-read_within (sleb (drop at bytes)) (v, n) e)).whole
-
--- the bytes from a place on, behind a front of them
-front-split : (n at : ℕ) (bytes : List ℕ) → drop at bytes ≡ take n (drop at bytes) ++ drop (at + n) bytes
-front-split n at bytes =
-    sym (take-append-drop n (drop at bytes)) ∙ ap (λ (bs : List ℕ). take n (drop at bytes) ++ bs) (drop-drop n at bytes)
+signed-whole bytes at v n e = (sleb-front_of (drop at bytes) (v, n) (signed_within-some (sleb (drop at bytes)) (v, n) e)).whole
 
 -- the copy from a place on, where this comes next
 abbrev pub copied_from : ℕ → List Fate → TablePlace → List Abbreviation → List ℕ → ℕ → List ℕ
@@ -115,17 +90,6 @@ unsigned-takes (tag_next code) e = number-takes (tag_next code) refl
 unsigned-takes (name_next a) e = number-takes (name_next a) refl
 unsigned-takes (form_next a name) e = number-takes (form_next a name) refl
 
-unsigned-next : (p : TablePlace) (t : List ℕ) (list : List Abbreviation) → takes_unsigned p ≡ true
-    → after_bytes p t list ≡ if_number p list (uleb_within (uleb t))
-unsigned-next (flag_next code tag) t list e = absurd cc
-unsigned-next (number_next a name) t list e = absurd cc
-unsigned-next ended t list e = absurd cc
-unsigned-next broken t list e = absurd cc
-unsigned-next code_next t list e = refl
-unsigned-next (tag_next code) t list e = refl
-unsigned-next (name_next a) t list e = refl
-unsigned-next (form_next a name) t list e = refl
-
 -- an unsigned number that stands at a place
 pub unsigned-copied : (code : ℕ) (fs : List Fate) (p : TablePlace) (list : List Abbreviation) (bytes : List ℕ) (at v n : ℕ) → takes_unsigned p ≡ true
     → uleb_at bytes at ≡ Some (v, n)
@@ -134,10 +98,10 @@ pub unsigned-copied : (code : ℕ) (fs : List Fate) (p : TablePlace) (list : Lis
 unfolding uleb_at
 unsigned-copied code fs p list bytes at v n takes e =
     let read : uleb_within (uleb (take n (drop at bytes))) ≡ Some (v, n) = (number-cut bytes at v n e).0 in
-    ap (copied code fs (at_place p list)) (front-split n at bytes)
+    ap (copied code fs (at_place p list)) (split-front n at bytes)
     ∙ copied-whole code fs p [] list (take n (drop at bytes)) (drop (at + n) bytes) (unsigned-takes p takes) (unsigned-whole bytes at v n e)
     ∙ ap (λ (s : TableState). copied_number (next_fate code fs p) (take n (drop at bytes)) ++ copied code fs s (drop (at + n) bytes))
-    (unsigned-next p (take n (drop at bytes)) list takes ∙ ap (if_number p list) read)
+    (unsigned-after p (take n (drop at bytes)) list takes ∙ ap (if_number p list) read)
 
 -- the signed number of an attribute
 pub signed-copied : (code : ℕ) (fs : List Fate) (a : Abbreviation) (name : ℕ) (list : List Abbreviation) (bytes : List ℕ) (at : ℕ) (v : ℤ) (n : ℕ)
@@ -147,7 +111,7 @@ pub signed-copied : (code : ℕ) (fs : List Fate) (a : Abbreviation) (name : ℕ
 unfolding sleb_at
 signed-copied code fs a name list bytes at v n e =
     let read : sleb_within (sleb (take n (drop at bytes))) ≡ Some (v, n) = (signed-cut bytes at v n e).0 in
-    ap (copied code fs (at_place (number_next a name) list)) (front-split n at bytes)
+    ap (copied code fs (at_place (number_next a name) list)) (split-front n at bytes)
     ∙ copied-whole code fs (number_next a name) [] list (take n (drop at bytes)) (drop (at + n) bytes) (number-takes (number_next a name) refl)
     (signed-whole bytes at v n e)
     ∙ ap (λ (o : Option (ℤ × ℕ)). take n (drop at bytes) ++ copied code fs (if_signed a name list o) (drop (at + n) bytes)) read

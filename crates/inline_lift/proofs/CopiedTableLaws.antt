@@ -1,14 +1,14 @@
 -- A copied table of abbreviations declares the lifted abbreviations, wherever it stands.
 use Rattle.std.proofs.Common.{Bool, true, false, ◌≡◌, ◌≢◌, ℕ, ◌+◌, ◌<◌, ◌≤◌, ℤ, pos, List, [], ◌∷◌, ◌++◌, length, take, drop, Some, refl, sym, ap, ◌∙◌, subst, if◌then◌else◌, append_assoc, append-nil, zero, suc}
 use Rattle.std.specs.Prelude.{◌==◌, is_some}
-use Rattle.std.proofs.lemmas.Bool.{eqb-false, ne_eqb, lt-ltb}
+use Rattle.std.proofs.lemmas.Bool.{eqb-false, lt-ltb}
 use Rattle.std.proofs.lemmas.List.{drop-append-le, drop_more}
-use Rattle.dw_base.specs.AbbreviationBytes.{TablePlace, code_next, tag_next, flag_next, name_next, form_next, number_next, ended, broken, TableState, at_place, bare, with_spec, after_form, after_pair, after_byte}
+use Rattle.dw_base.specs.AbbreviationBytes.{TablePlace, code_next, tag_next, flag_next, name_next, form_next, number_next, ended, broken, TableState, at_place, bare, with_spec, after_pair, after_byte}
 use Rattle.dw_base.specs.AbbreviationTables.{Abbreviation, abbreviation_of, HeadsAbbreviation, SpellsPair, SpellsSpec, by_form, with_number, SpellsSpecs, no_specs, more_specs, SpellsAbbreviation, Declares, no_abbreviations, more_abbreviations, IsTable}
 use Rattle.dw_base.specs.Lebs.{sleb_at, uleb_at}
 use Rattle.dw_base.specs.declared.values.Spec.{Spec}
 use Rattle.dw_base.specs.declared.dwarf_numbers.TheConstants.{DW_FORM_block1, DW_FORM_block4, DW_FORM_implicit_const, DW_FORM_strp}
-use Rattle.dw_base.proofs.AbbreviationLaws.{and_specs, code-some}
+use Rattle.dw_base.proofs.AbbreviationLaws.{and_specs, code-some, form-plain as after-plain, pair-some}
 use Rattle.dw_base.proofs.NumberBytes.{number-cut, signed-cut}
 use Rattle.inline_lift.specs.GrowingPaths.{Fate, stays, grown}
 use Rattle.inline_lift.specs.LiftedTables.{copied, copied_byte, filler_form, filler_name, filler_name_bytes, filler_pair, filler_specs, is_ended, is_short, lifted_abbreviation, lifted_form, lifted_spec, lifted_specs, lifted_table, next_fate, nth_fate, plain_spec, table_copy}
@@ -141,14 +141,6 @@ filler-copied out start k (suc n) specs rest s h =
       rest-behind out (k + 2) (filler_form n ∷ []) rest 1 second refl,
     )
 
--- after a pair that declares an attribute
-after-some : (a : Abbreviation) (list : List Abbreviation) (name form : ℕ) → name ≢ 0 → form ≢ 0
-    → after_pair a name form list ≡ at_place (after_form a name form) list
-after-some a list name form n f = rw (ne_eqb name 0 n, ne_eqb form 0 f) refl
-
-after-plain : (a : Abbreviation) (name form : ℕ) → form ≢ DW_FORM_implicit_const → after_form a name form ≡ name_next (with_spec a name form (pos 0))
-after-plain a name form f = rw (ne_eqb form DW_FORM_implicit_const f) refl
-
 -- an attribute behind others
 abbrev SpecCopied : ℕ → List Fate → Abbreviation → List Abbreviation → List ℕ → ℕ → List ℕ → ℕ → List Spec → List ℕ → Spec → Fate → Type 0
 SpecCopied code fs a list bytes next out start specs tail x f =
@@ -160,7 +152,7 @@ plain-copied : (code : ℕ) (fs : List Fate) (a : Abbreviation) (list : List Abb
     → SpecCopied code fs a list bytes next out start specs tail (plain_spec name form) f
 plain-copied code fs a list bytes at name form next out start k specs tail stays fate s n g i before h =
     let after : after_pair a name form list ≡ at_place (name_next (with_spec a name form (pos 0))) list =
-    after-some a list name form n g ∙ ap (λ (p : TablePlace). at_place p list) (after-plain a name form i) in
+    pair-some a list name form n g ∙ ap (λ (p : TablePlace). at_place p list) (after-plain a name form i) in
     let p = pair-stays code fs a list bytes at name form next out k tail fate s h in (
       p.0,
       more_specs specs (plain_spec name form) k p.0 before (by_form name form p.0 p.1 n g i),
@@ -168,7 +160,7 @@ plain-copied code fs a list bytes at name form next out start k specs tail stays
     )
 plain-copied code fs a list bytes at name form next out start k specs tail (grown r) fate s n g i before h =
     let after : after_pair a name form list ≡ at_place (name_next (with_spec a name form (pos 0))) list =
-    after-some a list name form n g ∙ ap (λ (p : TablePlace). at_place p list) (after-plain a name form i) in
+    pair-some a list name form n g ∙ ap (λ (p : TablePlace). at_place p list) (after-plain a name form i) in
     let p = pair-grown code fs a list bytes at name form next r out k tail fate s h in
     let one : SpellsSpecs out start (specs ++ plain_spec name DW_FORM_strp ∷ []) p.0 =
     more_specs specs (plain_spec name DW_FORM_strp) k p.0 before (by_form name DW_FORM_strp p.0 p.1 n (eqb-false _ _ refl) (eqb-false _ _ refl)) in
@@ -183,7 +175,7 @@ numbered-copied : (code : ℕ) (fs : List Fate) (a : Abbreviation) (list : List 
     → SpellsSpecs out start specs k → drop k out ≡ copied_from code fs (name_next a) list bytes at ++ tail
     → SpecCopied code fs a list bytes (between + size) out start specs tail (record { name = name; form = DW_FORM_implicit_const; implicit = value }) stays
 numbered-copied code fs a list bytes at name between value size out start k specs tail fate s n v before h =
-    let after : after_pair a name DW_FORM_implicit_const list ≡ at_place (number_next a name) list = after-some a list name DW_FORM_implicit_const n (eqb-false _ _ refl) in
+    let after : after_pair a name DW_FORM_implicit_const list ≡ at_place (number_next a name) list = pair-some a list name DW_FORM_implicit_const n (eqb-false _ _ refl) in
     let p = pair-stays code fs a list bytes at name DW_FORM_implicit_const between out k tail fate s h in
     let whole : drop p.0 out ≡ take size (drop between bytes) ++ (copied_from code fs (name_next (with_spec a name DW_FORM_implicit_const value)) list bytes (between + size) ++ tail) =
     p.2 ∙ ap (λ (t : TableState). copied code fs t (drop between bytes) ++ tail) after

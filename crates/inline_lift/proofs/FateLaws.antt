@@ -125,7 +125,7 @@ specs-stay [] (x ∷ xs) all = ap (λ (ys : List Spec). x ∷ ys) (specs-stay []
 specs-stay (f ∷ fs) (x ∷ xs) all =
     ap (λ (g : Fate). lifted_spec g x ++ lifted_specs fs xs) all.0 ∙ ap (λ (ys : List Spec). x ∷ ys) (specs-stay fs xs all.1)
 
-path-other : (number tag name : ℕ) → number ≢ 0 → is_path_use (use_of number tag name) ≡ false
+pub path-other : (number tag name : ℕ) → number ≢ 0 → is_path_use (use_of number tag name) ≡ false
 path-other number tag name other =
     ap (λ (b : Bool). is_path_use (if (b && is_unit_tag tag) && (name == DW_AT_name || name == DW_AT_comp_dir) then NamesPath else
     (if name == DW_AT_stmt_list then NamesLineTable else (if is_macros name then NamesMacroUnit else NamesOther)))) (ne_eqb number 0 other)

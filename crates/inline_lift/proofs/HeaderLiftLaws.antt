@@ -17,7 +17,7 @@ use Rattle.dw_base.proofs.NumberLaws.{length-with_number, spelled-other, spelled
 use Rattle.dw_base.proofs.PlainCellLaws.{IsPlain, bytes_of-plain, first-plain, plain_cells-plain}
 use Rattle.dw_base.proofs.RelocationFieldLaws.{number-cells_at}
 use Rattle.dw_base.proofs.UnitEditLaws.{length-bytes_of}
-use Rattle.dw_base.proofs.UnitHeaderLaws.{header-inside, if-inside, size_by}
+use Rattle.dw_base.proofs.UnitHeaderLaws.{header-inside, if-inside, places_if, size_by}
 use Rattle.inline_lift.specs.Lifted.{header_cells}
 
 of_some : (x y : Width × ℕ × ℕ) → Some x ≡ Some y → x ≡ y
@@ -53,11 +53,6 @@ pub record LiesApart (places : HeaderPlaces) (at size : ℕ) : Type 0 where
   pub version : at + 2 ≤ places.abbrevs
   pub address : (places.address + 1 ≤ places.abbrevs) ⊎ (places.abbrevs + size ≤ places.address)
   pub behind : places.abbrevs + size ≤ places.behind
-
-abbrev places_if : Bool → Width → ℕ → HeaderPlaces
-places_if new width at =
-    if new then record { address = at + 3; abbrevs = at + 4; behind = at + 4 + width_size width }
-    else record { address = at + 2 + width_size width; abbrevs = at + 2; behind = at + 3 + width_size width }
 
 places-apart : (new : Bool) (width : Width) (at : ℕ) → LiesApart (places_if new width at) at (width_size width)
 places-apart true width at = record { version = omega arith; address = inl (omega arith); behind = omega arith }

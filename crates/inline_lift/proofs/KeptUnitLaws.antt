@@ -30,23 +30,23 @@ places-append [] ys = refl
 places-append (x ∷ xs) ys =
     ap (λ (ps : List EntryPlace). place_by x.state.mode x.state x.cells ++ ps) (places-append xs ys) ∙ sym (append_assoc (place_by x.state.mode x.state x.cells) (entry_places xs) (entry_places ys))
 
-places-turned : (l : Lift) (x : Piece UnitState) (ys : List (Piece UnitState)) → Turned l x ys → entry_places ys ≡ place_by x.state.mode x.state x.cells
-places-turned l x ys (itself y) = append-nil (place_by x.state.mode x.state x.cells)
-places-turned l x ys (header table s p) = refl
-places-turned l x ys (code table s p) = append-nil (place_by x.state.mode x.state x.cells)
-places-turned l x ys (value table gs s number tag y rest p) = refl
-places-turned l x ys (chosen table gs s number tag start y rest p) = refl
-places-turned l x ys (path table gs s number tag y rest p kind is fits) = by_left (room_left s p)
+places-turned : (l : Lift) (Sure : Type 0) (x : Piece UnitState) (ys : List (Piece UnitState)) → Turned l Sure x ys → entry_places ys ≡ place_by x.state.mode x.state x.cells
+places-turned l Sure x ys (itself y quiet) = append-nil (place_by x.state.mode x.state x.cells)
+places-turned l Sure x ys (header table s p is_header lifts) = refl
+places-turned l Sure x ys (code table gs s p lifts) = append-nil (place_by x.state.mode x.state x.cells)
+places-turned l Sure x ys (value table gs s number tag y rest p quiet) = refl
+places-turned l Sure x ys (chosen table gs s number tag start y rest p quiet) = refl
+places-turned l Sure x ys (path table gs s number tag y rest p grew kind is fits lifts) = by_left (room_left s p)
   where
     by_left : (r : ℕ) → entry_places (lifted_value (grown r) l (lifted_state l table (grown r ∷ gs) (value_state s number tag y rest)) p) ≡ []
     by_left zero = refl
     by_left (suc n) = refl
 
-places-all : (l : Lift) (xs ys : List (Piece UnitState)) → AllTurned l xs ys → entry_places ys ≡ entry_places xs
-places-all l xs ys none_turned = refl
-places-all l xs ys (more_turned x front rest behind t all) =
-    places-append front behind ∙ ap (λ (ps : List EntryPlace). ps ++ entry_places behind) (places-turned l x front t)
-    ∙ ap (λ (ps : List EntryPlace). place_by x.state.mode x.state x.cells ++ ps) (places-all l rest behind all)
+places-all : (l : Lift) (Sure : Type 0) (xs ys : List (Piece UnitState)) → AllTurned l Sure xs ys → entry_places ys ≡ entry_places xs
+places-all l Sure xs ys none_turned = refl
+places-all l Sure xs ys (more_turned x front rest behind t all) =
+    places-append front behind ∙ ap (λ (ps : List EntryPlace). ps ++ entry_places behind) (places-turned l Sure x front t)
+    ∙ ap (λ (ps : List EntryPlace). place_by x.state.mode x.state x.cells ++ ps) (places-all l Sure rest behind all)
 
 -- values that say no base and no index
 quiet-base : (b : Bool) (unit : ℕ) (order : Order) (z : Located) (k : ValueKind) (p : List Cell) → base_value order z k p ≡ None → (if b then base_said unit order z k p else []) ≡ []
@@ -68,13 +68,13 @@ bases-append order z (x ∷ xs) ys =
     ap (λ (bs : List SaidBase). bases_by x.state.mode order z x.state x.cells ++ bs) (bases-append order z xs ys)
     ∙ sym (append_assoc (bases_by x.state.mode order z x.state x.cells) (bases_in order z xs) (bases_in order z ys))
 
-bases-turned : (l : Lift) (order : Order) (z : Located) (x : Piece UnitState) (ys : List (Piece UnitState)) → Turned l x ys → bases_in order z ys ≡ bases_by x.state.mode order z x.state x.cells
-bases-turned l order z x ys (itself y) = append-nil (bases_by x.state.mode order z x.state x.cells)
-bases-turned l order z x ys (header table s p) = refl
-bases-turned l order z x ys (code table s p) = refl
-bases-turned l order z x ys (value table gs s number tag y rest p) = append-nil (bases_by x.state.mode order z x.state x.cells)
-bases-turned l order z x ys (chosen table gs s number tag start y rest p) = append-nil (bases_by x.state.mode order z x.state x.cells)
-bases-turned l order z x ys (path table gs s number tag y rest p kind is fits) =
+bases-turned : (l : Lift) (Sure : Type 0) (order : Order) (z : Located) (x : Piece UnitState) (ys : List (Piece UnitState)) → Turned l Sure x ys → bases_in order z ys ≡ bases_by x.state.mode order z x.state x.cells
+bases-turned l Sure order z x ys (itself y quiet) = append-nil (bases_by x.state.mode order z x.state x.cells)
+bases-turned l Sure order z x ys (header table s p is_header lifts) = refl
+bases-turned l Sure order z x ys (code table gs s p lifts) = refl
+bases-turned l Sure order z x ys (value table gs s number tag y rest p quiet) = append-nil (bases_by x.state.mode order z x.state x.cells)
+bases-turned l Sure order z x ys (chosen table gs s number tag start y rest p quiet) = append-nil (bases_by x.state.mode order z x.state x.cells)
+bases-turned l Sure order z x ys (path table gs s number tag y rest p grew kind is fits lifts) =
     by_left (room_left s p) ∙ sym (base-kind (is_base number y.name) s.unit order z (kind_in s.header.params y.form) inline_text p kind refl)
   where
     first : (r : ℕ) (q : List Cell) → (if is_base number y.name then base_said s.unit order z (kind_in s.header.params 0x0e) q else []) ≡ []
@@ -87,11 +87,11 @@ bases-turned l order z x ys (path table gs s number tag y rest p kind is fits) =
     by_left zero = one-quiet _ (first zero _)
     by_left (suc n) = two-quiet _ _ (first (suc n) _) (second n _)
 
-bases-all : (l : Lift) (order : Order) (z : Located) (xs ys : List (Piece UnitState)) → AllTurned l xs ys → bases_in order z ys ≡ bases_in order z xs
-bases-all l order z xs ys none_turned = refl
-bases-all l order z xs ys (more_turned x front rest behind t all) =
-    bases-append order z front behind ∙ ap (λ (bs : List SaidBase). bs ++ bases_in order z behind) (bases-turned l order z x front t)
-    ∙ ap (λ (bs : List SaidBase). bases_by x.state.mode order z x.state x.cells ++ bs) (bases-all l order z rest behind all)
+bases-all : (l : Lift) (Sure : Type 0) (order : Order) (z : Located) (xs ys : List (Piece UnitState)) → AllTurned l Sure xs ys → bases_in order z ys ≡ bases_in order z xs
+bases-all l Sure order z xs ys none_turned = refl
+bases-all l Sure order z xs ys (more_turned x front rest behind t all) =
+    bases-append order z front behind ∙ ap (λ (bs : List SaidBase). bs ++ bases_in order z behind) (bases-turned l Sure order z x front t)
+    ∙ ap (λ (bs : List SaidBase). bases_by x.state.mode order z x.state x.cells ++ bs) (bases-all l Sure order z rest behind all)
 
 -- the values by index
 uses-append : (order : Order) (xs ys : List (Piece UnitState)) → uses_in order (xs ++ ys) ≡ uses_in order xs ++ uses_in order ys
@@ -105,14 +105,14 @@ use-state : (l : Lift) (table : ℕ) (gs : List Fate) (s : UnitState) (place : �
 use-state l table gs s place is None = refl
 use-state l table gs s place is (Some n) = refl
 
-uses-turned : (l : Lift) (order : Order) (x : Piece UnitState) (ys : List (Piece UnitState)) → Turned l x ys → uses_in order ys ≡ uses_by x.state.mode order x.state x.cells
-uses-turned l order x ys (itself y) = append-nil (uses_by x.state.mode order x.state x.cells)
-uses-turned l order x ys (header table s p) = refl
-uses-turned l order x ys (code table s p) = refl
-uses-turned l order x ys (value table gs s number tag y rest p) = use-state l table gs (value_state s number tag y rest) s.place (is_path number tag y.name) (index_value order (kind_in s.header.params y.form) p)
-uses-turned l order x ys (chosen table gs s number tag start y rest p) =
+uses-turned : (l : Lift) (Sure : Type 0) (order : Order) (x : Piece UnitState) (ys : List (Piece UnitState)) → Turned l Sure x ys → uses_in order ys ≡ uses_by x.state.mode order x.state x.cells
+uses-turned l Sure order x ys (itself y quiet) = append-nil (uses_by x.state.mode order x.state x.cells)
+uses-turned l Sure order x ys (header table s p is_header lifts) = refl
+uses-turned l Sure order x ys (code table gs s p lifts) = refl
+uses-turned l Sure order x ys (value table gs s number tag y rest p quiet) = use-state l table gs (value_state s number tag y rest) s.place (is_path number tag y.name) (index_value order (kind_in s.header.params y.form) p)
+uses-turned l Sure order x ys (chosen table gs s number tag start y rest p quiet) =
     use-state l table gs s start (is_path number tag y.name) (index_value order (kind_in s.header.params y.form) p)
-uses-turned l order x ys (path table gs s number tag y rest p kind is fits) =
+uses-turned l Sure order x ys (path table gs s number tag y rest p grew kind is fits lifts) =
     by_left (room_left s p) ∙ sym (use-kind s s.place (is_path number tag y.name) order (kind_in s.header.params y.form) inline_text p kind refl)
   where
     first : (t : UnitState) (q : List Cell) → use_by t s.place (is_path number tag y.name) (index_value order (kind_in s.header.params 0x0e) q) ≡ []
@@ -128,11 +128,11 @@ uses-turned l order x ys (path table gs s number tag y rest p kind is fits) =
         (second (in_unit (lifted_state l table (grown (suc n) ∷ gs) (value_state s number tag y rest)) (s.place + width_size s.header.params.width) s.entry s.depth
         (at_values number tag (plain_spec filler_name (filler_form n) ∷ lifted_specs gs rest))) (s.place + width_size s.header.params.width) n _)
 
-uses-all : (l : Lift) (order : Order) (xs ys : List (Piece UnitState)) → AllTurned l xs ys → uses_in order ys ≡ uses_in order xs
-uses-all l order xs ys none_turned = refl
-uses-all l order xs ys (more_turned x front rest behind t all) =
-    uses-append order front behind ∙ ap (λ (us : List IndexUse). us ++ uses_in order behind) (uses-turned l order x front t)
-    ∙ ap (λ (us : List IndexUse). uses_by x.state.mode order x.state x.cells ++ us) (uses-all l order rest behind all)
+uses-all : (l : Lift) (Sure : Type 0) (order : Order) (xs ys : List (Piece UnitState)) → AllTurned l Sure xs ys → uses_in order ys ≡ uses_in order xs
+uses-all l Sure order xs ys none_turned = refl
+uses-all l Sure order xs ys (more_turned x front rest behind t all) =
+    uses-append order front behind ∙ ap (λ (us : List IndexUse). us ++ uses_in order behind) (uses-turned l Sure order x front t)
+    ∙ ap (λ (us : List IndexUse). uses_by x.state.mode order x.state x.cells ++ us) (uses-all l Sure order rest behind all)
 
 -- of all sections
 pub places-kept : (l : Lift) (first : ℕ) (zs : List UnitSection) (rs : Readings) → ReadsAll l.base first zs rs → all_places (lifted_units l rs) ≡ all_places rs
@@ -141,7 +141,7 @@ places-kept l first [] (r ∷ rs) reads = absurd reads
 places-kept l first (z ∷ zs) [] reads = absurd reads
 places-kept l first (z ∷ zs) (r ∷ rs) reads =
     ap (λ (ps : List EntryPlace). ps ++ all_places (lifted_units l rs))
-    (places-all l r.pieces (lifted_pieces l r.pieces) (all-turned l (before_unit z.number z.kind (length z.contents) 0 first) r.pieces reads.1.chain))
+    (places-all l ⊥ r.pieces (lifted_pieces l r.pieces) (all-turned l ⊥ (before_unit z.number z.kind (length z.contents) 0 first) r.pieces reads.1.chain (λ no. absurd no)))
     ∙ ap (λ (ps : List EntryPlace). entry_places r.pieces ++ ps) (places-kept l (first + units_in r.pieces) zs rs reads.2)
 
 pub bases-kept : (l : Lift) (order : Order) (t : Located) (first : ℕ) (zs : List UnitSection) (rs : Readings) → ReadsAll l.base first zs rs
@@ -151,7 +151,7 @@ bases-kept l order t first [] (r ∷ rs) reads = absurd reads
 bases-kept l order t first (z ∷ zs) [] reads = absurd reads
 bases-kept l order t first (z ∷ zs) (r ∷ rs) reads =
     ap (λ (bs : List SaidBase). bs ++ all_bases order t (lifted_units l rs))
-    (bases-all l order t r.pieces (lifted_pieces l r.pieces) (all-turned l (before_unit z.number z.kind (length z.contents) 0 first) r.pieces reads.1.chain))
+    (bases-all l ⊥ order t r.pieces (lifted_pieces l r.pieces) (all-turned l ⊥ (before_unit z.number z.kind (length z.contents) 0 first) r.pieces reads.1.chain (λ no. absurd no)))
     ∙ ap (λ (bs : List SaidBase). bases_in order t r.pieces ++ bs) (bases-kept l order t (first + units_in r.pieces) zs rs reads.2)
 
 pub uses-kept : (l : Lift) (order : Order) (first : ℕ) (zs : List UnitSection) (rs : Readings) → ReadsAll l.base first zs rs
@@ -161,5 +161,5 @@ uses-kept l order first [] (r ∷ rs) reads = absurd reads
 uses-kept l order first (z ∷ zs) [] reads = absurd reads
 uses-kept l order first (z ∷ zs) (r ∷ rs) reads =
     ap (λ (us : List IndexUse). us ++ index_uses order (lifted_units l rs))
-    (uses-all l order r.pieces (lifted_pieces l r.pieces) (all-turned l (before_unit z.number z.kind (length z.contents) 0 first) r.pieces reads.1.chain))
+    (uses-all l ⊥ order r.pieces (lifted_pieces l r.pieces) (all-turned l ⊥ (before_unit z.number z.kind (length z.contents) 0 first) r.pieces reads.1.chain (λ no. absurd no)))
     ∙ ap (λ (us : List IndexUse). uses_in order r.pieces ++ us) (uses-kept l order (first + units_in r.pieces) zs rs reads.2)

@@ -43,7 +43,7 @@ pub record TableLifts (l : Lift) (table : ℕ) : Type 0 where
   pub small : table < 2 ^ 32
   pub stands : IsTable (lifted_abbrevs l) table (abbreviations_at (lifted_abbrevs l) table)
 
-fits-width : (w : Width) (n : ℕ) → n < 2 ^ 32 → n < 256 ^ width_size w
+pub fits-width : (w : Width) (n : ℕ) → n < 2 ^ 32 → n < 256 ^ width_size w
 fits-width W32 n h = omega (arith, h)
 fits-width W64 n h = omega (arith, h)
 
@@ -175,7 +175,7 @@ counted-other k c e f = cc
 offset-other : (k : ValueKind) (n : ℕ) → k ≡ text_offset InStr n → k ≢ form_in_front
 offset-other k n e f = cc
 
-length-plain : (bs : List ℕ) → length (plain_cells bs) ≡ length bs
+pub length-plain : (bs : List ℕ) → length (plain_cells bs) ≡ length bs
 length-plain bs = sym (length-bytes_of (plain_cells bs)) ∙ ap length (bytes_of-plain bs)
 
 -- an offset

@@ -1,7 +1,7 @@
 -- All pieces of unit sections that can be lifted are so: one piece after another.
-use Rattle.std.proofs.Common.{Bool, true, false, ◌≡◌, ℕ, ◌+◌, ◌-◌, ◌^◌, ◌<◌, ◌≤◌, ◌==◌, not, List, [], ◌∷◌, ◌++◌, length, Option, Some, None, refl, sym, ap, ◌∙◌, subst, arith, if◌then◌else◌, append_assoc}
-use Rattle.std.specs.Prelude.{◌&&◌}
-use Rattle.std.proofs.lemmas.Bool.{and_parts}
+use Rattle.std.proofs.Common.{Bool, true, false, ◌≡◌, ◌≢◌, ℕ, ◌+◌, ◌-◌, ◌^◌, ◌<◌, ◌≤◌, ◌==◌, not, List, [], ◌∷◌, ◌++◌, length, Option, Some, None, refl, sym, ap, ◌∙◌, subst, arith, if◌then◌else◌, append_assoc}
+use Rattle.std.specs.Prelude.{◌&&◌, ⊤}
+use Rattle.std.proofs.lemmas.Bool.{and_parts, ne_eqb}
 use Rattle.dw_base.specs.AbbreviationTables.{Abbreviation, abbreviation_of}
 use Rattle.dw_base.specs.Cells.{Cell}
 use Rattle.dw_base.specs.DebugData.{ReadsAll, begins_by, units_in}
@@ -15,23 +15,26 @@ use Rattle.dw_base.specs.UnitPieces.{FitsMode, IsHeader, unit_grammar}
 use Rattle.dw_base.specs.UnitStates.{Mode, at_header, at_code, at_values, at_chosen, stuck, UnitState, after_code, after_entry, after_header, after_value, before_unit, between, code_value, headed, in_unit, inside, past, piece_header}
 use Rattle.dw_base.specs.declared.units.UnitHeader.{UnitHeader}
 use Rattle.dw_base.specs.declared.values.Spec.{Spec}
-use Rattle.inline_lift.specs.GrowingPaths.{Fate, any_grown, fate_of, fates}
+use Rattle.inline_lift.specs.GrowingPaths.{Fate, any_grown, fate_of, fates, grows}
+use Rattle.inline_lift.specs.LiftFails.{AllCodesLift, CodeLifts, CodesLift, is_chosen, root_behind, root_if}
 use Rattle.inline_lift.specs.Lifted.{Lift, lifted_abbrevs, own_table}
 use Rattle.inline_lift.specs.LiftedTables.{Copy, all_copies, copies_at, copies_if, copies_in, is_first_code, table_copy}
 use Rattle.inline_lift.proofs.AllLiftLaws.{CanLift, Inside, Stage, at_unit, before_first, behind_first, behind-lifts, entry-inner, first-lifts, header-known, header-lifts, inner-stage, past-inner}
 use Rattle.inline_lift.proofs.CopyPlaceLaws.{AllBelow, AllFrom, below-append, below-weaker, bound, bound_by, copies-from, entry-above, from-append, from-weaker, past-bound}
 use Rattle.inline_lift.proofs.OwnTableLaws.{order-read}
+use Rattle.inline_lift.proofs.QuietLaws.{later-quiet, none-grown, none-here, quiet-mode}
 use Rattle.inline_lift.proofs.RootLaws.{Between, Known, fresh, root_ahead, stuck-none}
 use Rattle.inline_lift.proofs.SectionLiftLaws.{EachLifts}
 use Rattle.inline_lift.proofs.UnitLiftLaws.{AllLift, LiftsIf, PieceLifts}
 
 -- a piece of a unit is lifted where its unit has a table of its own
-lifts-here : (l : Lift) (x : Piece UnitState) (xs : List (Piece UnitState)) (before after : List Copy) (o : Option ℕ) → CanLift l x
+lifts-here : (l : Lift) (root : Option ℕ) (x : Piece UnitState) (xs : List (Piece UnitState)) (before after : List Copy) (o : Option ℕ) → CanLift l x
+    → CodeLifts x.state.mode root x.state x.cells
     → FitsMode x.state.mode l.base x.state x.cells → Chain (unit_grammar l.base) (past x.state.mode l.base x.state x.cells) xs → length (lifted_abbrevs l) < 2 ^ 32
     → Between l before (copies_in l.map l.base.abbrevs.bytes (x ∷ xs)) after → AllBelow (bound x.state) before → (x.state.mode ≡ at_header → AllFrom (x.state.unit + 1) after)
-    → Stage l (x ∷ xs) x.state → own_table l x.state.unit ≡ o → LiftsIf o l (fates l.map xs) x
-lifts-here l x xs before after None can f c small b below behind stage e = tt
-lifts-here l x xs before after (Some table) can f c small b below behind (at_unit is) e =
+    → Stage l root (x ∷ xs) x.state → own_table l x.state.unit ≡ o → LiftsIf o l (fates l.map xs) x
+lifts-here l root x xs before after None can codes f c small b below behind stage e = tt
+lifts-here l root x xs before after (Some table) can codes f c small b below behind (at_unit is) e =
     let header : IsHeader l.base x.state x.cells = subst (λ (k : Mode). FitsMode k l.base x.state x.cells) is f in
     let chain : Chain (unit_grammar l.base) (past at_header l.base x.state x.cells) xs = subst (λ (k : Mode). Chain (unit_grammar l.base) (past k l.base x.state x.cells) xs) is c in
     let none : copies_at l.base.abbrevs.bytes x (fates l.map xs) ≡ [] =
@@ -42,58 +45,74 @@ lifts-here l x xs before after (Some table) can f c small b below behind (at_uni
     let low : AllBelow x.state.unit before = subst (λ (k : Mode). AllBelow (bound_by k x.state) before) is below in
     subst (λ (k : Mode). PieceLifts k l table (fates l.map xs) (fate_of l.map x) x.state x.cells) (sym is)
     (header-lifts l table x.state x.cells xs before after header chain small among low (behind is) e)
-lifts-here l x xs before after (Some table) can f c small b below behind (before_first t is i known) e =
+lifts-here l root x xs before after (Some table) can codes f c small b below behind (before_first t is i known) e =
     let here : Known l t.unit t.table (root_ahead l.map (record { state = fresh t; cells = x.cells } ∷ xs)) =
     subst (λ (u : UnitState). Known l u.unit u.table (root_ahead l.map (record { state = u; cells = x.cells } ∷ xs))) is known in
     let own : own_table l t.unit ≡ Some table = ap (λ (u : UnitState). own_table l u.unit) (sym is) ∙ e in
     subst (λ (u : UnitState). PieceLifts u.mode l table (fates l.map xs) (fate_of l.map x) u x.cells) (sym is)
     (first-lifts l table t x.cells xs small here own)
-lifts-here l x xs before after (Some table) can f c small b below behind (behind_first r some other i known) e =
-    behind-lifts x.state.mode l table x.state x.cells xs r can other c small some i known e
+lifts-here l root x xs before after (Some table) can codes f c small b below behind (behind_first r some other i known rooted quiet) e =
+    behind-lifts x.state.mode l root table x.state x.cells xs r can codes rooted other c small some i known e
 
 -- the stage behind a piece
-between-stage : (l : Lift) (s : UnitState) (place depth : ℕ) (xs : List (Piece UnitState)) → Inside l s → Known l s.unit s.table (root_ahead l.map xs)
-    → Chain (unit_grammar l.base) (between s place 0 depth) xs → Stage l xs (between s place 0 depth)
+between-stage : (l : Lift) (o : Option ℕ) (s : UnitState) (place depth : ℕ) (xs : List (Piece UnitState)) → Inside l s → Known l s.unit s.table (root_ahead l.map xs)
+    → Chain (unit_grammar l.base) (between s place 0 depth) xs → Stage l o xs (between s place 0 depth)
 unfolding between
-between-stage l s place depth xs i known c = by_end (place == s.header.end) (depth == 0) c
+between-stage l o s place depth xs i known c = by_end (place == s.header.end) (depth == 0) c
   where
     by_end : (a b : Bool) → Chain (unit_grammar l.base) (if a then (if b then before_unit s.section s.kind s.whole place (s.unit + 1) else in_unit s place 0 depth stuck) else in_unit s place 0 depth at_code) xs
-        → Stage l xs (if a then (if b then before_unit s.section s.kind s.whole place (s.unit + 1) else in_unit s place 0 depth stuck) else in_unit s place 0 depth at_code)
+        → Stage l o xs (if a then (if b then before_unit s.section s.kind s.whole place (s.unit + 1) else in_unit s place 0 depth stuck) else in_unit s place 0 depth at_code)
     by_end true true d = at_unit refl
     by_end true false d = absurd (stuck-none l.base (in_unit s place 0 depth stuck) xs refl d)
     by_end false b d = before_first (in_unit s place 0 depth at_code) refl (record { order = i.order; table = i.table }) known
 
-header-stage : (l : Lift) (s : UnitState) (p : List Cell) (xs : List (Piece UnitState)) (before after : List Copy) → IsHeader l.base s p
+header-stage : (l : Lift) (o : Option ℕ) (s : UnitState) (p : List Cell) (xs : List (Piece UnitState)) (before after : List Copy) → IsHeader l.base s p
     → Chain (unit_grammar l.base) (past at_header l.base s p) xs → Between l before (copies_in l.map l.base.abbrevs.bytes xs) after → AllBelow s.unit before
-    → AllFrom (s.unit + 1) after → Stage l xs (past at_header l.base s p)
-header-stage l s p xs before after f c b below behind =
+    → AllFrom (s.unit + 1) after → Stage l o xs (past at_header l.base s p)
+header-stage l o s p xs before after f c b below behind =
     let chain : Chain (unit_grammar l.base) (between (headed l.base s f.header) (s.place + length p) 0 0) xs =
     subst (λ (o : Option UnitHeader). Chain (unit_grammar l.base) (after_header l.base s (s.place + length p) o) xs) f.is c in
     let i : Inside l (headed l.base s f.header) = record { order = order-read l.base s.kind s.section s.place p f.header f.is; table = f.table.is } in
-    subst (λ (o : Option UnitHeader). Stage l xs (after_header l.base s (s.place + length p) o)) (sym f.is)
-    (between-stage l (headed l.base s f.header) (s.place + length p) 0 xs i (header-known l s f.header (s.place + length p) xs before after chain f.table.is b below behind) chain)
+    subst (λ (q : Option UnitHeader). Stage l o xs (after_header l.base s (s.place + length p) q)) (sym f.is)
+    (between-stage l o (headed l.base s f.header) (s.place + length p) 0 xs i (header-known l s f.header (s.place + length p) xs before after chain f.table.is b below behind) chain)
 
-first-stage : (l : Lift) (t : UnitState) (p : List Cell) (xs : List (Piece UnitState)) → Inside l (fresh t) → Known l t.unit t.table (root_ahead l.map (record { state = fresh t; cells = p } ∷ xs))
-    → Chain (unit_grammar l.base) (after_code (fresh t) (t.place + length p) (code_value p)) xs → Stage l xs (after_code (fresh t) (t.place + length p) (code_value p))
+first-stage : (l : Lift) (o : Option ℕ) (t : UnitState) (p : List Cell) (xs : List (Piece UnitState)) → Inside l (fresh t) → Known l t.unit t.table (root_ahead l.map (record { state = fresh t; cells = p } ∷ xs))
+    → Chain (unit_grammar l.base) (after_code (fresh t) (t.place + length p) (code_value p)) xs
+    → Stage l (root_behind at_code o (fresh t) p (fates l.map xs)) xs (after_code (fresh t) (t.place + length p) (code_value p))
 unfolding after_code
-first-stage l t p xs i known c = by_zero (code_value p == 0) known c
+first-stage l o t p xs i known c = by_zero (code_value p == 0) known c
   where
-    by_entry : (o : Option Abbreviation) → Known l t.unit t.table (Some (record { code = code_value p; fates = fates l.map xs }))
-        → Chain (unit_grammar l.base) (after_entry (fresh t) (t.place + length p) o) xs → Stage l xs (after_entry (fresh t) (t.place + length p) o)
+    root_by : Bool → Option ℕ
+    root_by z = if not z then root_if (any_grown (fates l.map xs)) (code_value p) else o
+
+    by_entry : (a : Option Abbreviation) → Known l t.unit t.table (Some (record { code = code_value p; fates = fates l.map xs }))
+        → Chain (unit_grammar l.base) (after_entry (fresh t) (t.place + length p) a) xs → Stage l (root_by false) xs (after_entry (fresh t) (t.place + length p) a)
     by_entry None k d = absurd (stuck-none l.base (after_entry (fresh t) (t.place + length p) None) xs refl d)
-    by_entry (Some a) k d = inner-stage l xs (fresh t) (after_entry (fresh t) (t.place + length p) (Some a)) (record { code = code_value p; fates = fates l.map xs }) i k (entry-inner (fresh t) (t.place + length p) a)
+    by_entry (Some a) k d =
+        inner-stage l (root_by false) xs (fresh t) (after_entry (fresh t) (t.place + length p) (Some a)) (record { code = code_value p; fates = fates l.map xs }) i k
+        (λ grown. ap (λ (b : Bool). root_if b (code_value p)) grown)
+        (λ none. none-grown l t.unit t.table (record { code = code_value p; fates = fates l.map xs }) none k) (entry-inner (fresh t) (t.place + length p) a)
 
     by_zero : (z : Bool) → Known l t.unit t.table (if z then root_ahead l.map xs else Some (record { code = code_value p; fates = fates l.map xs }))
         → Chain (unit_grammar l.base) (if z then between (fresh t) (t.place + length p) 0 (t.depth - 1) else after_entry (fresh t) (t.place + length p) (abbreviation_of t.table (code_value p))) xs
-        → Stage l xs (if z then between (fresh t) (t.place + length p) 0 (t.depth - 1) else after_entry (fresh t) (t.place + length p) (abbreviation_of t.table (code_value p)))
-    by_zero true k d = between-stage l (fresh t) (t.place + length p) (t.depth - 1) xs i k d
+        → Stage l (root_by z) xs (if z then between (fresh t) (t.place + length p) 0 (t.depth - 1) else after_entry (fresh t) (t.place + length p) (abbreviation_of t.table (code_value p)))
+    by_zero true k d = between-stage l (root_by true) (fresh t) (t.place + length p) (t.depth - 1) xs i k d
     by_zero false k d = by_entry (abbreviation_of t.table (code_value p)) k d
 
-next-stage : (l : Lift) (x : Piece UnitState) (xs : List (Piece UnitState)) (before after : List Copy)
+-- behind the first entry its code stays known
+root-stays : (k : Mode) (o : Option ℕ) (s : UnitState) (p : List Cell) (fs : List Fate) → k ≢ at_header → s.entry ≢ 0 → root_behind k o s p fs ≡ o
+root-stays at_header o s p fs other some = absurd (other refl)
+root-stays at_code o s p fs other some =
+    ap (λ (b : Bool). if b && not (code_value p == 0) then root_if (any_grown fs) (code_value p) else o) (ne_eqb s.entry 0 some)
+root-stays (at_values number tag xs) o s p fs other some = refl
+root-stays (at_chosen number tag start x xs) o s p fs other some = refl
+root-stays stuck o s p fs other some = refl
+
+next-stage : (l : Lift) (o : Option ℕ) (x : Piece UnitState) (xs : List (Piece UnitState)) (before after : List Copy)
     → FitsMode x.state.mode l.base x.state x.cells → Chain (unit_grammar l.base) (past x.state.mode l.base x.state x.cells) xs
     → Between l before (copies_in l.map l.base.abbrevs.bytes (x ∷ xs)) after → AllBelow (bound x.state) before → (x.state.mode ≡ at_header → AllFrom (x.state.unit + 1) after)
-    → Stage l (x ∷ xs) x.state → Stage l xs (past x.state.mode l.base x.state x.cells)
-next-stage l x xs before after f c b below behind (at_unit is) =
+    → Stage l o (x ∷ xs) x.state → Stage l (root_behind x.state.mode o x.state x.cells (fates l.map xs)) xs (past x.state.mode l.base x.state x.cells)
+next-stage l o x xs before after f c b below behind (at_unit is) =
     let header : IsHeader l.base x.state x.cells = subst (λ (k : Mode). FitsMode k l.base x.state x.cells) is f in
     let chain : Chain (unit_grammar l.base) (past at_header l.base x.state x.cells) xs = subst (λ (k : Mode). Chain (unit_grammar l.base) (past k l.base x.state x.cells) xs) is c in
     let none : copies_at l.base.abbrevs.bytes x (fates l.map xs) ≡ [] =
@@ -102,14 +121,16 @@ next-stage l x xs before after f c b below behind (at_unit is) =
     let among : Between l before (copies_in l.map l.base.abbrevs.bytes xs) after =
     record { among = b.among ∙ ap (λ (cs : List Copy). before ++ ((cs ++ copies_in l.map l.base.abbrevs.bytes xs) ++ after)) none } in
     let low : AllBelow x.state.unit before = subst (λ (k : Mode). AllBelow (bound_by k x.state) before) is below in
-    subst (λ (k : Mode). Stage l xs (past k l.base x.state x.cells)) (sym is) (header-stage l x.state x.cells xs before after header chain among low (behind is))
-next-stage l x xs before after f c b below behind (before_first t is i known) =
+    subst (λ (k : Mode). Stage l (root_behind k o x.state x.cells (fates l.map xs)) xs (past k l.base x.state x.cells)) (sym is) (header-stage l None x.state x.cells xs before after header chain among low (behind is))
+next-stage l o x xs before after f c b below behind (before_first t is i known) =
     let here : Known l t.unit t.table (root_ahead l.map (record { state = fresh t; cells = x.cells } ∷ xs)) =
     subst (λ (u : UnitState). Known l u.unit u.table (root_ahead l.map (record { state = u; cells = x.cells } ∷ xs))) is known in
-    subst (λ (u : UnitState). Stage l xs (past u.mode l.base u x.cells)) (sym is)
-    (first-stage l t x.cells xs (subst (Inside l) is i) here (subst (λ (u : UnitState). Chain (unit_grammar l.base) (past u.mode l.base u x.cells) xs) is c))
-next-stage l x xs before after f c b below behind (behind_first r some other i known) =
-    inner-stage l xs x.state (past x.state.mode l.base x.state x.cells) r i known (past-inner x.state.mode l.base x.state x.cells other some f)
+    subst (λ (u : UnitState). Stage l (root_behind u.mode o u x.cells (fates l.map xs)) xs (past u.mode l.base u x.cells)) (sym is)
+    (first-stage l o t x.cells xs (subst (Inside l) is i) here (subst (λ (u : UnitState). Chain (unit_grammar l.base) (past u.mode l.base u x.cells) xs) is c))
+next-stage l o x xs before after f c b below behind (behind_first r some other i known rooted quiet) =
+    inner-stage l (root_behind x.state.mode o x.state x.cells (fates l.map xs)) xs x.state (past x.state.mode l.base x.state x.cells) r i known
+    (λ grown. root-stays x.state.mode o x.state x.cells (fates l.map xs) other some ∙ rooted grown)
+    (λ none. later-quiet x.state.mode l.map l.base x.state x.cells xs other some f c (quiet none)) (past-inner x.state.mode l.base x.state x.cells other some f)
 
 -- the number of the unit behind the section's last, from a state with so many units behind it
 abbrev pub ends_by : Mode → UnitState → ℕ → ℕ
@@ -214,12 +235,27 @@ header-least k s n top e h =
     let at : s.unit + (1 + n) ≤ top = subst (λ (m : Mode). ends_by m s (begins_by m + n) ≤ top) e h in
     omega (arith, at)
 
-pub all-lift : (l : Lift) (s : UnitState) (xs : List (Piece UnitState)) (before after : List Copy) (top : ℕ) → Chain (unit_grammar l.base) s xs → EachPiece (CanLift l) xs
+-- what is known of a piece: it is lifted where its unit has a table of its own, and else no path grows in it; nor does one whose form stands in front
+-- of it
+pub record Lifting (l : Lift) (gs : List Fate) (x : Piece UnitState) : Type 0 where
+  pub lifts : LiftsIf (own_table l x.state.unit) l gs x
+  pub quiet : own_table l x.state.unit ≡ None → grows l.map x ≡ false
+  pub own : is_chosen x.state.mode ≡ true → grows l.map x ≡ false
+
+abbrev pub AllLifting : Lift → List (Piece UnitState) → Type 0
+AllLifting l [] = ⊤
+AllLifting l (x ∷ xs) = Lifting l (fates l.map xs) x × AllLifting l xs
+
+never-both : (a b : Bool) → (a ≡ true → b ≡ false) → b ≡ true → a ≡ false
+never-both true b h e = let both : true ≡ false = sym e ∙ h refl in absurd cc
+never-both false b h e = refl
+
+pub all-lifting : (l : Lift) (o : Option ℕ) (s : UnitState) (xs : List (Piece UnitState)) (before after : List Copy) (top : ℕ) → Chain (unit_grammar l.base) s xs → EachPiece (CanLift l) xs → CodesLift l.map o xs
     → length (lifted_abbrevs l) < 2 ^ 32 → Between l before (copies_in l.map l.base.abbrevs.bytes xs) after → AllBelow (bound s) before → AllFrom top after
-    → ends_by s.mode s (units_in xs) ≤ top → Stage l xs s → AllLift l xs
-all-lift l s [] before after top c can small b below behind ends stage = tt
-all-lift l s (x ∷ xs) before after top c can small b below behind ends stage =
-    let here : Stage l (x ∷ xs) x.state = subst (Stage l (x ∷ xs)) (sym c.0) stage in
+    → ends_by s.mode s (units_in xs) ≤ top → Stage l o xs s → AllLifting l xs
+all-lifting l o s [] before after top c can codes small b below behind ends stage = tt
+all-lifting l o s (x ∷ xs) before after top c can codes small b below behind ends stage =
+    let here : Stage l o (x ∷ xs) x.state = subst (Stage l o (x ∷ xs)) (sym c.0) stage in
     let low : AllBelow (bound x.state) before = subst (λ (u : UnitState). AllBelow (bound u) before) (sym c.0) below in
     let last : ends_by x.state.mode x.state (begins_by x.state.mode + units_in xs) ≤ top =
     subst (λ (u : UnitState). ends_by u.mode u (begins_by x.state.mode + units_in xs) ≤ top) (sym c.0) ends in
@@ -229,11 +265,21 @@ all-lift l s (x ∷ xs) before after top c can small b below behind ends stage =
     let next_before : AllBelow (bound (past x.state.mode l.base x.state x.cells)) (before ++ copies_at l.base.abbrevs.bytes x (fates l.map xs)) =
     below-append (bound (past x.state.mode l.base x.state x.cells)) before (copies_at l.base.abbrevs.bytes x (fates l.map xs))
     (below-weaker (bound x.state) (bound (past x.state.mode l.base x.state x.cells)) before (past-bound l.base x.state x.cells c.1) low)
-    (copies-below l.base.abbrevs.bytes l.base x xs (fates l.map xs) c.2) in (
-      lifts-here l x xs before after (own_table l x.state.unit) can.0 c.1 c.2 small b low later here refl,
-      all-lift l (past x.state.mode l.base x.state x.cells) xs (before ++ copies_at l.base.abbrevs.bytes x (fates l.map xs)) after top c.2 can.1 small
-          (further l x xs before after b) next_before behind (omega (arith, ends_next, last)) (next-stage l x xs before after c.1 c.2 b low later here),
+    (copies-below l.base.abbrevs.bytes l.base x xs (fates l.map xs) c.2) in
+    let own : is_chosen x.state.mode ≡ true → grows l.map x ≡ false = λ e. never-both (grows l.map x) (is_chosen x.state.mode) can.0.value.own_form e in (
+      record {
+        lifts = lifts-here l o x xs before after (own_table l x.state.unit) can.0 codes.0 c.1 c.2 small b low later here refl;
+        quiet = λ none. quiet-mode x.state.mode l.map x.state x.cells xs (none-here l o x xs here none) own;
+        own = own;
+      },
+      all-lifting l (root_behind x.state.mode o x.state x.cells (fates l.map xs)) (past x.state.mode l.base x.state x.cells) xs (before ++ copies_at l.base.abbrevs.bytes x (fates l.map xs)) after top c.2 can.1 codes.1 small
+          (further l x xs before after b) next_before behind (omega (arith, ends_next, last)) (next-stage l o x xs before after c.1 c.2 b low later here),
     )
+
+-- so it is lifted
+pub all-lift : (l : Lift) (xs : List (Piece UnitState)) → AllLifting l xs → AllLift l xs
+all-lift l [] all = tt
+all-lift l (x ∷ xs) all = (all.0.lifts, all-lift l xs all.1)
 
 -- the copies of a section are before those of later sections
 section-below : (m : PathMap) (abbrevs : List ℕ) (base : UnitBase) (s : UnitState) (xs : List (Piece UnitState)) → Chain (unit_grammar base) s xs
@@ -266,19 +312,27 @@ all-from m abbrevs base first (z ∷ zs) (r ∷ rs) reads =
     (copies-from m abbrevs base (before_unit z.number z.kind (length z.contents) 0 first) r.pieces reads.1.chain)
     (from-weaker first (first + units_in r.pieces) (all_copies m abbrevs rs) (omega arith) (all-from m abbrevs base (first + units_in r.pieces) zs rs reads.2))
 
--- so all pieces of all sections are lifted that can be
-pub each-lift : (l : Lift) (first : ℕ) (zs : List UnitSection) (rs : Readings) (before : List Copy) → ReadsAll l.base first zs rs → EachReading (CanLift l) rs
-    → length (lifted_abbrevs l) < 2 ^ 32 → l.copies ≡ before ++ all_copies l.map l.base.abbrevs.bytes rs → AllBelow first before → EachLifts l rs
-each-lift l first [] [] before reads can small among below = tt
-each-lift l first [] (r ∷ rs) before reads can small among below = absurd reads
-each-lift l first (z ∷ zs) [] before reads can small among below = absurd reads
-each-lift l first (z ∷ zs) (r ∷ rs) before reads can small among below =
+-- so this is known of all pieces of all sections that can be lifted
+abbrev pub EachLifting : Lift → Readings → Type 0
+EachLifting l [] = ⊤
+EachLifting l (r ∷ rs) = AllLifting l r.pieces × EachLifting l rs
+
+pub each-lifting : (l : Lift) (first : ℕ) (zs : List UnitSection) (rs : Readings) (before : List Copy) → ReadsAll l.base first zs rs → EachReading (CanLift l) rs → AllCodesLift l.map rs
+    → length (lifted_abbrevs l) < 2 ^ 32 → l.copies ≡ before ++ all_copies l.map l.base.abbrevs.bytes rs → AllBelow first before → EachLifting l rs
+each-lifting l first [] [] before reads can codes small among below = tt
+each-lifting l first [] (r ∷ rs) before reads can codes small among below = absurd reads
+each-lifting l first (z ∷ zs) [] before reads can codes small among below = absurd reads
+each-lifting l first (z ∷ zs) (r ∷ rs) before reads can codes small among below =
     let next : l.copies ≡ (before ++ copies_in l.map l.base.abbrevs.bytes r.pieces) ++ all_copies l.map l.base.abbrevs.bytes rs =
     among ∙ sym (append_assoc before (copies_in l.map l.base.abbrevs.bytes r.pieces) (all_copies l.map l.base.abbrevs.bytes rs)) in (
-      all-lift l (before_unit z.number z.kind (length z.contents) 0 first) r.pieces before (all_copies l.map l.base.abbrevs.bytes rs) (first + units_in r.pieces) reads.1.chain can.0 small
+      all-lifting l None (before_unit z.number z.kind (length z.contents) 0 first) r.pieces before (all_copies l.map l.base.abbrevs.bytes rs) (first + units_in r.pieces) reads.1.chain can.0 codes.0 small
           (record { among = among }) below (all-from l.map l.base.abbrevs.bytes l.base (first + units_in r.pieces) zs rs reads.2) (omega arith) (at_unit refl),
-      each-lift l (first + units_in r.pieces) zs rs (before ++ copies_in l.map l.base.abbrevs.bytes r.pieces) reads.2 can.1 small next
+      each-lifting l (first + units_in r.pieces) zs rs (before ++ copies_in l.map l.base.abbrevs.bytes r.pieces) reads.2 can.1 codes.1 small next
           (below-append (first + units_in r.pieces) before (copies_in l.map l.base.abbrevs.bytes r.pieces)
           (below-weaker first (first + units_in r.pieces) before (omega arith) below)
           (section-below l.map l.base.abbrevs.bytes l.base (before_unit z.number z.kind (length z.contents) 0 first) r.pieces reads.1.chain)),
     )
+
+pub each-lift : (l : Lift) (rs : Readings) → EachLifting l rs → EachLifts l rs
+each-lift l [] all = tt
+each-lift l (r ∷ rs) all = (all-lift l r.pieces all.0, each-lift l rs all.1)

@@ -40,7 +40,7 @@ elsewhere-same z y (Num n) e = refl
 elsewhere-same z y (Into s n) e = ap (λ (k : ℕ). not (s == k)) e
 elsewhere-same z y (Sym s k a) e = refl
 
-header-same : (l : Lift) (kind : SectionKind) (section start : ℕ) (p : List Cell)
+pub header-same : (l : Lift) (kind : SectionKind) (section start : ℕ) (p : List Cell)
     → unit_header (lifted_base l) kind section start p ≡ unit_header l.base kind section start p
 unfolding unit_header
 header-same l kind section start p = by_length (initial_length_at l.base.order (bytes_of p) 0)

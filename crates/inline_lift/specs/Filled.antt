@@ -1,6 +1,6 @@
 -- What a file means whose inline paths that would grow are offsets of their texts (this project's profile): such a path is held by offset, and
 -- an attribute with zeros takes what is left of its room.
-use Rattle.std.specs.Prelude.{Bool, true, false, ℕ, zero, suc, ◌+◌, ◌-◌, if◌then◌else◌, List, [], ◌∷◌, ◌++◌, length, replicate}
+use Rattle.std.specs.Prelude.{Bool, true, false, ◌≡◌, ℕ, zero, suc, ◌+◌, ◌-◌, if◌then◌else◌, List, [], ◌∷◌, ◌++◌, length, replicate}
 use Rattle.dw_base.specs.Cells.{plain_cells}
 use Rattle.dw_base.specs.Forests.{AttributeMeaning, Forest, no_entries, entry}
 use Rattle.dw_base.specs.Forms.{width_size}
@@ -8,8 +8,9 @@ use Rattle.dw_base.specs.InlinePaths.{inline_fits}
 use Rattle.dw_base.specs.Paths.{PathMap}
 use Rattle.dw_base.specs.UnitMeanings.{UnitMeaning}
 use Rattle.dw_base.specs.ValueMeanings.{inline, by_offset, ValueMeaning, string, raw}
-use Rattle.dw_base.specs.ViewData.{Meaning}
+use Rattle.dw_base.specs.ViewData.{Meaning, mapped}
 use Rattle.dw_base.specs.declared.shared.Width.{Width}
+use Rattle.dw_meaning.specs.FileMeanings.{Means}
 use Rattle.inline_lift.specs.LiftedTables.{filler_name, is_short}
 
 -- how many zeros are in what is left, so many bytes
@@ -49,3 +50,19 @@ filled_units m (u ∷ us) = filled_unit m u ∷ filled_units m us
 
 abbrev pub filled : PathMap → Meaning → Meaning
 filled m x = record x { units = filled_units m x.units }
+
+-- what the file `out` means is what the file `b` means, with the paths that would grow filled. Each of the two means one thing.
+pub record MeaningFilled (m : PathMap) (b out : List ℕ) : Type 0 where
+  pub meaning : Meaning
+  pub old : Means b meaning
+  pub new : Means out (filled m meaning)
+  pub old_one : (x : Meaning) → Means b x → x ≡ meaning
+  pub new_one : (x : Meaning) → Means out x → x ≡ filled m meaning
+
+-- what the file `end` means is what the file `b` means, with the paths that would grow filled, and with the map applied. Each of the two means one thing.
+pub record MeaningGrown (m : PathMap) (b end : List ℕ) : Type 0 where
+  pub meaning : Meaning
+  pub old : Means b meaning
+  pub new : Means end (mapped m (filled m meaning))
+  pub old_one : (x : Meaning) → Means b x → x ≡ meaning
+  pub new_one : (x : Meaning) → Means end x → x ≡ mapped m (filled m meaning)

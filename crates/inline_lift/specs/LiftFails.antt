@@ -1,7 +1,8 @@
 -- Why a file isn't lifted (this project's profile): at the text of a path that would grow, in a relocatable file, in one without .debug_str, where
 -- the value is shorter than an offset or its form stands in front of it, or where another entry of the unit has the code of the first.
-use Rattle.std.specs.Prelude.{Bool, true, false, ◌≡◌, ◌≢◌, ℕ, ◌+◌, ◌<◌, ◌≤◌, List, [], ◌∷◌, ◌++◌, length}
+use Rattle.std.specs.Prelude.{Bool, true, false, ◌≡◌, ◌≢◌, ℕ, ◌+◌, ◌<◌, ◌≤◌, if◌then◌else◌, List, [], ◌∷◌, ◌++◌, length, Option, Some, None}
 use Rattle.dw_base.specs.AbbreviationTables.{Abbreviation}
+use Rattle.dw_base.specs.Cells.{Cell}
 use Rattle.dw_base.specs.DebugData.{DebugData, DataReadings}
 use Rattle.dw_base.specs.Elf.{e_type}
 use Rattle.dw_base.specs.EntryScans.{Scans}
@@ -11,12 +12,12 @@ use Rattle.dw_base.specs.InlinePaths.{inline_fits}
 use Rattle.dw_base.specs.LayoutFails.{LayoutFails}
 use Rattle.dw_base.specs.Paths.{PathMap}
 use Rattle.dw_base.specs.Pieces.{Piece}
-use Rattle.dw_base.specs.Readings.{EachReading}
+use Rattle.dw_base.specs.Readings.{EachReading, Readings}
 use Rattle.dw_base.specs.Refusals.{at}
 use Rattle.dw_base.specs.Roles.{is_path}
 use Rattle.dw_base.specs.Texts.{text_in}
 use Rattle.dw_base.specs.UnitHeaders.{UnitSection}
-use Rattle.dw_base.specs.UnitStates.{Mode, at_code, at_chosen, UnitState, code_value}
+use Rattle.dw_base.specs.UnitStates.{Mode, at_header, at_code, at_chosen, UnitState, code_value}
 use Rattle.dw_base.specs.declared.debug_sections.DebugSection.TheVariants.{Str}
 use Rattle.dw_base.specs.declared.elf_numbers.TheConstants.{ET_REL}
 use Rattle.dw_base.specs.declared.fault.Kind.TheVariants.{InlineGrows}
@@ -28,10 +29,9 @@ use Rattle.dw_base.specs.declared.values.Value.{Value}
 use Rattle.dw_base.specs.declared.values.ValueClass.TheVariants.{InlineText}
 use Rattle.dw_meaning.specs.FileFails.{FileFails}
 use Rattle.dw_meaning.specs.FileMeanings.{FileReads, file_data}
-use Rattle.inline_lift.specs.GrowingPaths.{grows, some_path_grows}
-use Rattle.inline_lift.specs.Lifted.{lift_of}
+use Rattle.inline_lift.specs.GrowingPaths.{Fate, any_grown, fates, grows, some_path_grows}
 use Rattle.inline_lift.specs.LiftedFiles.{lifted_body}
-use Rattle.inline_lift.specs.LiftedTables.{Copy}
+use Rattle.inline_lift.specs.LiftedTables.{is_first_code}
 
 -- a path stands in its value and would grow: in the first entry of a unit, whose abbreviation is `a`
 pub record HasGrowing (m : PathMap) (d : DebugData) (z : UnitSection) (h : UnitHeader) (list : List Abbreviation) (a : Abbreviation) (x : Spec) (v : Value) : Type 0 where
@@ -73,15 +73,29 @@ pub record ValueLifts (m : PathMap) (x : Piece UnitState) : Type 0 where
   pub own_form : grows m x ≡ true → is_chosen x.state.mode ≡ false
   pub room : grows m x ≡ true → width_size x.state.header.params.width ≤ length x.cells
 
--- an entry behind the first has another code than that, where the unit has a copy
-abbrev pub CodeLiftsBy : Mode → List Copy → UnitState → ℕ → Type 0
-CodeLiftsBy at_code copies s code = s.entry ≢ 0 → (c : Copy) (before behind : List Copy) → copies ≡ before ++ c ∷ behind → c.unit ≡ s.unit → c.code ≢ code
-CodeLiftsBy mode copies s code = Unit {0}
+-- the code of the first entry of a unit, where a path grows in it: behind a piece, in front of attributes of these fates
+abbrev pub root_if : Bool → ℕ → Option ℕ
+root_if b code = if b then Some code else None
 
-abbrev pub CodeLifts : List Copy → Piece UnitState → Type 0
-CodeLifts copies x = CodeLiftsBy x.state.mode copies x.state (code_value x.cells)
+abbrev pub root_behind : Mode → Option ℕ → UnitState → List Cell → List Fate → Option ℕ
+root_behind at_header o s p fs = None
+root_behind at_code o s p fs = if is_first_code at_code s p then root_if (any_grown fs) (code_value p) else o
+root_behind m o s p fs = o
+
+-- an entry behind it has another code
+abbrev pub CodeLifts : Mode → Option ℕ → UnitState → List Cell → Type 0
+CodeLifts at_code (Some root) s p = s.entry ≢ 0 → root ≢ code_value p
+CodeLifts m o s p = Unit {0}
+
+abbrev pub CodesLift : PathMap → Option ℕ → List (Piece UnitState) → Type 0
+CodesLift m o [] = Unit {0}
+CodesLift m o (x ∷ xs) = CodeLifts x.state.mode o x.state x.cells × CodesLift m (root_behind x.state.mode o x.state x.cells (fates m xs)) xs
+
+abbrev pub AllCodesLift : PathMap → Readings → Type 0
+AllCodesLift m [] = Unit {0}
+AllCodesLift m (r ∷ rs) = CodesLift m None r.pieces × AllCodesLift m rs
 
 -- all of debug data can be lifted
-pub record UnitsLift (m : PathMap) (d : DebugData) (r : DataReadings) : Type 0 where
+pub record UnitsLift (m : PathMap) (r : DataReadings) : Type 0 where
   pub values : EachReading (ValueLifts m) r.units
-  pub codes : EachReading (CodeLifts (lift_of m d r).copies) r.units
+  pub codes : AllCodesLift m r.units
