@@ -71,7 +71,7 @@ run-left old new h k from end stands other left gone = record {
       ∙ sym (ap (λ (b : Bool). unless_left_out b (slice_index new p)) (other.stands p past to ∙ gone));
 }
 
-part-index : (xs : List ℕ) (from end k : ℕ) → k < end - from → slice_index (part xs from end) k ≡ slice_index xs (from + k)
+pub part-index : (xs : List ℕ) (from end k : ℕ) → k < end - from → slice_index (part xs from end) k ≡ slice_index xs (from + k)
 part-index xs from end k lt = get_or-take (end - from) _ k 0 lt ∙ get_or-drop from xs k 0
 
 -- one of which no byte is left out is the same where the bytes are

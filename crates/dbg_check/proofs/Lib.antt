@@ -8,5 +8,10 @@ pub mod KnownPartLaws
 pub mod TextLaws
 pub mod TableLaws
 pub mod ImageLaws
+pub mod LeftOutLaws
+pub mod SegmentLaws
+pub mod AllocLaws
+pub mod LoadedLaws
+pub mod CellLaws
 pub mod VerdictLaws
 pub mod WorkedVerdicts

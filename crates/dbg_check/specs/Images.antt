@@ -1,5 +1,9 @@
 -- The bytes that are loaded of two files, run by run: between the places where what is left out of one of them begins or ends.
-use Rattle.std.specs.Prelude.{Bool, ◌≡◌, ℕ, ◌+◌, ◌^◌, ◌<◌, ◌≤◌, ◌||◌, List, Option, slice_index}
+use Rattle.std.specs.Prelude.{Bool, true, false, ◌≡◌, ℕ, ◌+◌, ◌==◌, ◌^◌, ◌<◌, ◌≤◌, ◌||◌, List, Option, Some, None, slice_index}
+use Rattle.dw_base.specs.Elf.{class_of, nth_section, shnum_place, shoff_place, shstrndx_place, word_size}
+use Rattle.dw_base.specs.Lists.{tabulate}
+use Rattle.dw_base.specs.Notes.{BuildId, Descriptor, build_id_of}
+use Rattle.dw_base.specs.declared.shared.Class.{Class}
 use Rattle.dw_meaning.specs.Loaded.{lies_within, unless_left_out}
 use Rattle.dbg_check.specs.declared.holes.Hole.{Hole}
 use Rattle.dbg_check.specs.declared.holes.Holes.{Holes}
@@ -32,3 +36,40 @@ pub record AreSmall (h : Holes) : Type 0 where
   pub shnum : h.shnum.at + h.shnum.len < 2 ^ 64
   pub shstrndx : h.shstrndx.at + h.shstrndx.len < 2 ^ 64
   pub id : h.id.at + h.id.len < 2 ^ 64
+
+-- so many bytes from a place, none where one is left out
+abbrev pub image_of : List ℕ → Holes → ℕ → ℕ → List (Option ℕ)
+image_of b h from n = tabulate (λ k. byte_at b h (from + k)) n
+
+-- a hole of no bytes, and one of a descriptor where a test passes
+abbrev pub no_hole : Hole
+no_hole = record { at = 0; len = 0 }
+
+abbrev pub hole_if : Bool → Descriptor → Hole
+hole_if true d = record { at = d.place; len = d.size }
+hole_if false d = no_hole
+
+-- where the build-id lies in the file, and in the section of a number
+abbrev pub id_hole : List ℕ → Option BuildId → Hole
+id_hole b None = no_hole
+id_hole b (Some id) = record { at = (nth_section b id.section).offset + id.descriptor.place; len = id.descriptor.size }
+
+abbrev pub own_hole : ℕ → Option BuildId → Hole
+own_hole i None = no_hole
+own_hole i (Some id) = hole_if (i == id.section) id.descriptor
+
+-- what is left out of a file of a class that is loaded as it stands, with this for its build-id
+abbrev pub holes_by : Class → Hole → Holes
+holes_by class id = record {
+  shoff = record { at = shoff_place class; len = word_size class };
+  shnum = record { at = shnum_place class; len = 2 };
+  shstrndx = record { at = shstrndx_place class; len = 2 };
+  id = id;
+}
+
+abbrev pub file_holes : List ℕ → Holes
+file_holes b = holes_by (class_of b) (id_hole b (build_id_of b))
+
+-- what is left out of a section: its build-id alone
+abbrev pub lone_hole : Hole → Holes
+lone_hole id = record { shoff = no_hole; shnum = no_hole; shstrndx = no_hole; id = id }

@@ -4,3 +4,5 @@ pub mod Entries
 pub mod Slashes
 pub mod Tables
 pub mod Images
+pub mod Loads
+pub mod CellRuns
