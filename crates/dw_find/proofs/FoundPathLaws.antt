@@ -90,8 +90,8 @@ use Rattle.dw_offsets.specs.declared.fields.OffsetField.{OffsetField}
 use Rattle.dw_base.specs.declared.texts.TextSection.TheVariants.{InStr}
 use Rattle.dw_meaning.specs.DataOutput.{DataReads}
 use Rattle.dw_meaning.specs.RelocationFails.{LeftRelocationsRead}
-use Rattle.dw_fields.specs.FieldRefusals.{FieldsRefuse}
-use Rattle.dw_fields.specs.FieldRefusals.FieldsRefuse.{left as left_field, entries, macros}
+use Rattle.dw_relocs.specs.FieldRefusals.{FieldsRefuse}
+use Rattle.dw_relocs.specs.FieldRefusals.FieldsRefuse.{left as left_field, entries, macros}
 use Rattle.dw_find.specs.UnitTexts.{data_fails}
 use Rattle.dw_units.specs.UnitLists.{UnitListFails}
 use Rattle.dw_find.proofs.UnitRowLaws.{list-refuses}

@@ -29,12 +29,12 @@ use crate::macros::{MacroSection, macros_name, push_macros};
 use crate::slots::NamedSlots;
 use crate::unit_places::UnitPlaces;
 use dw_base::{DebugSection, Fault};
-use dw_fields::check_fields;
 use dw_lines::LineTable;
 use dw_offsets::{
     ContributionList, NameTableList, OffsetField, SlotMarks, all_slots, contributions, name_fields,
     name_tables,
 };
+use dw_relocs::check_fields;
 use dw_units::{Units, read_units};
 use dw_view::View;
 use std::alloc::{AllocError, Global};

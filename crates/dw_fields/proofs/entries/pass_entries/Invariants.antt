@@ -1,6 +1,0 @@
-use Rattle.dw_fields.specs.FieldWalks.{ground_of}
-use Rattle.dw_fields.specs.UnitPasses.{EntriesSo}
-use Rattle.dw_fields.proofs.entries.pass_entries.Given as goal
-
-abbrev pub invariant-loop-entry : goal.invariant-loop-entry
-invariant-loop-entry l = EntriesSo (ground_of l.view l.section) l.unit l.table l.bytes l.entry-iterator l.number l.fn.pass l.now

@@ -1,6 +1,0 @@
-use Rattle.dw_base.specs.FileViews.{view_cells}
-use Rattle.dw_fields.specs.HeaderChecks.{OwnSo}
-use Rattle.dw_fields.proofs.lines.own.Given as goal
-
-abbrev pub invariant-loop-place : goal.invariant-loop-place
-invariant-loop-place l = OwnSo (view_cells l.view l.section) l.start l.to l.places l.place-index l.from

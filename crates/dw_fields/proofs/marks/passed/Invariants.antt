@@ -1,9 +1,0 @@
-use Rattle.std.proofs.Common.{◌-◌, ◌^◌}
-use Rattle.dw_fields.specs.FieldWalks.{PassedSo, ground_of}
-use Rattle.dw_fields.proofs.marks.passed.Given as goal
-
-abbrev pub invariant-loop-place : goal.invariant-loop-place
-invariant-loop-place l = PassedSo (ground_of l.view l.section) l.fn.marks.place l.to l.at
-
-abbrev pub decreases-loop-place : goal.decreases-loop-place
-decreases-loop-place l = 2 ^ 31 - l.at.place
