@@ -15,9 +15,9 @@ use Rattle.dw_base.specs.declared.fault.Fault.TheVariants.{Refused}
 use Rattle.dw_base.specs.declared.fault.Refusal.{Refusal}
 use Rattle.dw_base.proofs.ElfLaws.{elf_excludes}
 use Rattle.dw_base.proofs.ViewFailsLaws.{view_excludes}
-use Rattle.dw_find.specs.MacroSections.{SectionUnits}
-use Rattle.dw_find.specs.ReadData.{DataRead, DataRefuses}
-use Rattle.dw_find.proofs.ReadDataLaws.{data_read-excludes}
+use Rattle.dw_starts.specs.MacroSections.{SectionUnits}
+use Rattle.dw_read.specs.ReadData.{DataRead, DataRefuses}
+use Rattle.dw_read.proofs.ReadDataLaws.{data_read-excludes}
 use Rattle.dw_meaning.specs.FileMeanings.{Means, ViewMeans}
 use Rattle.dw_meaning.proofs.DataOneLaws.{data-one}
 use Rattle.dw_units.specs.UnitLists.{ListsAll, UnitListFails}

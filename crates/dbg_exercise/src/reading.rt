@@ -7,7 +7,7 @@ ghost use Rattle.dw_base.specs.Layout.{output_limit};
 ghost use Rattle.dw_base.specs.ViewData.{Meaning, debug_data};
 ghost use Rattle.dw_base.specs.ViewFails.{ViewReads};
 ghost use Rattle.dw_base.specs.declared.debug_sections.DebugSection.TheVariants.{Info};
-ghost use Rattle.dw_find.specs.ReadData.{DataRead};
+ghost use Rattle.dw_read.specs.ReadData.{DataRead};
 ghost use Rattle.dw_meaning.specs.FileMeanings.{Means, ViewMeans};
 ghost use Rattle.dw_units.specs.UnitLists.{ListsAll};
 ghost use Rattle.dbg_exercise.specs.ViewCounts.{AreCounts, IsCountableFile, IsCountable};
@@ -15,7 +15,7 @@ ghost use Rattle.dbg_exercise.specs.ViewCounts.{AreCounts, IsCountableFile, IsCo
 use crate::counting::{entry_count, row_count};
 use crate::counts::Counts;
 use dw_base::{Fault, NoMemory};
-use dw_find::{ReadTables, read_data};
+use dw_read::{ReadTables, read_data};
 use dw_units::{Units, read_units};
 use dw_view::View;
 use elf_file::ElfFile;

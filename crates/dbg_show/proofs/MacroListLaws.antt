@@ -4,9 +4,9 @@ use Rattle.std.proofs.Math.Seq.{drop-cons}
 use Rattle.std.proofs.lemmas.List.{drop_all}
 use Rattle.dw_base.specs.FileViews.{View}
 use Rattle.dw_base.specs.declared.macro_units.MacroUnit.{MacroUnit}
-use Rattle.dw_find.specs.MacroNames.{AllUnitsIn, AreUnitsIn}
-use Rattle.dw_find.specs.MacroSections.{SectionUnits}
-use Rattle.dw_find.specs.UnitPlaces.{AllBelow, all_units, place_key, place_limit, unit_keys}
+use Rattle.dw_starts.specs.MacroNames.{AllUnitsIn, AreUnitsIn}
+use Rattle.dw_starts.specs.MacroSections.{SectionUnits}
+use Rattle.dw_starts.specs.UnitPlaces.{AllBelow, all_units, place_key, place_limit, unit_keys}
 use Rattle.dw_macros.specs.MacroEvents.{IsUnitIn}
 use Rattle.dbg_show.specs.ShownMacros.{AreMacros}
 

@@ -22,7 +22,7 @@ use Rattle.dw_base.specs.declared.view_fields.Field.{Field}
 use Rattle.dw_base.specs.declared.view_fields.Field.TheVariants.{Num, Into, Sym}
 use Rattle.dw_base.proofs.FileViewLaws.{section_after-within}
 use Rattle.dw_macros.specs.MacroEvents.{IsUnitIn, SpellsEvents, over, one_event, event_by, event_if, event_in, import_at, import_of, inline_place, named_place, text_event, text_if, unit_events}
-use Rattle.dw_find.specs.MacroNames.{AreUnitsIn}
+use Rattle.dw_starts.specs.MacroNames.{AreUnitsIn}
 use Rattle.file_tree.specs.Heard.{Heard}
 use Rattle.dbg_show.specs.Printing.{Printed, Cut, Goes}
 use Rattle.dbg_show.specs.ShownMacros.{EventThere, EventsThere, MacroSource, event_shown, events_shown, unit_shown, units_shown}

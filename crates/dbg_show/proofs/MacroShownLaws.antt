@@ -15,19 +15,19 @@ use Rattle.dw_meaning.proofs.MacroMeantLaws.{UnitsFrom, units-meant}
 use Rattle.dw_macros.specs.EventMeanings.{event_meaning, unit_meaning}
 use Rattle.dw_macros.specs.MacroEvents.{unit_events}
 use Rattle.dw_macros.proofs.MeaningLaws.{Seen, seen-view, units-mean}
-use Rattle.dw_find.specs.IndexedTexts.{TablesStart}
-use Rattle.dw_find.specs.LineStarts.{Rises}
-use Rattle.dw_find.specs.MacroNames.{AreUnitsIn}
-use Rattle.dw_find.specs.MacroSections.{HaveUnits, SectionUnits, UnitsFoundIn}
-use Rattle.dw_find.specs.ReadData.{DataRead}
-use Rattle.dw_find.specs.ViewLines.{starts_of}
-use Rattle.dw_find.specs.UnitPlaces.{AllBelow, all_units, unit_keys, unit_number}
-use Rattle.dw_find.proofs.MacroHaveLaws.{AllBelow as AllUnder, AllCells, numbers-below}
-use Rattle.dw_find.proofs.MacroNameLaws.{units-in}
-use Rattle.dw_find.proofs.MacroStartLaws.{all-cells}
-use Rattle.dw_find.proofs.StartLaws.{starts-rise}
-use Rattle.dw_find.proofs.TableStartLaws.{read-starts}
-use Rattle.dw_find.proofs.UnitKeyLaws.{keys-rise}
+use Rattle.dw_starts.specs.LineStarts.{TablesStart}
+use Rattle.dw_starts.specs.LineStarts.{Rises}
+use Rattle.dw_starts.specs.MacroNames.{AreUnitsIn}
+use Rattle.dw_starts.specs.MacroSections.{HaveUnits, SectionUnits, UnitsFoundIn}
+use Rattle.dw_read.specs.ReadData.{DataRead}
+use Rattle.dw_starts.specs.LineStarts.{starts_of}
+use Rattle.dw_starts.specs.UnitPlaces.{AllBelow, all_units, unit_keys, unit_number}
+use Rattle.dw_starts.proofs.MacroNumberLaws.{AllBelow as AllUnder, AllCells, numbers-below}
+use Rattle.dw_starts.proofs.MacroNameLaws.{units-in}
+use Rattle.dw_starts.proofs.MacroStartLaws.{all-cells}
+use Rattle.dw_starts.proofs.StartSearchLaws.{starts-rise}
+use Rattle.dw_starts.proofs.TableStartLaws.{read-starts}
+use Rattle.dw_starts.proofs.UnitKeyLaws.{keys-rise}
 use Rattle.dbg_show.specs.MacroTexts.{events_text, macros_line, macros_text}
 use Rattle.dbg_show.specs.ShownMacros.{AreMacros, MacroSource, MacrosFit, event_shown, events_shown, line_number, units_shown}
 use Rattle.dbg_show.proofs.MacroListLaws.{all-in}

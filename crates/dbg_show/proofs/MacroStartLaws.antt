@@ -9,12 +9,12 @@ use Rattle.dw_base.specs.declared.debug_sections.DebugSection.TheVariants.{Macro
 use Rattle.dw_meaning.proofs.MacroPieceLaws.{AllUnits, MacrosFound, all-units-read, all_unit_starts}
 use Rattle.dw_meaning.proofs.MacroReadLaws.{all-macros-one}
 use Rattle.dw_macros.proofs.UnitListLaws.{read-units}
-use Rattle.dw_find.specs.MacroSections.{HaveUnits, SectionUnits, UnitsFoundIn}
-use Rattle.dw_find.specs.UnitPlaces.{AllBelow, all_units, unit_keys, unit_number}
-use Rattle.dw_find.proofs.MacroHaveLaws.{AllCells}
-use Rattle.dw_find.proofs.MacroPlaceLaws.{units_of}
-use Rattle.dw_find.proofs.MacroStartLaws.{Any, all-cells, any-unit}
-use Rattle.dw_find.proofs.UnitKeyLaws.{numbered, starts-all}
+use Rattle.dw_starts.specs.MacroSections.{HaveUnits, SectionUnits, UnitsFoundIn}
+use Rattle.dw_starts.specs.UnitPlaces.{AllBelow, all_units, unit_keys, unit_number}
+use Rattle.dw_starts.proofs.MacroNumberLaws.{AllCells}
+use Rattle.dw_starts.proofs.MacroPlaceLaws.{units_of}
+use Rattle.dw_starts.proofs.MacroStartLaws.{Any, all-cells, any-unit}
+use Rattle.dw_starts.proofs.UnitKeyLaws.{numbered, starts-all}
 
 any-asked : (v : View) (zs : List CellSection) (ss : List SectionUnits) → AllCells v zs → HaveUnits v zs ss → AllUnits v Any zs (units_of ss)
 any-asked v [] [] c h = tt

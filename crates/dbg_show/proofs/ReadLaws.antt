@@ -28,11 +28,11 @@ use Rattle.dw_lines.specs.ViewTables.{tables_read, TablesUpTo, TablesFound}
 use Rattle.dw_base.proofs.FileViewLaws.{section_after-within}
 use Rattle.dw_meaning.proofs.LineOneLaws.{tables-one}
 use Rattle.dw_lines.proofs.ReadingLaws.{source-is}
-use Rattle.dw_find.specs.MacroNames.{AllUnitsIn}
-use Rattle.dw_find.specs.MacroSections.{SectionUnits}
-use Rattle.dw_find.specs.ReadData.{DataRead, DataRefuses, string_tables}
-use Rattle.dw_find.specs.ViewLines.{starts_of}
-use Rattle.dw_find.proofs.MacroNameLaws.{units-in}
+use Rattle.dw_starts.specs.MacroNames.{AllUnitsIn}
+use Rattle.dw_starts.specs.MacroSections.{SectionUnits}
+use Rattle.dw_read.specs.ReadData.{DataRead, DataRefuses, string_tables}
+use Rattle.dw_starts.specs.LineStarts.{starts_of}
+use Rattle.dw_starts.proofs.MacroNameLaws.{units-in}
 use Rattle.dw_base.specs.StringOffsetFails.{ContributionsFail}
 use Rattle.dw_rows.specs.TableRows.{IsTableIn, table_rows}
 use Rattle.dw_rows.proofs.TableLaws.{rows-meant}

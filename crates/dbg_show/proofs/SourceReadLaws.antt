@@ -17,12 +17,12 @@ use Rattle.dw_base.specs.declared.macro_units.MacroUnit.{MacroUnit}
 use Rattle.dw_base.specs.declared.shared.Order.{Order}
 use Rattle.dw_base.specs.declared.string_offsets.Contribution.{Contribution}
 use Rattle.dw_meaning.proofs.MacroFirstLaws.{first-macros}
-use Rattle.dw_find.specs.IndexedTexts.{TablesStart}
-use Rattle.dw_find.specs.MacroSections.{SectionUnits}
-use Rattle.dw_find.specs.ReadData.{DataRead}
-use Rattle.dw_find.specs.ViewLines.{starts_of}
-use Rattle.dw_find.proofs.StartLaws.{starts-rise}
-use Rattle.dw_find.proofs.TableStartLaws.{read-starts}
+use Rattle.dw_starts.specs.LineStarts.{TablesStart}
+use Rattle.dw_starts.specs.MacroSections.{SectionUnits}
+use Rattle.dw_read.specs.ReadData.{DataRead}
+use Rattle.dw_starts.specs.LineStarts.{starts_of}
+use Rattle.dw_starts.proofs.StartSearchLaws.{starts-rise}
+use Rattle.dw_starts.proofs.TableStartLaws.{read-starts}
 use Rattle.dw_attrs.specs.EntryIndexes.{IsIndexed}
 use Rattle.dbg_show.specs.ShownMacros.{AreMacros}
 use Rattle.dw_attrs.specs.UnitValues.{UnitSource, first_macro}

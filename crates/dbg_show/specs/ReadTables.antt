@@ -9,8 +9,8 @@ use Rattle.dw_base.specs.LineTables.{LineTable}
 use Rattle.dw_base.specs.ViewData.{debug_data}
 use Rattle.dw_base.specs.declared.line_rows.Row.{Row}
 use Rattle.dw_rows.specs.TableRows.{IsTableIn, table_rows}
-use Rattle.dw_find.specs.MacroSections.{SectionUnits}
-use Rattle.dw_find.specs.ReadData.{DataRead}
+use Rattle.dw_starts.specs.MacroSections.{SectionUnits}
+use Rattle.dw_read.specs.ReadData.{DataRead}
 use Rattle.dbg_show.specs.LineTexts.{dirs_text, files_text, first_number, lines_text, table_line}
 use Rattle.dbg_show.specs.Rows.{rows_text}
 use Rattle.dbg_show.specs.TableLists.{TableLists, listed_rows}

@@ -6,10 +6,10 @@ use Rattle.dw_base.specs.FileViews.{View}
 use Rattle.dw_base.specs.declared.macro_units.MacroEvent.{MacroEvent}
 use Rattle.dw_base.specs.declared.macro_units.MacroEvent.TheVariants.{Define, Undef, StartFile, EndFile, Import}
 use Rattle.dw_base.specs.declared.macro_units.MacroUnit.{MacroUnit}
-use Rattle.dw_find.specs.LineStarts.{Rises}
-use Rattle.dw_find.specs.MacroNames.{AreUnitsIn}
-use Rattle.dw_find.specs.MacroSections.{SectionUnits}
-use Rattle.dw_find.specs.UnitPlaces.{AllBelow, all_units, unit_keys, unit_number}
+use Rattle.dw_starts.specs.LineStarts.{Rises}
+use Rattle.dw_starts.specs.MacroNames.{AreUnitsIn}
+use Rattle.dw_starts.specs.MacroSections.{SectionUnits}
+use Rattle.dw_starts.specs.UnitPlaces.{AllBelow, all_units, unit_keys, unit_number}
 use Rattle.dw_macros.specs.EventMeanings.{text_bytes}
 use Rattle.dw_macros.specs.MacroEvents.{unit_events}
 use Rattle.dbg_show.specs.MacroTexts.{define_front, undef_front, quoted_line, start_line, end_line, import_line, macros_line}

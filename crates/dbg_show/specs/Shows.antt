@@ -9,7 +9,7 @@ use Rattle.dw_base.specs.UnitMeanings.{units_of}
 use Rattle.dw_base.specs.ViewData.{debug_data}
 use Rattle.dw_base.specs.declared.fault.Fault.TheVariants.{NoMemory, Refused}
 use Rattle.dw_base.specs.declared.fault.Refusal.{Refusal}
-use Rattle.dw_find.specs.ReadData.{DataRefuses}
+use Rattle.dw_read.specs.ReadData.{DataRefuses}
 use Rattle.dw_meaning.specs.DataOutput.{DataReads}
 use Rattle.dw_meaning.specs.RelocationFails.{RelocationsReadIn}
 use Rattle.file_tree.specs.Heard.{Heard, grown}

@@ -6,7 +6,7 @@ use Rattle.dw_base.specs.LineTables.{LineTable}
 use Rattle.dw_base.specs.MacroMeanings.{macro_meanings}
 use Rattle.dw_base.specs.UnitMeanings.{units_of}
 use Rattle.dw_base.specs.ViewData.{debug_data}
-use Rattle.dw_find.specs.MacroSections.{SectionUnits}
+use Rattle.dw_starts.specs.MacroSections.{SectionUnits}
 use Rattle.dbg_show.specs.MacroTexts.{macros_text}
 use Rattle.dbg_show.specs.ReadTables.{ViewTables, all_read}
 use Rattle.dbg_show.specs.ShownMacros.{MacroSource, MacrosFit, units_shown}

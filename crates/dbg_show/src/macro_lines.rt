@@ -5,7 +5,7 @@
 ghost use Rattle.std.specs.Prelude.{◌≡◌, ◌++◌, IfErr, OnOk};
 ghost use Rattle.std.specs.String.{string_bytes};
 ghost use Rattle.dw_macros.specs.MacroEvents.{IsUnitIn, events_left, unit_events};
-ghost use Rattle.dw_find.specs.MacroNames.{AreUnitsIn};
+ghost use Rattle.dw_starts.specs.MacroNames.{AreUnitsIn};
 ghost use Rattle.dbg_show.specs.MacroTexts.{macros_line};
 ghost use Rattle.dbg_show.specs.Printing.{Cut, Printed};
 ghost use Rattle.dbg_show.specs.ShownMacros.{EventThere, EventsThere, MacrosFit, event_shown, events_shown, unit_shown, units_shown};

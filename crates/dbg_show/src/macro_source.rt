@@ -3,16 +3,16 @@
 //! Read first: `specs/ShownMacros.antt`.
 
 ghost use Rattle.std.specs.Prelude.{◌≡◌, ◌<◌, length, IfOk, OnOk};
-ghost use Rattle.dw_find.specs.LineStarts.{Rises};
-ghost use Rattle.dw_find.specs.MacroNames.{AllUnitsIn, AreUnitsIn};
-ghost use Rattle.dw_find.specs.UnitPlaces.{AllBelow, all_units, unit_keys, unit_number};
+ghost use Rattle.dw_starts.specs.LineStarts.{Rises};
+ghost use Rattle.dw_starts.specs.MacroNames.{AllUnitsIn, AreUnitsIn};
+ghost use Rattle.dw_starts.specs.UnitPlaces.{AllBelow, all_units, unit_keys, unit_number};
 ghost use Rattle.dw_macros.specs.EventMeanings.{text_bytes};
 ghost use Rattle.dbg_show.specs.ShownMacros.{AreMacros, MacroSource as MacroSourceOf, line_number};
 
 use dw_attrs::{part, started, unit_number};
 use dw_base::TextPlace;
-use dw_find::{MacroSection, start_key};
 use dw_macros::MacroUnit;
+use dw_starts::{MacroSection, start_key};
 use dw_view::View;
 use std::alloc::{AllocError, Global};
 use std::marker::Model;

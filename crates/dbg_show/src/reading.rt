@@ -4,12 +4,12 @@ ghost use Rattle.std.specs.Prelude.{IfErr, IfOk};
 ghost use Rattle.dw_base.specs.Refusals.{Blames};
 ghost use Rattle.dw_base.specs.ViewData.{debug_data};
 ghost use Rattle.dw_base.specs.declared.debug_sections.DebugSection.TheVariants.{Info};
-ghost use Rattle.dw_find.specs.ReadData.{DataRefuses};
+ghost use Rattle.dw_read.specs.ReadData.{DataRefuses};
 ghost use Rattle.dw_units.specs.UnitLists.{ListsAll};
 ghost use Rattle.dbg_show.specs.ReadTables.{ViewTables};
 
 use dw_base::Fault;
-use dw_find::ReadTables;
+use dw_read::ReadTables;
 use dw_units::{Units, read_units};
 use dw_view::View;
 use std::alloc::Global;
@@ -20,7 +20,7 @@ pub(crate) fn read_tables(alloc: Global, view: &View) -> Result<ReadTables, Faul
     ensures read { IfOk result (λ tables. ViewTables view.now tables.lines.items tables.macros.items) }
     ensures refused { IfErr result (Blames (DataRefuses view.now)) }
 {
-    match dw_find::read_data(alloc, view) {
+    match dw_read::read_data(alloc, view) {
         Ok(tables) => Ok(tables),
         Err(fault) => Err(fault),
     }

@@ -21,7 +21,7 @@ use Rattle.dw_meaning.proofs.DataOneLaws.{reads-one}
 use Rattle.dw_meaning.proofs.DataRowLaws.{scanned-units}
 use Rattle.dw_meaning.proofs.PieceLaws.{leads-chain}
 use Rattle.dw_meaning.proofs.ScanBackLaws.{section-scanned}
-use Rattle.dw_find.proofs.IndexRunLaws.{run-begins}
+use Rattle.dw_unit_fields.proofs.IndexRunLaws.{run-begins}
 use Rattle.dw_units.specs.UnitLists.{IsListed, AreListed, ListsAll, none_listed, more_listed}
 use Rattle.dw_units.specs.declared.listed_unit.ListedUnit.{ListedUnit}
 use Rattle.dw_base.specs.declared.debug_sections.DebugSection.TheVariants.{Info}

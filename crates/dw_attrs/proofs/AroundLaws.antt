@@ -17,7 +17,7 @@ use Rattle.dw_base.specs.declared.string_offsets.Contribution.{Contribution}
 use Rattle.dw_base.specs.declared.units.Scanned.{Scanned}
 use Rattle.dw_base.specs.declared.units.UnitHeader.{UnitHeader}
 use Rattle.dw_base.proofs.ViewCellLaws.{lines-located}
-use Rattle.dw_find.specs.UnitPlaces.{unit_number}
+use Rattle.dw_starts.specs.UnitPlaces.{unit_number}
 use Rattle.dw_attrs.specs.UnitValues.{UnitSource, first_base, first_macro, index_meant, info_section, said_unit, unit_bytes, unit_entries}
 use Rattle.dw_units.specs.UnitLists.{ListsAll}
 use Rattle.dw_attrs.specs.Sayings.{said_of}

@@ -13,7 +13,7 @@ use Rattle.dw_base.specs.declared.units.Scanned.{Scanned}
 use Rattle.dw_base.specs.declared.units.UnitHeader.{UnitHeader}
 use Rattle.dw_entries.specs.ScanStates.{ScanState, GivesEntry, GivesNothing, scan_start}
 use Rattle.dw_entries.specs.ViewUnits.{unit_section_at}
-use Rattle.dw_find.specs.LineStarts.{HasStart, IsStartGap, Rises}
+use Rattle.dw_starts.specs.LineStarts.{HasStart, IsStartGap, Rises}
 use Rattle.dw_attrs.specs.EntryIndexes.{AreBefore, EachRises, IsIndexed, entries_at, offsets_of, start_key, tabled_offsets, unit_offsets, unit_starts}
 use Rattle.dw_attrs.specs.UnitValues.{EntryIndex, entry_number, number_in, unit_bytes, unit_entries}
 use Rattle.dw_attrs.specs.UnitReads.{AllCanRead, CanRead, EachReads}

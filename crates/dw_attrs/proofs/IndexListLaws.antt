@@ -6,7 +6,7 @@ use Rattle.dw_base.specs.FileViews.{View}
 use Rattle.dw_base.specs.UnitHeaders.{UnitSection, UnitsUpTo, no_units, more_units}
 use Rattle.dw_base.specs.ViewData.{debug_data, unit_sections}
 use Rattle.dw_base.specs.declared.units.UnitHeader.{UnitHeader}
-use Rattle.dw_find.specs.UnitPlaces.{place_key}
+use Rattle.dw_starts.specs.UnitPlaces.{place_key}
 use Rattle.dw_base.proofs.HeaderOfLaws.{header-of}
 use Rattle.dw_meaning.proofs.ScanSectionLaws.{header-placed}
 use Rattle.dw_attrs.specs.EntryIndexes.{AreApart, StandApart, end_key, start_key}

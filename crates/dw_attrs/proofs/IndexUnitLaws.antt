@@ -7,8 +7,8 @@ use Rattle.dw_base.specs.AbbreviationTables.{Abbreviation}
 use Rattle.dw_base.specs.FileViews.{View}
 use Rattle.dw_base.specs.LineMeanings.{item_at}
 use Rattle.dw_base.specs.declared.units.UnitHeader.{UnitHeader}
-use Rattle.dw_find.specs.LineStarts.{Rises}
-use Rattle.dw_find.specs.UnitPlaces.{place_key}
+use Rattle.dw_starts.specs.LineStarts.{Rises}
+use Rattle.dw_starts.specs.UnitPlaces.{place_key}
 use Rattle.dw_attrs.specs.EntryIndexes.{AreApart, AreBefore, end_key, start_key, unit_starts}
 use Rattle.dw_attrs.specs.UnitValues.{lies_in, named_in, number_in, or_behind}
 use Rattle.dw_units.specs.declared.listed_unit.ListedUnit.{ListedUnit}

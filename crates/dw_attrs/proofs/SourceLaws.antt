@@ -10,8 +10,8 @@ use Rattle.dw_base.specs.LineMeanings.{item_at}
 use Rattle.dw_base.specs.Texts.{text, has_nul, text_in, ends_in}
 use Rattle.dw_base.specs.declared.string_offsets.Contribution.{Contribution}
 use Rattle.dw_base.specs.declared.view_fields.Field.TheVariants.{Num}
-use Rattle.dw_find.specs.LineStarts.{Rises}
-use Rattle.dw_find.specs.UnitPlaces.{place_key}
+use Rattle.dw_starts.specs.LineStarts.{Rises}
+use Rattle.dw_starts.specs.UnitPlaces.{place_key}
 use Rattle.dw_offsets.specs.SlotSearch.{BasesRise, HasBase, IsBaseGap, base_at}
 use Rattle.dw_attrs.specs.EntryIndexes.{AreBefore, EachRises, entries_at, unit_number, unit_offsets, unit_starts}
 use Rattle.dw_attrs.specs.UnitValues.{UnitSource, lies_in, named_in, number_in, or_behind, slot_in, slot_size}

@@ -28,8 +28,8 @@ use Rattle.dw_base.proofs.LebLaws.{uleb_at-append}
 use Rattle.dw_base.proofs.NumberBytes.{signed-cut, number-cut}
 use Rattle.dw_base.proofs.ViewCellLaws.{bytes_of-view_cells, field_at-cells}
 use Rattle.dw_meaning.proofs.ScanPieceLaws.{part-bytes, before-end, part-length, unit_bytes, NumberPiece, number-piece, bytes_of-drop}
-use Rattle.dw_find.specs.UnitPlaces.{unit_number}
-use Rattle.dw_find.proofs.InlineTextLaws.{text-front}
+use Rattle.dw_starts.specs.UnitPlaces.{unit_number}
+use Rattle.dw_unit_fields.proofs.InlineTextLaws.{text-front}
 use Rattle.dw_attrs.specs.UnitValues.{SaidUnit, class_meant, entry_meant, has_field, index_meant, info_section, is_leb_form, macro_named, first_macro, macro_meant, reference_meant, signed_of, lines_meant, table_meant, start_meant, value_address, value_bytes, value_field, value_offset}
 use Rattle.dw_attrs.specs.Sayings.{said_bytes, said_field, said_signed, said_stray, said_text, said_of}
 use Rattle.dw_attrs.proofs.FieldPlaceLaws.{field-there}
@@ -38,7 +38,7 @@ use Rattle.dw_attrs.proofs.ViewPartLaws.{address_at-cells}
 use Rattle.dw_base.specs.declared.texts.TextSection.{TextSection}
 use Rattle.dw_base.specs.declared.texts.TextSection.TheVariants.{InStr, InLineStr}
 use Rattle.dw_base.specs.declared.values.AttributeUse.{AttributeUse}
-use Rattle.dw_find.proofs.PlacedRunLaws.{number-at_place}
+use Rattle.dw_unit_fields.proofs.PlacedRunLaws.{number-at_place}
 
 -- what stands around the units of a file, by which their values mean what they say, and a unit that is printed
 pub record IsAround (around : Around) (u : SaidUnit) : Type 0 where

@@ -6,8 +6,8 @@ use Rattle.dw_base.specs.FileViews.{View}
 use Rattle.dw_base.specs.LineMeanings.{item_at}
 use Rattle.dw_base.specs.declared.units.Scanned.{Scanned}
 use Rattle.dw_base.specs.declared.units.UnitHeader.{UnitHeader}
-use Rattle.dw_find.specs.LineStarts.{Rises}
-use Rattle.dw_find.specs.UnitPlaces.{place_key}
+use Rattle.dw_starts.specs.LineStarts.{Rises}
+use Rattle.dw_starts.specs.UnitPlaces.{place_key}
 use Rattle.dw_attrs.specs.UnitValues.{EntryIndex, number_in, unit_bytes, unit_entries}
 use Rattle.dw_units.specs.declared.listed_unit.ListedUnit.{ListedUnit}
 

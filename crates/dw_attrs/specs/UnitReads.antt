@@ -10,7 +10,7 @@ use Rattle.dw_base.specs.ViewData.{debug_data}
 use Rattle.dw_base.specs.declared.units.Scanned.{Scanned}
 use Rattle.dw_base.specs.declared.units.UnitHeader.{UnitHeader}
 use Rattle.dw_entries.specs.ViewUnits.{unit_section_at}
-use Rattle.dw_find.specs.LineStarts.{Rises}
+use Rattle.dw_starts.specs.LineStarts.{Rises}
 use Rattle.dw_units.specs.declared.listed_unit.ListedUnit.{ListedUnit}
 use Rattle.dw_attrs.specs.EntryIndexes.{IsIndexed, StandApart}
 use Rattle.dw_attrs.specs.UnitValues.{UnitSource, SaidUnit, unit_bytes}

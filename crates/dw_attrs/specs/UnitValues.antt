@@ -31,7 +31,7 @@ use Rattle.dw_base.specs.declared.values.ValueClass.TheVariants.{Address, Signed
 use Rattle.dw_base.specs.declared.view_fields.Field.{Field}
 use Rattle.dw_base.specs.declared.view_fields.Field.TheVariants.{Num, Into, Sym}
 use Rattle.dw_entries.specs.ViewUnits.{unit_section_at}
-use Rattle.dw_find.specs.UnitPlaces.{unit_number}
+use Rattle.dw_starts.specs.UnitPlaces.{unit_number}
 use Rattle.dw_units.specs.declared.listed_unit.ListedUnit.{ListedUnit}
 use Rattle.dw_attrs.specs.Sayings.{said_bytes, said_entry, said_field, said_lines, said_macros, said_signed, said_stray, said_text, Saying}
 use Rattle.dw_base.specs.Roles.{is_macros}

@@ -5,8 +5,8 @@
 ghost use Rattle.std.specs.Prelude.{◌≡◌, ◌+◌, ◌<◌, ◌^◌, List, ℕ, length, IfErr, IfOk, Some};
 ghost use Rattle.dw_base.specs.DebugData.{start_number};
 ghost use Rattle.dw_base.specs.LineMeanings.{item_at};
-ghost use Rattle.dw_find.specs.LineStarts.{HasStart, IsStartGap, Rises};
-ghost use Rattle.dw_find.specs.UnitPlaces.{place_key};
+ghost use Rattle.dw_starts.specs.LineStarts.{HasStart, IsStartGap, Rises};
+ghost use Rattle.dw_starts.specs.UnitPlaces.{place_key};
 ghost use Rattle.dw_attrs.specs.EntryIndexes.{AreBefore, EachRises, IsIndexed, entries_at, offsets_of, start_key, tabled_offsets};
 ghost use Rattle.dw_attrs.specs.UnitValues.{EntryIndex as EntryIndexOf, unit_bytes, unit_entries};
 ghost use Rattle.dw_attrs.specs.UnitReads.{AllCanRead, CanRead, EachReads};
@@ -14,7 +14,7 @@ ghost use Rattle.dw_attrs.specs.UnitReads.{AllCanRead, CanRead, EachReads};
 use dw_abbrev::AbbrevTable;
 use dw_base::{NoMemory, UnitHeader};
 use dw_entries::EntryScan;
-use dw_find::{place_key, with_start};
+use dw_starts::{place_key, with_start};
 use dw_units::{ListedUnit, Units};
 use dw_view::View;
 use std::alloc::Global;
@@ -113,7 +113,7 @@ fn with_place(places: &[u32], place: u32) -> Result<usize, usize>
 }
 
 /// The number of the entry that starts at a place.
-#[tactic(auto, using(dw_find::proofs::StartLaws::number_rules))]
+#[tactic(auto, using(dw_starts::proofs::StartSearchLaws::number_rules))]
 fn entry_number(places: &[u32], place: u32) -> Option<u64>
     requires rises { Rises places.now }
     ensures number { result ≡ start_number 0 places.now place }

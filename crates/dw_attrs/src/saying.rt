@@ -7,7 +7,7 @@ ghost use Rattle.dw_base.specs.DebugData.{start_number};
 ghost use Rattle.dw_base.specs.Texts.{text_in};
 ghost use Rattle.dw_base.specs.ViewData.{located};
 ghost use Rattle.dw_base.specs.declared.view_fields.Field.TheVariants.{Into};
-ghost use Rattle.dw_find.specs.LineStarts.{Rises};
+ghost use Rattle.dw_starts.specs.LineStarts.{Rises};
 ghost use Rattle.dw_attrs.specs.Sayings.{said_text, saying};
 ghost use Rattle.dw_attrs.specs.UnitReads.{SourceFits, UnitFits};
 ghost use Rattle.dw_attrs.specs.UnitValues.{class_meant, entry_meant, entry_number, index_meant, lines_meant, macro_meant, named_in, offset_text, other_meant, place_meant, plain_meant, reference_meant, says_start, says_unit, start_meant, table_meant, unit_entries, value_address, value_bytes, value_field, value_meant, value_offset};
@@ -21,7 +21,7 @@ use dw_base::dwarf_numbers::{
     DW_AT_GNU_macros, DW_AT_macros, DW_AT_stmt_list, DW_FORM_implicit_const,
 };
 use dw_base::{DebugSection, Field, Spec, Value, ValueClass, is_start_form, own_form};
-use dw_find::start_number;
+use dw_starts::start_number;
 
 /// A value at a place says where a line table starts.
 fn says_start(spec: &Spec, bytes: &[u8], place: u64) -> bool

@@ -2,10 +2,10 @@
 
 ghost use Rattle.std.specs.Prelude.{◌≡◌};
 ghost use Rattle.dw_base.specs.DebugData.{start_number};
-ghost use Rattle.dw_find.specs.LineStarts.{Rises};
-ghost use Rattle.dw_find.specs.UnitPlaces.{unit_number};
+ghost use Rattle.dw_starts.specs.LineStarts.{Rises};
+ghost use Rattle.dw_starts.specs.UnitPlaces.{unit_number};
 
-use dw_find::{place_key, start_number};
+use dw_starts::{place_key, start_number};
 
 /// No section has as many bytes.
 const PLACE_LIMIT: u64 = 0x1_0000_0000;

@@ -25,15 +25,15 @@ use Rattle.dw_lines.specs.NewTexts.{KnownTexts}
 use Rattle.dw_lines.specs.ViewTables.{tables_read}
 use Rattle.dw_lines.proofs.ReadingLaws.{source-is}
 use Rattle.dw_meaning.specs.DataOutput.{PathsFit, table_change}
-use Rattle.dw_find.specs.AllFields.{Fields, all_of, standing}
-use Rattle.dw_find.specs.FoundPaths.{PathsFound}
+use Rattle.dw_read.specs.AllFields.{Fields, all_of, standing}
+use Rattle.dw_read.specs.FoundPaths.{PathsFound}
 use Rattle.dw_rewrite.specs.Bodies.{BodiesRefuse, addend_of, long_table_of, long_lines_of, line_table_of}
 use Rattle.dw_rewrite.specs.Changes.{start_known}
 use Rattle.dw_rewrite.specs.LineOffsets.{OffsetMisses, line_offsets}
 use Rattle.dw_rewrite.specs.NewStarts.{StartChange, known_starts}
 use Rattle.dw_rewrite.specs.OffsetAddends.{AllMiss}
 use Rattle.dw_rewrite.specs.NewTables.{LongTable, TableMade, TablesRefuse, all_texts_at, long_table, one_is_long}
-use Rattle.dw_find.specs.ViewLines.{starts_of}
+use Rattle.dw_starts.specs.LineStarts.{starts_of}
 use Rattle.dw_rewrite.specs.NewLines.{LinesFail, LinesRefuse, LinesWritten, all_too_long, lines_known, one_fails, table_fails}
 use Rattle.dw_rewrite.proofs.LineKnownLaws.{TableRefused, table-refused}
 use Rattle.dw_rewrite.proofs.LineHeldLaws.{lines-fail}

@@ -13,7 +13,7 @@ use Rattle.dw_base.specs.declared.fault.Fault.{Fault}
 use Rattle.dw_base.specs.declared.fault.Fault.TheVariants.{NoMemory, Refused}
 use Rattle.dw_base.proofs.TextLaws.{laid_texts-append}
 use Rattle.dw_offsets.specs.declared.fields.OffsetField.{OffsetField}
-use Rattle.dw_find.specs.Fields.{AreOffsetFields, IsOffsetField}
+use Rattle.dw_unit_fields.specs.Fields.{AreOffsetFields, IsOffsetField}
 use Rattle.dw_rewrite.specs.Changes.{AreFieldsOf, AreNoted, FieldSource, IsFieldOf, IsNoted, Knows, Remembers, field_mention, offset_at, offset_bytes, patched, patched_at, put_at, texts_at, with_all_known, with_known}
 
 -- one field more of a list

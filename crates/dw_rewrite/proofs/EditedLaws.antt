@@ -24,10 +24,10 @@ use Rattle.dw_offsets.specs.declared.fields.OffsetField.{OffsetField}
 use Rattle.dw_base.specs.declared.texts.TextSection.{TextSection}
 use Rattle.dw_base.specs.declared.texts.TextSection.TheVariants.{InStr, InLineStr}
 use Rattle.dw_rewrite.specs.Changes.{FieldSource, new_start, offset_at, offset_bytes, patched, patched_at, field_mention, put_at, start_known, texts_at, with_all_known, with_known}
-use Rattle.dw_find.specs.SectionFields.{field_by, piece_fields, inline_text}
+use Rattle.dw_unit_fields.specs.SectionFields.{field_by, piece_fields, inline_text}
 use Rattle.dw_rewrite.specs.UnitsAfter.{inlined_at, start_source, text_source}
-use Rattle.dw_find.proofs.PlacedLaws.{PlacedCells}
-use Rattle.dw_find.proofs.PieceFieldLaws.{FieldsFrom}
+use Rattle.dw_unit_fields.proofs.PlacedLaws.{PlacedCells}
+use Rattle.dw_unit_fields.proofs.PieceFieldLaws.{FieldsFrom}
 
 -- a field of a piece at a place, of a path or not
 abbrev field_at : Bool → ℕ → List Cell → OffsetField

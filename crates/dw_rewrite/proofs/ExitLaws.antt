@@ -61,17 +61,17 @@ use Rattle.dw_base.proofs.ReadsBackLaws.{reads_back-same, with_bodies-same}
 use Rattle.dw_base.proofs.SectionLaws.{length-contents}
 use Rattle.dw_meaning.proofs.TableKeptLaws.{TablePlace, nowhere, lies_at}
 use Rattle.dw_rewrite.specs.Bodies.{BodiesRefuse, FileBodiesMade, long_table, held_bodies, moved_numbers}
-use Rattle.dw_find.specs.AllFields.{Fields}
-use Rattle.dw_find.specs.FoundPaths.{MapRefuses, PathsFound}
+use Rattle.dw_read.specs.AllFields.{Fields}
+use Rattle.dw_read.specs.FoundPaths.{MapRefuses, PathsFound}
 use Rattle.dw_rewrite.specs.Bodies.BodiesRefuse.{addend_of, line_table_of, long_lines_of, long_table_of}
-use Rattle.dw_find.specs.FoundPaths.MapRefuses.{inline as map_inline, shared as map_shared}
-use Rattle.dw_find.specs.ReadData.{DataRefuses}
-use Rattle.dw_find.specs.ReadData.DataRefuses.{units as data_units, starts as data_starts, string_tables as data_string_tables, name_tables as data_name_tables, name_offsets as data_name_offsets, relocations as data_relocations, slots as data_slots, lines as data_lines, macros as data_macros}
+use Rattle.dw_read.specs.FoundPaths.MapRefuses.{inline as map_inline, shared as map_shared}
+use Rattle.dw_read.specs.ReadData.{DataRefuses}
+use Rattle.dw_read.specs.ReadData.DataRefuses.{units as data_units, starts as data_starts, string_tables as data_string_tables, name_tables as data_name_tables, name_offsets as data_name_offsets, relocations as data_relocations, slots as data_slots, lines as data_lines, macros as data_macros}
 use Rattle.dw_rewrite.specs.CheckedFiles.{IsChecked}
 use Rattle.dw_rewrite.specs.Rewritten.{AllStand, IsInFile, body_with, long_fault, long_or, long_refusal, told_refusal}
-use Rattle.dw_find.specs.MacroSections.{SectionUnits, UnitsFailIn, UnitsFoundIn}
-use Rattle.dw_find.specs.MacroSections.UnitsFailIn.{units as units_fail, offsets as offsets_fail}
-use Rattle.dw_find.specs.UnitTexts.UnitsRefuse.{data_fails, header_fails, relocation_fails, text_fails}
+use Rattle.dw_starts.specs.MacroSections.{SectionUnits, UnitsFailIn, UnitsFoundIn}
+use Rattle.dw_starts.specs.MacroSections.UnitsFailIn.{units as units_fail, offsets as offsets_fail}
+use Rattle.dw_unit_fields.specs.UnitTexts.UnitsRefuse.{data_fails, header_fails, relocation_fails, text_fails}
 use Rattle.dw_rewrite.proofs.FileBodyLaws.{alloc-stays, bodies-same}
 use Rattle.dw_rewrite.proofs.MovedNumberLaws.{are-moved}
 use Rattle.dw_meaning.specs.RelocatedBodies.{new_cells}

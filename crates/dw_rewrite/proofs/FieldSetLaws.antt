@@ -8,7 +8,7 @@ use Rattle.dw_patch.specs.Patching.{IsFree, PatchList, with_patch}
 use Rattle.elf_layout.specs.Patched.{with_patches}
 use Rattle.elf_layout.specs.declared.patch.Patch.{Patch}
 use Rattle.dw_patch.proofs.PatchLaws.{free-more}
-use Rattle.dw_find.specs.Fields.{AllApart, IsApartFrom}
+use Rattle.dw_unit_fields.specs.Fields.{AllApart, IsApartFrom}
 use Rattle.dw_rewrite.specs.Changes.{AreFree, AreSaid, AreSet, FieldSource, IsSet, Says, SaysBy, more_said, none_said, offset_at, offset_bytes, put_at, says_none, says_one, with_all_known, with_known}
 use Rattle.dw_rewrite.proofs.ChangedLaws.{field_front, field_there}
 

@@ -18,9 +18,9 @@ use Rattle.dw_meaning.specs.DataOutput.{Body, changes_of, new_bodies}
 use Rattle.dw_meaning.specs.FileMeanings.{file_data}
 use Rattle.dw_meaning.specs.NewAddends.{AddendsFit}
 use Rattle.dw_meaning.specs.RelocatedBodies.{CellBody, new_cells}
-use Rattle.dw_find.specs.AllFields.{Fields, all_of, standing}
-use Rattle.dw_find.specs.FoundPaths.{PathsFound}
-use Rattle.dw_find.specs.ViewLines.{starts_of}
+use Rattle.dw_read.specs.AllFields.{Fields, all_of, standing}
+use Rattle.dw_read.specs.FoundPaths.{PathsFound}
+use Rattle.dw_starts.specs.LineStarts.{starts_of}
 use Rattle.dw_rewrite.specs.Bodies.{FileBodiesMade, held_bodies, held_body, lines_numbers, moved_numbers, numbers_in}
 use Rattle.dw_rewrite.specs.Changes.{start_known}
 use Rattle.dw_rewrite.specs.LineOffsets.{OffsetsMake, StartsKnown, line_offsets, line_record}

@@ -23,14 +23,15 @@ use Rattle.dw_base.proofs.ViewCellLaws.{lines-located}
 use Rattle.dw_offsets.specs.declared.fields.OffsetField.{OffsetField}
 use Rattle.dw_base.specs.declared.texts.TextSection.{TextSection}
 use Rattle.dw_base.specs.declared.texts.TextSection.TheVariants.{InStr, InLineStr}
-use Rattle.dw_find.specs.Fields.{AreOffsetFields, IsOffsetField}
+use Rattle.dw_unit_fields.specs.Fields.{AreOffsetFields, IsOffsetField}
 use Rattle.dw_rewrite.specs.Changes.{AreNoted, FieldSource, Knows, Remembers, texts_at}
-use Rattle.dw_find.specs.ViewFields.{AllHaveOffsets, AllHavePlaces, HasOffsets, HasPlaces, fields_of, offsets_in, table_number}
+use Rattle.dw_unit_fields.specs.ViewFields.{AllHaveOffsets, AllHavePlaces, HasOffsets, HasPlaces, fields_of}
+use Rattle.dw_starts.specs.StringTables.{offsets_in, table_number}
 use Rattle.dw_rewrite.specs.NewTables.{section_texts_at, source_in, source_into, table_into, texts_of, all_texts_at, IsSectionNoted, AllNoted, Growing, GrownBy, GrownByAll, TableMade, table_with, fault_at, LongTable, TablesRefuse, long_table, one_is_long}
-use Rattle.dw_find.specs.SectionFields.{SectionFields}
+use Rattle.dw_unit_fields.specs.SectionFields.{SectionFields}
 use Rattle.dw_rewrite.proofs.ChangedLaws.{length-texts_at, remembers_on}
 use Rattle.dw_rewrite.proofs.NewOffsetLaws.{remembers_all}
-use Rattle.dw_find.proofs.PlaceValueLaws.{EachOf, each-get}
+use Rattle.dw_unit_fields.proofs.PlaceValueLaws.{EachOf, each-get}
 
 -- where fields hold offsets into a table of texts, and into the line tables, as the code has it
 pub same-source : (v : View) (t : TextSection) (section number : ℕ) (bytes : List ℕ) → number ≡ table_number (debug_data v) t → bytes ≡ (offsets_in v t).bytes

@@ -40,17 +40,17 @@ use Rattle.dw_meaning.proofs.FileKeptLaws.{IsApart, around_file, changes_file, d
 use Rattle.dw_meaning.proofs.TableKeptLaws.{FoundAt, drop-at}
 use Rattle.dw_patch.specs.RecordMoves.{moved_table}
 use Rattle.elf_layout.specs.declared.patch.Patch.{Patch}
-use Rattle.dw_find.specs.MacroSections.{macro_starts, macro_texts, macros_read, macros_with}
-use Rattle.dw_find.specs.NameSections.{names_read, names_texts}
-use Rattle.dw_find.specs.SlotPaths.{read_fields, slots_by, slots_read, slots_with}
-use Rattle.dw_find.specs.SectionFields.{SectionFields, paths_in, paths_of}
-use Rattle.dw_find.specs.ViewFields.{AllHaveOffsets, AllHavePlaces, HasOffsets, HasPlaces}
-use Rattle.dw_find.proofs.MacroHaveLaws.{AllCells}
-use Rattle.dw_find.proofs.MacroStartLaws.{all-cells}
-use Rattle.dw_find.proofs.NameHaveLaws.{names-of}
-use Rattle.dw_find.proofs.OffsetPlaceLaws.{offsets-of}
-use Rattle.dw_find.proofs.PlaceValueLaws.{EachOf}
-use Rattle.dw_find.proofs.SectionFactLaws.{own-section}
+use Rattle.dw_read.specs.MacroFields.{macro_starts, macro_texts, macros_read, macros_with}
+use Rattle.dw_read.specs.NameSections.{names_read, names_texts}
+use Rattle.dw_read.specs.SlotPaths.{read_fields, slots_by, slots_read, slots_with}
+use Rattle.dw_unit_fields.specs.SectionFields.{SectionFields, paths_in, paths_of}
+use Rattle.dw_unit_fields.specs.ViewFields.{AllHaveOffsets, AllHavePlaces, HasOffsets, HasPlaces}
+use Rattle.dw_starts.proofs.MacroNumberLaws.{AllCells}
+use Rattle.dw_starts.proofs.MacroStartLaws.{all-cells}
+use Rattle.dw_read.proofs.NameHaveLaws.{names-of}
+use Rattle.dw_read.proofs.OffsetPlaceLaws.{offsets-of}
+use Rattle.dw_unit_fields.proofs.PlaceValueLaws.{EachOf}
+use Rattle.dw_unit_fields.proofs.SectionFactLaws.{own-section}
 use Rattle.dw_rewrite.specs.Bodies.{held_bodies, held_body, numbers_in}
 use Rattle.dw_rewrite.specs.NewOffsets.{offsets_in, record_body, records_known}
 use Rattle.dw_rewrite.specs.NewTables.{Growing, IsSectionNoted}

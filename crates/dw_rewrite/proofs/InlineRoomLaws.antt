@@ -8,11 +8,11 @@ use Rattle.dw_base.specs.Paths.{PathMap}
 use Rattle.dw_base.specs.Refusals.{Blames}
 use Rattle.dw_base.specs.declared.fault.Fault.{Fault}
 use Rattle.dw_base.specs.declared.fault.Fault.TheVariants.{NoMemory, Refused}
-use Rattle.dw_find.specs.InlineRooms.{RoomFits, GrowsOne, grows, Grows, one}
-use Rattle.dw_find.specs.TextPlaces.{InlinesFit}
-use Rattle.dw_find.specs.SectionFields.{inline_text}
+use Rattle.dw_unit_fields.specs.InlineRooms.{RoomFits, GrowsOne, grows, Grows, one}
+use Rattle.dw_unit_fields.specs.TextPlaces.{InlinesFit}
+use Rattle.dw_unit_fields.specs.SectionFields.{inline_text}
 use Rattle.dw_rewrite.specs.UnitsAfter.{inlined, inlined_at}
-use Rattle.dw_find.specs.declared.fields.InlinePath.{InlinePath}
+use Rattle.dw_unit_fields.specs.declared.fields.InlinePath.{InlinePath}
 
 front : (paths : List InlinePath) (p : InlinePath) (i : ℕ) → i < length paths → p ≡ get_or paths i p → drop i paths ≡ p ∷ drop (i + 1) paths
 front paths p i lt is =

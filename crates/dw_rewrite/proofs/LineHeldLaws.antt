@@ -53,8 +53,8 @@ use Rattle.dw_lines.proofs.MoveLaws.{offsets-append}
 use Rattle.dw_lines.proofs.PathMoveLaws.{offsets-append as placed-append}
 use Rattle.dw_lines.proofs.ReadingLaws.{source-is}
 use Rattle.dw_lines.proofs.TableRunLaws.{clear-order, table-offsets}
-use Rattle.dw_find.specs.AllFields.{Fields, all_of}
-use Rattle.dw_find.specs.FoundPaths.{PathsFound}
+use Rattle.dw_read.specs.AllFields.{Fields, all_of}
+use Rattle.dw_read.specs.FoundPaths.{PathsFound}
 use Rattle.dw_lines.specs.declared.moves.NewFieldOffset.{NewFieldOffset}
 use Rattle.dw_rewrite.specs.Bodies.{held_bodies, held_body, lines_numbers}
 use Rattle.dw_rewrite.specs.LineOffsets.{OffsetMisses, OffsetsMake, held_lines, line_offsets, line_record, line_runs, said_fields}

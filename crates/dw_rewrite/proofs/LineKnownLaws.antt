@@ -21,10 +21,10 @@ use Rattle.dw_lines.specs.NewTexts.{text_known}
 use Rattle.dw_lines.specs.ViewTables.{tables_read}
 use Rattle.dw_rewrite.specs.Changes.{FieldSource, IsNoted, Knows, mention_as, offset_at}
 use Rattle.dw_rewrite.specs.NewLines.{AllCanWrite, lines_known}
-use Rattle.dw_find.specs.ViewLines.{is_text_of, table_fields, text_field, text_fields}
+use Rattle.dw_read.specs.ViewLines.{is_text_of, table_fields, text_field, text_fields}
 use Rattle.dw_rewrite.proofs.LineMentionLaws.{IsWhole, line_texts, text-offset}
-use Rattle.dw_find.proofs.LinePlaceLaws.{EachReads, TextReads, table-texts}
-use Rattle.dw_find.proofs.PlaceValueLaws.{EachOf}
+use Rattle.dw_read.proofs.LinePlaceLaws.{EachReads, TextReads, table-texts}
+use Rattle.dw_unit_fields.proofs.PlaceValueLaws.{EachOf}
 
 -- the new places of texts that stand elsewhere are the same
 abbrev pub EachAgree : LineSource → (LineText → Option ℕ) → (LineText → Option ℕ) → List LineText → Type 0

@@ -20,9 +20,9 @@ use Rattle.dw_lines.specs.ViewTables.{tables_read}
 use Rattle.dw_meaning.proofs.FieldPutLaws.{width-some}
 use Rattle.dw_meaning.proofs.LineColumnLaws.{texts_in}
 use Rattle.dw_rewrite.specs.Changes.{FieldSource, offset_at, field_mention, texts_at}
-use Rattle.dw_find.specs.ViewLines.{is_text_of, table_fields, text_field, text_fields}
-use Rattle.dw_find.proofs.LinePlaceLaws.{EachReads, TextReads, named_there, stands_there, table-texts}
-use Rattle.dw_find.proofs.LineTextLaws.{TextsApart, named-offset}
+use Rattle.dw_read.specs.ViewLines.{is_text_of, table_fields, text_field, text_fields}
+use Rattle.dw_read.proofs.LinePlaceLaws.{EachReads, TextReads, named_there, stands_there, table-texts}
+use Rattle.dw_read.proofs.LineTextLaws.{TextsApart, named-offset}
 
 -- where fields of line tables hold offsets into a table of texts
 abbrev pub line_texts : LineSource → TextSection → FieldSource

@@ -8,10 +8,10 @@ use Rattle.dw_base.specs.StringTables.{TextTable, table_bytes}
 use Rattle.dw_base.specs.Texts.{laid_texts}
 use Rattle.dw_base.specs.declared.fault.Fault.{Fault}
 use Rattle.dw_base.specs.declared.texts.TextSection.{TextSection}
-use Rattle.dw_find.specs.AllFields.{Fields, all_of}
-use Rattle.dw_find.specs.SectionFields.{SectionFields}
-use Rattle.dw_find.specs.ViewFields.{AllHaveOffsets}
-use Rattle.dw_find.proofs.PlaceValueLaws.{EachOf, each-append, each-get}
+use Rattle.dw_read.specs.AllFields.{Fields, all_of}
+use Rattle.dw_unit_fields.specs.SectionFields.{SectionFields}
+use Rattle.dw_unit_fields.specs.ViewFields.{AllHaveOffsets}
+use Rattle.dw_unit_fields.proofs.PlaceValueLaws.{EachOf, each-append, each-get}
 use Rattle.dw_rewrite.specs.Changes.{Knows, Remembers}
 use Rattle.dw_rewrite.specs.NewTables.{Growing, GrownByAll, IsSectionNoted, TableMade, all_texts_at, table_with, texts_of}
 use Rattle.dw_rewrite.proofs.ChangedLaws.{remembers_on}

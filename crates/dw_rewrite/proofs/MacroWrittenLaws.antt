@@ -24,13 +24,14 @@ use Rattle.dw_base.specs.declared.texts.TextSection.{TextSection}
 use Rattle.dw_base.specs.declared.texts.TextSection.TheVariants.{InStr, InLineStr}
 use Rattle.dw_meaning.specs.DataOutput.{Body, changes_of, macro_bodies, table_change}
 use Rattle.dw_meaning.proofs.MacroPieceLaws.{CellsOf}
-use Rattle.dw_find.specs.MacroSections.{macro_starts, macro_texts, macros_read, macros_with}
-use Rattle.dw_find.specs.SectionFields.{field_by, inline_by, start_by}
-use Rattle.dw_find.specs.declared.fields.InlinePath.{InlinePath}
-use Rattle.dw_find.specs.ViewFields.{fields_of}
-use Rattle.dw_find.proofs.MacroHaveLaws.{AllCells, line-texts}
-use Rattle.dw_find.proofs.MacroStartLaws.{all-cells}
-use Rattle.dw_find.proofs.PieceFieldLaws.{FieldsFrom, from-less, from-piece, from-start}
+use Rattle.dw_read.specs.MacroFields.{macro_starts, macro_texts, macros_read, macros_with}
+use Rattle.dw_unit_fields.specs.SectionFields.{field_by, inline_by, start_by}
+use Rattle.dw_unit_fields.specs.declared.fields.InlinePath.{InlinePath}
+use Rattle.dw_unit_fields.specs.ViewFields.{fields_of}
+use Rattle.dw_starts.proofs.MacroNumberLaws.{AllCells}
+use Rattle.dw_read.proofs.MacroHaveLaws.{line-texts}
+use Rattle.dw_starts.proofs.MacroStartLaws.{all-cells}
+use Rattle.dw_unit_fields.proofs.PieceFieldLaws.{FieldsFrom, from-less, from-piece, from-start}
 use Rattle.dw_rewrite.specs.Changes.{FieldSource, patched, texts_at, with_all_known}
 use Rattle.dw_rewrite.specs.UnitsAfter.{start_source, text_source}
 use Rattle.dw_rewrite.specs.NewTables.{all_texts_at, bodies_after, section_after, section_texts_at, source_in}

@@ -21,27 +21,29 @@ use Rattle.dw_lines.specs.NewTexts.{text_known}
 use Rattle.dw_lines.specs.ViewTables.{TablesFound}
 use Rattle.dw_meaning.specs.DataOutput.{Body, DataFits, EachWritable, cells_body, changes_of, lines_body, macro_bodies, macros_after, names_after, new_bodies, new_lines, offsets_after, table_change, unit_bodies}
 use Rattle.dw_meaning.specs.NewAddends.{AddendsFit}
-use Rattle.dw_find.specs.AllFields.{Fields, all_of, standing}
-use Rattle.dw_find.specs.FoundPaths.{PathsFound}
-use Rattle.dw_find.specs.MacroSections.{macros_read}
-use Rattle.dw_find.specs.NameSections.{names_read}
+use Rattle.dw_read.specs.AllFields.{Fields, all_of, standing}
+use Rattle.dw_read.specs.FoundPaths.{PathsFound}
+use Rattle.dw_read.specs.MacroFields.{macros_read}
+use Rattle.dw_read.specs.NameSections.{names_read}
 use Rattle.dw_rewrite.specs.Changes.{FieldSource, Knows, start_known}
 use Rattle.dw_rewrite.specs.NewStarts.{StartsFit}
-use Rattle.dw_find.specs.ViewFields.{AllHaveOffsets, AllHavePlaces, AllRoomsFit, fields_of, table_number}
+use Rattle.dw_unit_fields.specs.ViewFields.{AllHaveOffsets, AllHavePlaces, AllRoomsFit, fields_of}
+use Rattle.dw_starts.specs.StringTables.{table_number}
 use Rattle.dw_rewrite.specs.NewTables.{IsSectionNoted, TableMade, bodies_after, bodies_known, source_in, table_body_of, texts_of}
-use Rattle.dw_find.specs.SlotPaths.{slots_read}
+use Rattle.dw_read.specs.SlotPaths.{slots_read}
 use Rattle.dw_rewrite.specs.PushedBodies.{one_body, pushed_bodies}
-use Rattle.dw_find.specs.SectionFields.{SectionFields, paths_of}
+use Rattle.dw_unit_fields.specs.SectionFields.{SectionFields, paths_of}
 use Rattle.dw_rewrite.specs.NewLines.{AllCanWrite, LinesWritten, lines_known}
-use Rattle.dw_find.specs.ViewLines.{lines_by, lines_of_view, lines_with, starts_of, table_fields}
+use Rattle.dw_read.specs.ViewLines.{lines_by, lines_of_view, lines_with, table_fields}
+use Rattle.dw_starts.specs.LineStarts.{starts_of}
 use Rattle.dw_rewrite.proofs.LineKnownLaws.{EachCanWrite, NotedIn, TablesAgree, all-can, lines-same, tables-agree}
 use Rattle.dw_rewrite.proofs.ListGrowthLaws.{of-macros, of-names, of-slots, of-units}
 use Rattle.dw_rewrite.proofs.MacroWrittenLaws.{macros-bodies}
-use Rattle.dw_find.proofs.TableStartLaws.{read-starts}
+use Rattle.dw_starts.proofs.TableStartLaws.{read-starts}
 use Rattle.dw_rewrite.proofs.NameWrittenLaws.{names-body}
 use Rattle.dw_rewrite.proofs.NewBodyLaws.{known-bodies, made-noted, readings-bodies, slots-body, starts_after}
-use Rattle.dw_find.proofs.PlaceValueLaws.{EachOf}
-use Rattle.dw_find.proofs.StartLaws.{starts-rise}
+use Rattle.dw_unit_fields.proofs.PlaceValueLaws.{EachOf}
+use Rattle.dw_starts.proofs.StartSearchLaws.{starts-rise}
 use Rattle.dw_rewrite.proofs.TableTextLaws.{lines-none, lines-whole, made-table, same-lines, same-texts, table-bytes}
 use Rattle.dw_rewrite.proofs.LineMentionLaws.{line_texts}
 

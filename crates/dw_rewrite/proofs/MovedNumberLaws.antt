@@ -25,10 +25,10 @@ use Rattle.dw_meaning.specs.RelocatedBodies.{CellBody, cell_body, cells_of_numbe
 use Rattle.dw_meaning.proofs.CellBackLaws.{new-open, now_in, zero-now, zero-old}
 use Rattle.dw_meaning.proofs.CellKeptLaws.{cells-behind, cells-further}
 use Rattle.dw_meaning.proofs.FileKeptLaws.{CanMap, around_file, changes_file, read-section}
-use Rattle.dw_find.specs.MacroSections.{macros_read}
-use Rattle.dw_find.specs.NameSections.{names_read, names_texts}
-use Rattle.dw_find.specs.SlotPaths.{read_fields, slots_by, slots_read}
-use Rattle.dw_find.specs.SectionFields.{SectionFields, paths_of}
+use Rattle.dw_read.specs.MacroFields.{macros_read}
+use Rattle.dw_read.specs.NameSections.{names_read, names_texts}
+use Rattle.dw_read.specs.SlotPaths.{read_fields, slots_by, slots_read}
+use Rattle.dw_unit_fields.specs.SectionFields.{SectionFields, paths_of}
 use Rattle.dw_rewrite.specs.Bodies.{lines_numbers, moved_numbers, numbers_in}
 use Rattle.dw_rewrite.proofs.BodyLaws.{AllFull, file-macros, file-units, macro_numbers, named-full, unit_numbers}
 use Rattle.dw_rewrite.proofs.FileBodyLaws.{AreMoved}

@@ -17,7 +17,7 @@ use Rattle.dw_meaning.proofs.RecordMoveLaws.{RecordsApart}
 use Rattle.dw_patch.specs.RecordMoves.{moved_table}
 use Rattle.elf_layout.specs.declared.patch.Patch.{Patch}
 use Rattle.dw_patch.proofs.SaidCellLaws.{SaidAll}
-use Rattle.dw_find.specs.SectionFields.{SectionFields, fields_into}
+use Rattle.dw_unit_fields.specs.SectionFields.{SectionFields, fields_into}
 use Rattle.dw_rewrite.specs.Changes.{AreNoted, FieldSource, Knows, offset_at}
 use Rattle.dw_rewrite.specs.NewOffsets.{asked, offset_by, offsets_after, offsets_in, offsets_known}
 use Rattle.dw_rewrite.specs.NewTables.{Growing, IsSectionNoted, source_in, starts_in, texts_of}

@@ -21,12 +21,12 @@ use Rattle.dw_base.proofs.UnitHeaderLaws.{bytes_of-append}
 use Rattle.dw_base.proofs.ViewCellLaws.{bytes_of-view_cells}
 use Rattle.dw_offsets.specs.declared.fields.OffsetField.{OffsetField}
 use Rattle.dw_meaning.specs.DataOutput.{cells_body, changes_of, names_after, table_change}
-use Rattle.dw_find.specs.NameSections.{names_read, names_texts}
-use Rattle.dw_find.specs.SectionFields.{field_by, inline_by}
-use Rattle.dw_find.specs.SlotPaths.{slots_by, slots_with}
-use Rattle.dw_find.specs.ViewFields.{fields_of}
-use Rattle.dw_find.specs.declared.fields.InlinePath.{InlinePath}
-use Rattle.dw_find.proofs.NameHaveLaws.{NamesPlaced, line-names, names-from, names-in, names-of, no-start}
+use Rattle.dw_read.specs.NameSections.{names_read, names_texts}
+use Rattle.dw_unit_fields.specs.SectionFields.{field_by, inline_by}
+use Rattle.dw_read.specs.SlotPaths.{slots_by, slots_with}
+use Rattle.dw_unit_fields.specs.ViewFields.{fields_of}
+use Rattle.dw_unit_fields.specs.declared.fields.InlinePath.{InlinePath}
+use Rattle.dw_read.proofs.NameHaveLaws.{NamesPlaced, line-names, names-from, names-in, names-of, no-start}
 use Rattle.dw_rewrite.specs.Changes.{FieldSource, patched, texts_at}
 use Rattle.dw_rewrite.specs.NewTables.{all_texts_at, bodies_after, section_after, source_in}
 use Rattle.dw_rewrite.specs.PushedBodies.{one_body}

@@ -23,21 +23,21 @@ use Rattle.dw_offsets.specs.declared.fields.OffsetField.{OffsetField}
 use Rattle.dw_base.specs.declared.texts.TextSection.{TextSection}
 use Rattle.dw_base.specs.declared.texts.TextSection.TheVariants.{InStr, InLineStr}
 use Rattle.dw_rewrite.specs.PushedBodies.{one_body}
-use Rattle.dw_find.specs.SlotPaths.{offset_fields, read_fields, slots_by, slots_read, slots_with}
-use Rattle.dw_find.proofs.SlotPlaceLaws.{line-fields}
+use Rattle.dw_read.specs.SlotPaths.{offset_fields, read_fields, slots_by, slots_read, slots_with}
+use Rattle.dw_read.proofs.SlotPlaceLaws.{line-fields}
 use Rattle.dw_rewrite.proofs.SlotWrittenLaws.{no-offsets, slots_written, texts_by_slots}
 use Rattle.dw_rewrite.specs.Changes.{FieldSource, patched, texts_at, with_all_known}
-use Rattle.dw_find.specs.ViewFields.{fields_of, info_of}
+use Rattle.dw_unit_fields.specs.ViewFields.{fields_of, info_of}
 use Rattle.dw_rewrite.specs.NewTables.{section_texts_at, all_texts_at, IsSectionNoted, Growing, TableMade, section_after, body_after, bodies_after, section_known, bodies_known, source_in, starts_in}
-use Rattle.dw_find.specs.SectionFields.{SectionFields, piece_fields, inline_paths, paths_in, paths_of, start_fields, fields_into}
+use Rattle.dw_unit_fields.specs.SectionFields.{SectionFields, piece_fields, inline_paths, paths_in, paths_of, start_fields, fields_into}
 use Rattle.dw_rewrite.specs.UnitsAfter.{inlined, text_source}
 use Rattle.dw_rewrite.proofs.ChangedLaws.{put_is_patched}
 use Rattle.dw_rewrite.proofs.EditedLaws.{texts_by_fields}
-use Rattle.dw_find.proofs.PlaceValueLaws.{EachOf}
-use Rattle.dw_find.proofs.PlacedLaws.{PlacedCells, placed-cells}
-use Rattle.dw_find.proofs.SectionFactLaws.{own-section}
+use Rattle.dw_unit_fields.proofs.PlaceValueLaws.{EachOf}
+use Rattle.dw_unit_fields.proofs.PlacedLaws.{PlacedCells, placed-cells}
+use Rattle.dw_unit_fields.proofs.SectionFactLaws.{own-section}
 use Rattle.dw_rewrite.proofs.UnitWrittenLaws.{pieces_written, starts_by}
-use Rattle.dw_find.proofs.OffsetPlaceLaws.{offsets-in, offsets-of}
+use Rattle.dw_read.proofs.OffsetPlaceLaws.{offsets-in, offsets-of}
 
 -- the cells of a section that was read
 reading-cells : (v : View) (before behind : List UnitSection) (z : UnitSection) (r : Reading) → (debug_data v).found Info ≡ before ++ z ∷ behind → r.number ≡ z.number

@@ -2,7 +2,7 @@
 use Rattle.std.proofs.Common.{Bool, true, false, ◌≡◌, ℕ, ◌+◌, ◌<◌, ◌≤◌, ◌==◌, List, [], ◌∷◌, length, get_or, cond, Option, Some, None, sym, ap, ◌∙◌, arith}
 use Rattle.dw_base.specs.DebugData.{start_number}
 use Rattle.dw_rewrite.specs.Changes.{new_start}
-use Rattle.dw_find.specs.LineStarts.{Rises}
+use Rattle.dw_starts.specs.LineStarts.{Rises}
 use Rattle.dw_rewrite.specs.NewStarts.{StartChange, StartsFit, known_starts}
 
 -- a number that was found is one of the starts

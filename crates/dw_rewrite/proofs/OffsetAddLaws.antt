@@ -15,9 +15,9 @@ use Rattle.dw_base.specs.declared.texts.TextSection.TheVariants.{InStr, InLineSt
 use Rattle.dw_meaning.specs.NewAddends.{Makes, Misses}
 use Rattle.dw_patch.specs.RecordMoves.{patch_for}
 use Rattle.elf_layout.specs.declared.patch.Patch.{Patch}
-use Rattle.dw_find.specs.Fields.{AllApart, AreApart, IsApartFrom}
-use Rattle.dw_find.specs.SectionFields.{SectionFields, fields_into}
-use Rattle.dw_find.specs.ViewFields.{HasOffsets, HasPlaces}
+use Rattle.dw_unit_fields.specs.Fields.{AllApart, AreApart, IsApartFrom}
+use Rattle.dw_unit_fields.specs.SectionFields.{SectionFields, fields_into}
+use Rattle.dw_unit_fields.specs.ViewFields.{HasOffsets, HasPlaces}
 use Rattle.dw_rewrite.specs.Changes.{FieldSource, IsFieldOf, offset_at}
 use Rattle.dw_rewrite.specs.NewOffsets.{AreAbsent, BeginsAlone, NoneTogether, offset_by, offsets_in, offsets_known}
 use Rattle.dw_rewrite.specs.NewTables.{source_in, starts_in}

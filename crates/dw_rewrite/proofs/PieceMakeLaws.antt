@@ -25,13 +25,13 @@ use Rattle.dw_offsets.specs.declared.fields.OffsetField.{OffsetField}
 use Rattle.dw_base.specs.declared.texts.TextSection.{TextSection}
 use Rattle.dw_base.specs.declared.texts.TextSection.TheVariants.{InStr, InLineStr}
 use Rattle.dw_meaning.specs.NewAddends.{Makes, MakesNew, MakesRole, Misses, PieceMisses, new_offset, start_place}
-use Rattle.dw_find.specs.MacroSections.{macro_starts, macro_texts}
-use Rattle.dw_find.specs.NameSections.{names_texts}
-use Rattle.dw_find.specs.SlotPaths.{offset_fields}
-use Rattle.dw_find.specs.SectionFields.{field_by, piece_fields, start_by, start_fields}
-use Rattle.dw_find.proofs.NameHaveLaws.{NamesPlaced, no-start as no-name-start}
-use Rattle.dw_find.proofs.PlacedLaws.{PlacedCells}
-use Rattle.dw_find.proofs.SlotPlaceLaws.{SlotsIn, no-start}
+use Rattle.dw_read.specs.MacroFields.{macro_starts, macro_texts}
+use Rattle.dw_read.specs.NameSections.{names_texts}
+use Rattle.dw_read.specs.SlotPaths.{offset_fields}
+use Rattle.dw_unit_fields.specs.SectionFields.{field_by, piece_fields, start_by, start_fields}
+use Rattle.dw_read.proofs.NameHaveLaws.{NamesPlaced, no-start as no-name-start}
+use Rattle.dw_unit_fields.proofs.PlacedLaws.{PlacedCells}
+use Rattle.dw_read.proofs.SlotPlaceLaws.{SlotsIn, no-start}
 use Rattle.dw_rewrite.specs.Changes.{FieldSource, new_start, offset_at, start_known}
 use Rattle.dw_rewrite.specs.NewOffsets.{asked}
 use Rattle.dw_rewrite.specs.OffsetAddends.{FieldMakes, FieldMisses, FieldsMake, FieldsMiss}

@@ -22,14 +22,14 @@ use Rattle.dw_rewrite.proofs.MacroWrittenLaws.{from-macro_texts, from-macros}
 use Rattle.dw_rewrite.proofs.SaidLaws.{FromHere, SaidStep, Sized, said-step}
 use Rattle.dw_rewrite.proofs.SlotWrittenLaws.{slots-bytes}
 use Rattle.dw_rewrite.proofs.UnitWrittenLaws.{placed-bytes}
-use Rattle.dw_find.specs.MacroSections.{macro_starts, macro_texts}
-use Rattle.dw_find.specs.NameSections.{names_texts}
-use Rattle.dw_find.specs.SlotPaths.{offset_fields}
-use Rattle.dw_find.specs.SectionFields.{field_by, piece_fields, start_by, start_fields}
-use Rattle.dw_find.proofs.NameHaveLaws.{NamesPlaced, names-from, no-start as no-name-start}
-use Rattle.dw_find.proofs.PieceFieldLaws.{from-place, from-starts}
-use Rattle.dw_find.proofs.PlacedLaws.{PlacedCells}
-use Rattle.dw_find.proofs.SlotPlaceLaws.{SlotsIn, from-place as slots-from, no-start}
+use Rattle.dw_read.specs.MacroFields.{macro_starts, macro_texts}
+use Rattle.dw_read.specs.NameSections.{names_texts}
+use Rattle.dw_read.specs.SlotPaths.{offset_fields}
+use Rattle.dw_unit_fields.specs.SectionFields.{field_by, piece_fields, start_by, start_fields}
+use Rattle.dw_read.proofs.NameHaveLaws.{NamesPlaced, names-from, no-start as no-name-start}
+use Rattle.dw_unit_fields.proofs.PieceFieldLaws.{from-place, from-starts}
+use Rattle.dw_unit_fields.proofs.PlacedLaws.{PlacedCells}
+use Rattle.dw_read.proofs.SlotPlaceLaws.{SlotsIn, from-place as slots-from, no-start}
 
 -- parts of fields that have bytes have them
 sized-parts : (fs gs : List OffsetField) → Sized (fs ++ gs) → Sized fs × Sized gs

@@ -5,8 +5,8 @@ use Rattle.dw_base.specs.FileViews.{View}
 use Rattle.dw_base.specs.Paths.{PathMap}
 use Rattle.dw_rewrite.specs.NewTables.{bodies_known}
 use Rattle.dw_rewrite.specs.PushedBodies.{one_body, pushed_bodies}
-use Rattle.dw_find.specs.AllFields.{Fields}
-use Rattle.dw_find.specs.SectionFields.{SectionFields}
+use Rattle.dw_read.specs.AllFields.{Fields}
+use Rattle.dw_unit_fields.specs.SectionFields.{SectionFields}
 
 -- one section, or none
 pub one-none : (m : PathMap) (v : View) (ks kl kt : Bool → ℕ → Option ℕ) (us : List SectionFields) (old new : List Body) (x : Body) → length us ≡ 0 → x ≡ record { number = 0; bytes = [] }

@@ -27,15 +27,15 @@ use Rattle.dw_meaning.specs.NewAddends.{AddendsFail, MakesRole}
 use Rattle.dw_meaning.specs.RelocatedBodies.{new_cells}
 use Rattle.dw_meaning.proofs.NewCellLaws.{contents-small}
 use Rattle.dw_patch.specs.RecordMoves.{PlacesFit}
-use Rattle.dw_find.specs.AllFields.{Fields, all_of, standing}
-use Rattle.dw_find.specs.FoundPaths.{PathsFound}
-use Rattle.dw_find.specs.MacroSections.{macros_read}
-use Rattle.dw_find.specs.NameSections.{names_read}
-use Rattle.dw_find.specs.SlotPaths.{slots_read}
-use Rattle.dw_find.specs.SectionFields.{SectionFields, paths_of}
-use Rattle.dw_find.specs.ViewFields.{AllHaveOffsets, AllHavePlaces}
-use Rattle.dw_find.specs.ViewLines.{lines_of_view}
-use Rattle.dw_find.proofs.PlaceValueLaws.{EachOf, each-append}
+use Rattle.dw_read.specs.AllFields.{Fields, all_of, standing}
+use Rattle.dw_read.specs.FoundPaths.{PathsFound}
+use Rattle.dw_read.specs.MacroFields.{macros_read}
+use Rattle.dw_read.specs.NameSections.{names_read}
+use Rattle.dw_read.specs.SlotPaths.{slots_read}
+use Rattle.dw_unit_fields.specs.SectionFields.{SectionFields, paths_of}
+use Rattle.dw_unit_fields.specs.ViewFields.{AllHaveOffsets, AllHavePlaces}
+use Rattle.dw_read.specs.ViewLines.{lines_of_view}
+use Rattle.dw_unit_fields.proofs.PlaceValueLaws.{EachOf, each-append}
 use Rattle.dw_rewrite.specs.Bodies.{held_bodies, numbers_in}
 use Rattle.dw_rewrite.specs.NewOffsets.{AllPlacesFit, records_known}
 use Rattle.dw_rewrite.specs.NewTables.{IsSectionNoted, TableMade}

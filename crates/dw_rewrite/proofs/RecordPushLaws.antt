@@ -18,8 +18,8 @@ use Rattle.dw_base.proofs.ViewCellLaws.{view_cells-view_of}
 use Rattle.dw_base.specs.declared.debug_sections.DebugSection.TheVariants.{Str, LineStr, Line}
 use Rattle.dw_offsets.specs.declared.fields.OffsetField.{OffsetField}
 use Rattle.dw_base.specs.declared.texts.TextSection.TheVariants.{InStr, InLineStr}
-use Rattle.dw_find.specs.SectionFields.{SectionFields, fields_into}
-use Rattle.dw_find.specs.ViewFields.{HasPlaces}
+use Rattle.dw_unit_fields.specs.SectionFields.{SectionFields, fields_into}
+use Rattle.dw_unit_fields.specs.ViewFields.{HasPlaces}
 use Rattle.dw_meaning.specs.DataOutput.{Body}
 use Rattle.dw_meaning.specs.NewAddends.{Makes}
 use Rattle.dw_patch.specs.RecordMoves.{PlacesFit, moved_table}

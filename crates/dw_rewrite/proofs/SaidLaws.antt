@@ -23,8 +23,8 @@ use Rattle.dw_rewrite.specs.Changes.{FieldSource, new_start, offset_at, start_kn
 use Rattle.dw_rewrite.specs.NewOffsets.{asked, offset_by, offsets_after, offsets_known}
 use Rattle.dw_rewrite.specs.UnitsAfter.{start_source, text_source}
 use Rattle.dw_rewrite.proofs.EditedLaws.{piece-there}
-use Rattle.dw_find.specs.SectionFields.{field_by, start_by}
-use Rattle.dw_find.proofs.PieceFieldLaws.{FieldsFrom}
+use Rattle.dw_unit_fields.specs.SectionFields.{field_by, start_by}
+use Rattle.dw_unit_fields.proofs.PieceFieldLaws.{FieldsFrom}
 
 -- a list in front in which no field begins at a place, and one in which one does
 pub patch-skip : (xs ys : List Patch) (q : ℕ) → patch_for xs q ≡ None → patch_for (xs ++ ys) q ≡ patch_for ys q

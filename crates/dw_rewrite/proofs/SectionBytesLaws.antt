@@ -15,15 +15,15 @@ use Rattle.dw_base.specs.declared.shared.Order.{Order}
 use Rattle.dw_patch.specs.Patching.{PatchList, no_patches}
 use Rattle.elf_layout.specs.Patched.{with_patches}
 use Rattle.elf_layout.specs.declared.patch.Patch.{Patch}
-use Rattle.dw_find.specs.Fields.{AllApart, AreOffsetFields, IsStartField}
+use Rattle.dw_unit_fields.specs.Fields.{AllApart, AreOffsetFields, IsStartField}
 use Rattle.dw_rewrite.specs.Changes.{AreFieldsOf, AreFree, AreSet, FieldSource}
-use Rattle.dw_find.specs.InlineRooms.{grows, Grows, one}
-use Rattle.dw_find.specs.ViewFields.{AllRoomsFit, HasOffsets, HasPlaces, info_of}
+use Rattle.dw_unit_fields.specs.InlineRooms.{grows, Grows, one}
+use Rattle.dw_unit_fields.specs.ViewFields.{AllRoomsFit, HasOffsets, HasPlaces, info_of}
 use Rattle.dw_rewrite.specs.NewTables.{bodies_known, body_known, fields_known, section_known, source_in, source_into, starts_in}
-use Rattle.dw_find.specs.TextPlaces.{InlinesFit}
-use Rattle.dw_find.specs.SectionFields.{SectionFields, inline_text, fields_into}
+use Rattle.dw_unit_fields.specs.TextPlaces.{InlinesFit}
+use Rattle.dw_unit_fields.specs.SectionFields.{SectionFields, inline_text, fields_into}
 use Rattle.dw_rewrite.specs.UnitsAfter.{inlined}
-use Rattle.dw_find.specs.declared.fields.InlinePath.{InlinePath}
+use Rattle.dw_unit_fields.specs.declared.fields.InlinePath.{InlinePath}
 use Rattle.dw_base.proofs.FileViewLaws.{length-view_of, section_bytes-view_of}
 use Rattle.dw_base.proofs.ViewCellLaws.{length-view_cells}
 use Rattle.dw_base.specs.declared.debug_sections.DebugSection.{DebugSection}
@@ -31,8 +31,8 @@ use Rattle.dw_base.specs.declared.debug_sections.DebugSection.TheVariants.{Str, 
 use Rattle.dw_offsets.specs.declared.fields.OffsetField.{OffsetField}
 use Rattle.dw_base.specs.declared.texts.TextSection.TheVariants.{InStr, InLineStr}
 use Rattle.dw_rewrite.proofs.FieldSetLaws.{all-put, apart-behind, apart-front, apart-skip, free-behind, free-first}
-use Rattle.dw_find.proofs.PlaceValueLaws.{EachOf, each-get}
-use Rattle.dw_find.proofs.SectionFactLaws.{FitsIn}
+use Rattle.dw_unit_fields.proofs.PlaceValueLaws.{EachOf, each-get}
+use Rattle.dw_unit_fields.proofs.SectionFactLaws.{FitsIn}
 
 -- fields of line tables are fields of the cells
 pub start-fields : (v : View) (u : SectionFields) → HasPlaces v u → AreFieldsOf (starts_in v u.number) (fields_into u Line)

@@ -31,19 +31,20 @@ use Rattle.dw_meaning.specs.DataOutput.{changes_of, table_change}
 use Rattle.dw_meaning.specs.NewAddends.{AddendsFail, MakesRole}
 use Rattle.dw_meaning.specs.NewAddends.AddendsFail.{in_unit, in_slots, in_macros, in_names}
 use Rattle.dw_meaning.proofs.MacroPieceLaws.{CellsOf}
-use Rattle.dw_find.specs.MacroSections.{macro_starts, macro_texts, macros_read, macros_with}
-use Rattle.dw_find.specs.SlotPaths.{offset_fields, read_fields, slots_by, slots_read, slots_with}
-use Rattle.dw_find.specs.SectionFields.{SectionFields, paths_in, paths_of, fields_into}
-use Rattle.dw_find.specs.ViewFields.{AllHaveOffsets, AllHavePlaces, HasOffsets, HasPlaces}
-use Rattle.dw_find.specs.NameSections.{names_read, names_texts}
-use Rattle.dw_find.proofs.MacroHaveLaws.{AllCells, line-texts}
-use Rattle.dw_find.proofs.NameHaveLaws.{line-names, names-in, names-of}
-use Rattle.dw_find.proofs.MacroStartLaws.{all-cells}
-use Rattle.dw_find.proofs.OffsetPlaceLaws.{offsets-in, offsets-of}
-use Rattle.dw_find.proofs.PlaceValueLaws.{EachOf}
-use Rattle.dw_find.proofs.PlacedLaws.{PlacedCells, placed-cells}
-use Rattle.dw_find.proofs.SectionFactLaws.{own-section}
-use Rattle.dw_find.proofs.SlotPlaceLaws.{line-fields}
+use Rattle.dw_read.specs.MacroFields.{macro_starts, macro_texts, macros_read, macros_with}
+use Rattle.dw_read.specs.SlotPaths.{offset_fields, read_fields, slots_by, slots_read, slots_with}
+use Rattle.dw_unit_fields.specs.SectionFields.{SectionFields, paths_in, paths_of, fields_into}
+use Rattle.dw_unit_fields.specs.ViewFields.{AllHaveOffsets, AllHavePlaces, HasOffsets, HasPlaces}
+use Rattle.dw_read.specs.NameSections.{names_read, names_texts}
+use Rattle.dw_starts.proofs.MacroNumberLaws.{AllCells}
+use Rattle.dw_read.proofs.MacroHaveLaws.{line-texts}
+use Rattle.dw_read.proofs.NameHaveLaws.{line-names, names-in, names-of}
+use Rattle.dw_starts.proofs.MacroStartLaws.{all-cells}
+use Rattle.dw_read.proofs.OffsetPlaceLaws.{offsets-in, offsets-of}
+use Rattle.dw_unit_fields.proofs.PlaceValueLaws.{EachOf}
+use Rattle.dw_unit_fields.proofs.PlacedLaws.{PlacedCells, placed-cells}
+use Rattle.dw_unit_fields.proofs.SectionFactLaws.{own-section}
+use Rattle.dw_read.proofs.SlotPlaceLaws.{line-fields}
 use Rattle.dw_rewrite.specs.Changes.{AreNoted, FieldSource, Knows, offset_at}
 use Rattle.dw_rewrite.specs.NewOffsets.{asked}
 use Rattle.dw_rewrite.specs.NewTables.{Growing, IsSectionNoted, source_in, starts_in}

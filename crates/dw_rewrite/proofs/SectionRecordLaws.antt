@@ -27,16 +27,16 @@ use Rattle.dw_meaning.proofs.RecordMoveLaws.{RecordsApart}
 use Rattle.dw_patch.specs.RecordMoves.{moved_table}
 use Rattle.elf_layout.specs.declared.patch.Patch.{Patch}
 use Rattle.dw_patch.proofs.SaidCellLaws.{SaidAll}
-use Rattle.dw_find.specs.MacroSections.{macro_starts, macro_texts, macros_with}
-use Rattle.dw_find.specs.NameSections.{names_texts}
-use Rattle.dw_find.proofs.MacroHaveLaws.{line-texts}
-use Rattle.dw_find.proofs.NameHaveLaws.{line-names, names-in}
-use Rattle.dw_find.specs.SlotPaths.{offset_fields, read_fields, slots_with}
-use Rattle.dw_find.specs.SectionFields.{SectionFields, piece_fields, paths_in, start_fields}
-use Rattle.dw_find.specs.ViewFields.{HasOffsets, HasPlaces}
-use Rattle.dw_find.proofs.OffsetPlaceLaws.{offsets-in}
-use Rattle.dw_find.proofs.PlacedLaws.{placed-cells}
-use Rattle.dw_find.proofs.SlotPlaceLaws.{line-fields}
+use Rattle.dw_read.specs.MacroFields.{macro_starts, macro_texts, macros_with}
+use Rattle.dw_read.specs.NameSections.{names_texts}
+use Rattle.dw_read.proofs.MacroHaveLaws.{line-texts}
+use Rattle.dw_read.proofs.NameHaveLaws.{line-names, names-in}
+use Rattle.dw_read.specs.SlotPaths.{offset_fields, read_fields, slots_with}
+use Rattle.dw_unit_fields.specs.SectionFields.{SectionFields, piece_fields, paths_in, start_fields}
+use Rattle.dw_unit_fields.specs.ViewFields.{HasOffsets, HasPlaces}
+use Rattle.dw_read.proofs.OffsetPlaceLaws.{offsets-in}
+use Rattle.dw_unit_fields.proofs.PlacedLaws.{placed-cells}
+use Rattle.dw_read.proofs.SlotPlaceLaws.{line-fields}
 use Rattle.dw_rewrite.specs.NewOffsets.{offsets_after, offsets_in}
 use Rattle.dw_rewrite.proofs.MovedRecordLaws.{asked_in, moved-records, section-after}
 use Rattle.dw_rewrite.proofs.NewBodyLaws.{starts_after}

@@ -17,13 +17,13 @@ use Rattle.dw_offsets.specs.declared.fields.OffsetField.{OffsetField}
 use Rattle.dw_base.specs.declared.texts.TextSection.{TextSection}
 use Rattle.dw_base.specs.declared.texts.TextSection.TheVariants.{InStr, InLineStr}
 use Rattle.dw_rewrite.specs.Changes.{texts_at}
-use Rattle.dw_find.specs.SlotPaths.{offset_fields}
-use Rattle.dw_find.specs.SectionFields.{field_by, inline_by}
+use Rattle.dw_read.specs.SlotPaths.{offset_fields}
+use Rattle.dw_unit_fields.specs.SectionFields.{field_by, inline_by}
 use Rattle.dw_rewrite.specs.UnitsAfter.{text_source}
-use Rattle.dw_find.specs.declared.fields.InlinePath.{InlinePath}
+use Rattle.dw_unit_fields.specs.declared.fields.InlinePath.{InlinePath}
 use Rattle.dw_rewrite.proofs.EditedLaws.{bytes-there, piece_texts}
 use Rattle.dw_rewrite.proofs.UnitWrittenLaws.{length-edited, piece_written, unit_by}
-use Rattle.dw_find.proofs.SlotPlaceLaws.{SlotsIn, SlotsPlaced, from-place, no-start}
+use Rattle.dw_read.proofs.SlotPlaceLaws.{SlotsIn, SlotsPlaced, from-place, no-start}
 
 -- a section of no cells has no pieces
 pub no-offsets : (order : Order) (xs : List (Piece OffsetState)) → ReadsOffsets order [] xs → xs ≡ []

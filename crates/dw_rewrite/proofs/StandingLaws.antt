@@ -8,9 +8,9 @@ use Rattle.dw_base.specs.declared.fault.Fault.{Fault}
 use Rattle.dw_base.specs.declared.fault.Fault.TheVariants.{NoMemory, Refused}
 use Rattle.dw_base.specs.declared.fault.Refusal.{Refusal}
 use Rattle.dw_meaning.specs.DataOutput.{Body}
-use Rattle.dw_find.specs.AllFields.{Fields, standing}
-use Rattle.dw_find.specs.SectionFields.{SectionFields}
-use Rattle.dw_find.specs.ViewFields.{AllHaveOffsets, AllHavePlaces, AllRoomsFit}
+use Rattle.dw_read.specs.AllFields.{Fields, standing}
+use Rattle.dw_unit_fields.specs.SectionFields.{SectionFields}
+use Rattle.dw_unit_fields.specs.ViewFields.{AllHaveOffsets, AllHavePlaces, AllRoomsFit}
 use Rattle.dw_rewrite.specs.NewOffsets.{records_known}
 use Rattle.dw_rewrite.specs.OffsetAddends.{AllMake, AllMiss, one_section}
 use Rattle.dw_rewrite.proofs.HeldRecordLaws.{records-append}

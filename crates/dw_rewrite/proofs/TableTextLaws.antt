@@ -25,21 +25,21 @@ use Rattle.dw_lines.specs.ViewTables.{tables_read}
 use Rattle.dw_lines.proofs.ViewTableLaws.{source-none}
 use Rattle.dw_meaning.specs.DataOutput.{table_change}
 use Rattle.dw_meaning.proofs.LineSectionLaws.{no-tables}
-use Rattle.dw_find.specs.AllFields.{Fields, all_of, fields_read}
-use Rattle.dw_find.specs.FoundPaths.{PathsFound}
-use Rattle.dw_find.specs.MacroSections.{macros_read}
-use Rattle.dw_find.specs.NameSections.{names_read}
+use Rattle.dw_read.specs.AllFields.{Fields, all_of, fields_read}
+use Rattle.dw_read.specs.FoundPaths.{PathsFound}
+use Rattle.dw_read.specs.MacroFields.{macros_read}
+use Rattle.dw_read.specs.NameSections.{names_read}
 use Rattle.dw_rewrite.specs.Changes.{FieldSource, texts_at}
-use Rattle.dw_find.specs.ViewFields.{fields_of}
+use Rattle.dw_unit_fields.specs.ViewFields.{fields_of}
 use Rattle.dw_rewrite.specs.NewTables.{TableMade, all_texts_at, source_in, texts_of}
-use Rattle.dw_find.specs.SlotPaths.{slots_read}
-use Rattle.dw_find.specs.SectionFields.{SectionFields, paths_of}
-use Rattle.dw_find.specs.ViewLines.{lines_by, lines_of_view, lines_with, table_fields}
+use Rattle.dw_read.specs.SlotPaths.{slots_read}
+use Rattle.dw_unit_fields.specs.SectionFields.{SectionFields, paths_of}
+use Rattle.dw_read.specs.ViewLines.{lines_by, lines_of_view, lines_with, table_fields}
 use Rattle.dw_rewrite.proofs.LineMentionLaws.{IsWhole, line_texts, lines-texts}
 use Rattle.dw_rewrite.proofs.MacroWrittenLaws.{macros-told}
 use Rattle.dw_rewrite.proofs.NewBodyLaws.{all_texts-append, readings-texts, slots-texts}
 use Rattle.dw_rewrite.proofs.NameWrittenLaws.{names-told}
-use Rattle.dw_find.proofs.FoundUnitLaws.{cells-some, view-apart}
+use Rattle.dw_read.proofs.FoundUnitLaws.{cells-some, view-apart}
 
 pub lines-none : (v : View) (rs : List LineReading) → None ≡ section_named v (name_of Line) → AreTables (line_source (debug_data v)) rs → rs ≡ []
 lines-none v rs e are = no-tables (line_source (debug_data v)) rs (source-none v e) are

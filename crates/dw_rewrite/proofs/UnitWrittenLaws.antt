@@ -19,13 +19,13 @@ use Rattle.dw_base.specs.declared.debug_sections.DebugSection.TheVariants.{Str, 
 use Rattle.dw_offsets.specs.declared.fields.OffsetField.{OffsetField}
 use Rattle.dw_base.specs.declared.texts.TextSection.TheVariants.{InStr, InLineStr}
 use Rattle.dw_rewrite.specs.Changes.{offset_at, patched, patched_at, start_known, with_all_known, with_known}
-use Rattle.dw_find.specs.SectionFields.{field_by, piece_fields, inline_by, inline_paths, start_by, start_fields}
+use Rattle.dw_unit_fields.specs.SectionFields.{field_by, piece_fields, inline_by, inline_paths, start_by, start_fields}
 use Rattle.dw_rewrite.specs.UnitsAfter.{inlined, inlined_at, start_source, text_source}
-use Rattle.dw_find.specs.declared.fields.InlinePath.{InlinePath}
-use Rattle.dw_find.proofs.PlacedLaws.{Placed, PlacedCells}
+use Rattle.dw_unit_fields.specs.declared.fields.InlinePath.{InlinePath}
+use Rattle.dw_unit_fields.proofs.PlacedLaws.{Placed, PlacedCells}
 use Rattle.dw_rewrite.proofs.EditedLaws.{bytes-there, patched_turns, inlined_turns, start_turns, Behind, known-behind, patched-behind, swap}
-use Rattle.dw_find.proofs.PieceFieldLaws.{FieldsFrom, from-place, from-starts}
-use Rattle.dw_find.proofs.InlineTextLaws.{text-front, text-length}
+use Rattle.dw_unit_fields.proofs.PieceFieldLaws.{FieldsFrom, from-place, from-starts}
+use Rattle.dw_unit_fields.proofs.InlineTextLaws.{text-front, text-length}
 
 -- an edited piece is as long
 pub length-edited : (r : Role) (changes : TableChanges) (around : Around) (p : List Cell) → length (edited_by r changes around p) ≡ length p

@@ -21,10 +21,10 @@ use Rattle.dw_meaning.specs.FileMeanings.{file_data}
 use Rattle.dw_meaning.specs.NewAddends.{AddendsFail}
 use Rattle.dw_meaning.specs.RelocatedBodies.{CellBody, new_cells, relocated_body}
 use Rattle.dw_meaning.specs.RelocationFails.{RelocationsRead}
-use Rattle.dw_find.specs.MacroSections.{macros_read}
-use Rattle.dw_find.specs.NameSections.{names_read}
-use Rattle.dw_find.specs.SlotPaths.{slots_read}
-use Rattle.dw_find.specs.SectionFields.{SectionFields, paths_of}
+use Rattle.dw_read.specs.MacroFields.{macros_read}
+use Rattle.dw_read.specs.NameSections.{names_read}
+use Rattle.dw_read.specs.SlotPaths.{slots_read}
+use Rattle.dw_unit_fields.specs.SectionFields.{SectionFields, paths_of}
 
 -- the section that holds relocations of another, if there is one, as it is where these are the new contents
 abbrev pub held_body : List ℕ → List CellBody → Option ℕ → List Body

@@ -19,7 +19,7 @@ use Rattle.elf_layout.specs.declared.patch.Patch.{Patch}
 use Rattle.dw_rewrite.specs.Changes.{FieldSource, mention_as, offset_at, start_known}
 use Rattle.dw_rewrite.specs.NewTables.{source_in, starts_in}
 use Rattle.dw_rewrite.specs.UnitsAfter.{start_source, text_source}
-use Rattle.dw_find.specs.SectionFields.{SectionFields, fields_into}
+use Rattle.dw_unit_fields.specs.SectionFields.{SectionFields, fields_into}
 
 -- the offset that a field is to say, where a new one is known
 abbrev pub offset_by : OffsetField → Option ℕ → List Patch

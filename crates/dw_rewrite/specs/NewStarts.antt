@@ -1,7 +1,7 @@
 -- Where line tables start anew, by where they started (DWARF 5, 3.1.1).
 use Rattle.std.specs.Prelude.{Bool, ◌≡◌, ℕ, ◌^◌, ◌<◌, List, length, get_or, Option}
 use Rattle.dw_rewrite.specs.Changes.{start_known}
-use Rattle.dw_find.specs.LineStarts.{Rises}
+use Rattle.dw_starts.specs.LineStarts.{Rises}
 
 -- where line tables started, and where they start anew, by their numbers
 pub record StartChange : Type 0 where

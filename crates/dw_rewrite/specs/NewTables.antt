@@ -18,9 +18,10 @@ use Rattle.dw_base.specs.declared.fault.Refusal.{Refusal}
 use Rattle.dw_base.specs.declared.texts.TextSection.{TextSection}
 use Rattle.dw_base.specs.declared.texts.TextSection.TheVariants.{InStr, InLineStr}
 use Rattle.dw_rewrite.specs.Changes.{AreNoted, FieldSource, Knows, Remembers, patched, texts_at, with_all_known}
-use Rattle.dw_find.specs.SectionFields.{SectionFields, fields_into}
+use Rattle.dw_unit_fields.specs.SectionFields.{SectionFields, fields_into}
 use Rattle.dw_rewrite.specs.UnitsAfter.{inlined}
-use Rattle.dw_find.specs.ViewFields.{fields_of, info_of, table_number, texts_in}
+use Rattle.dw_unit_fields.specs.ViewFields.{fields_of, info_of}
+use Rattle.dw_starts.specs.StringTables.{table_number, texts_in}
 
 -- a table of texts of a view
 abbrev pub texts_of : View → TextSection → Located

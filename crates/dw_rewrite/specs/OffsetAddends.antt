@@ -12,7 +12,7 @@ use Rattle.dw_base.specs.declared.texts.TextSection.TheVariants.{InStr, InLineSt
 use Rattle.dw_meaning.specs.NewAddends.{Makes, Misses}
 use Rattle.dw_rewrite.specs.Changes.{FieldSource, offset_at}
 use Rattle.dw_rewrite.specs.NewTables.{source_in, starts_in}
-use Rattle.dw_find.specs.SectionFields.{SectionFields, fields_into}
+use Rattle.dw_unit_fields.specs.SectionFields.{SectionFields, fields_into}
 
 -- the addend at a field makes the offset that it is to say, where a new one is known
 abbrev pub FieldMakes : FieldSource → OffsetField → Option ℕ → Type 0

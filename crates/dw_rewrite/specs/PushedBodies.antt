@@ -4,7 +4,7 @@ use Rattle.dw_base.specs.FileViews.{View}
 use Rattle.dw_base.specs.Paths.{PathMap}
 use Rattle.dw_meaning.specs.DataOutput.{Body}
 use Rattle.dw_rewrite.specs.NewTables.{bodies_known}
-use Rattle.dw_find.specs.AllFields.{Fields}
+use Rattle.dw_read.specs.AllFields.{Fields}
 
 -- one body, of number 0 where there is none
 abbrev pub one_body : List Body → List Body

@@ -7,8 +7,8 @@ use Rattle.dw_base.specs.Paths.{PathMap}
 use Rattle.dw_base.specs.declared.debug_sections.DebugSection.TheVariants.{Line}
 use Rattle.dw_base.specs.declared.texts.TextSection.{TextSection}
 use Rattle.dw_rewrite.specs.Changes.{FieldSource}
-use Rattle.dw_find.specs.declared.fields.InlinePath.{InlinePath}
-use Rattle.dw_find.specs.SectionFields.{inline_text}
+use Rattle.dw_unit_fields.specs.declared.fields.InlinePath.{InlinePath}
+use Rattle.dw_unit_fields.specs.SectionFields.{inline_text}
 
 -- where fields of cells hold offsets into a table of texts, and into the line tables
 abbrev pub text_source : Around → List Cell → TextSection → FieldSource

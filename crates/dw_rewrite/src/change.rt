@@ -10,7 +10,7 @@ ghost use Rattle.dw_base.specs.Refusals.{Blames};
 ghost use Rattle.dw_base.specs.StringTables.{table_bytes};
 ghost use Rattle.dw_base.specs.declared.fault.Fault.TheVariants.{NoMemory};
 ghost use Rattle.dw_patch.specs.Patching.{IsFree};
-ghost use Rattle.dw_find.specs.Fields.{AllApart, AreOffsetFields};
+ghost use Rattle.dw_unit_fields.specs.Fields.{AllApart, AreOffsetFields};
 ghost use Rattle.dw_lines.specs.NewTexts.{known_by};
 ghost use Rattle.dw_rewrite.specs.Changes.{AreFieldsOf, AreFree, AreNoted, AreSet, IsSet, Knows, Remembers, offset_at, texts_at};
 ghost use Rattle.dw_rewrite.specs.NewPlaces.{places_known};

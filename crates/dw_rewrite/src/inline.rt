@@ -4,13 +4,13 @@
 
 ghost use Rattle.std.specs.Prelude.{◌≡◌, ◌+◌, ◌≤◌, length, OnOk, IfErr};
 ghost use Rattle.dw_base.specs.Refusals.{Blames};
-ghost use Rattle.dw_find.specs.InlineRooms.{AreRooms, Grows, GrowsOne, RoomFits};
-ghost use Rattle.dw_find.specs.TextPlaces.{InlinesFit};
+ghost use Rattle.dw_unit_fields.specs.InlineRooms.{AreRooms, Grows, GrowsOne, RoomFits};
+ghost use Rattle.dw_unit_fields.specs.TextPlaces.{InlinesFit};
 ghost use Rattle.dw_rewrite.specs.UnitsAfter.{inlined, inlined_at};
 
 use dw_base::{Fault, Kind, Refusal};
-use dw_find::InlinePath;
 use dw_paths::{Maps, map_inline};
+use dw_unit_fields::InlinePath;
 use std::alloc::Global;
 
 /// Maps the paths that stand at these places of a section. Refused where one would be longer, at it.

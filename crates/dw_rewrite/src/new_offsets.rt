@@ -12,7 +12,7 @@ ghost use Rattle.dw_base.specs.StringTables.{new_text, table_bytes, with_added, 
 ghost use Rattle.dw_base.specs.Texts.{ends_in, text_in};
 ghost use Rattle.dw_lines.specs.NewTexts.{AddsPlace, known_by};
 ghost use Rattle.dw_rewrite.specs.Changes.{IsNoted, Knows, Remembers, field_mention, mention_as, offset_at, place_after};
-ghost use Rattle.dw_find.specs.Fields.{IsOffsetField};
+ghost use Rattle.dw_unit_fields.specs.Fields.{IsOffsetField};
 
 use crate::refusal::too_large;
 use crate::sources::FieldSource;

@@ -7,7 +7,7 @@ ghost use Rattle.std.specs.Option.{ForSome};
 ghost use Rattle.dw_base.specs.DebugData.{start_number};
 ghost use Rattle.dw_rewrite.specs.NewStarts.{StartChange, StartsFit, known_starts};
 
-use dw_find::start_number;
+use dw_starts::start_number;
 use std::marker::Model;
 
 /// Where line tables started, and where they start anew, by their numbers.

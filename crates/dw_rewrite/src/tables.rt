@@ -8,19 +8,22 @@ ghost use Rattle.dw_base.specs.Refusals.{Blames};
 ghost use Rattle.dw_base.specs.StringTables.{table_bytes};
 ghost use Rattle.dw_base.specs.declared.debug_sections.DebugSection.TheVariants.{LineStr, Str};
 ghost use Rattle.dw_base.specs.declared.texts.TextSection.TheVariants.{InLineStr, InStr};
-ghost use Rattle.dw_find.specs.AllFields.{all_of};
-ghost use Rattle.dw_find.specs.ViewFields.{AllHaveOffsets, HasOffsets, fields_of, table_number};
+ghost use Rattle.dw_read.specs.AllFields.{all_of};
+ghost use Rattle.dw_unit_fields.specs.ViewFields.{AllHaveOffsets, HasOffsets, fields_of};
+ghost use Rattle.dw_starts.specs.StringTables.{table_number};
 ghost use Rattle.dw_lines.specs.NewTexts.{known_by, texts_known};
 ghost use Rattle.dw_rewrite.specs.NewTables.{GrownBy, GrownByAll, Growing, LongTable, TableMade, TablesRefuse, all_texts_at, fault_at, section_texts_at, source_in, table_with};
 
 use crate::change::note_fields;
 use crate::sources::FieldSource;
 use dw_base::{DebugSection, Fault, Refusal, TextSection};
-use dw_find::{Fields, SectionFields, table_number, table_texts};
 use dw_lines::{NewTexts, TextPlaces};
 use dw_offsets::OffsetField;
 use dw_paths::Maps;
+use dw_read::Fields;
+use dw_starts::{table_number, table_texts};
 use dw_strings::LentPool;
+use dw_unit_fields::SectionFields;
 use dw_view::View;
 use std::alloc::Global;
 

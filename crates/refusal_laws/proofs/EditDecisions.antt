@@ -37,7 +37,7 @@ use Rattle.dw_meaning.specs.RelocationFails.OffsetsFailIn.{names}
 use Rattle.dw_meaning.specs.RelocationFails.RelocationsFail.{left, offsets as lost_offsets}
 use Rattle.dw_meaning.proofs.LeftRowLaws.{headers-left, values-left}
 use Rattle.dw_meaning.proofs.LineRowLaws.{TableAmong, table-among}
-use Rattle.dw_find.proofs.FoundPathLaws.{all-names}
+use Rattle.dw_read.proofs.FoundPathLaws.{all-names}
 use Rattle.refusal_laws.specs.Decided.{Both, Decided, TakenOrRefused, refused, taken}
 use Rattle.refusal_laws.specs.Readable.{HasNameTables, HasParts}
 use Rattle.refusal_laws.proofs.Decisions.{decided-among, decided-both, decided-by}

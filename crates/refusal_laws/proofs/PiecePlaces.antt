@@ -36,7 +36,7 @@ use Rattle.dw_base.proofs.ViewCellLaws.{piece-cells}
 use Rattle.dw_meaning.specs.RelocationFails.{LeftRelocationsRead}
 use Rattle.dw_meaning.proofs.NameFieldRowLaws.{field-behind, first-field, front-field}
 use Rattle.dw_offsets.proofs.SlotPieceLaws.{place-next}
-use Rattle.dw_find.proofs.PlacedLaws.{PlacedCells, placed-cells}
+use Rattle.dw_unit_fields.proofs.PlacedLaws.{PlacedCells, placed-cells}
 use Rattle.refusal_laws.specs.Readable.{ArePieces}
 use Rattle.refusal_laws.proofs.ListDecisions.{Each, each-append}
 

@@ -1,5 +1,5 @@
 use Rattle.std.proofs.Common.{◌≡◌, ◌++◌, drop}
-use Rattle.dw_find.specs.UnitPlaces.{all_units}
+use Rattle.dw_starts.specs.UnitPlaces.{all_units}
 use Rattle.dbg_show.proofs.macro_source.all_units.Given as goal
 
 -- the units of the sections from here on are left

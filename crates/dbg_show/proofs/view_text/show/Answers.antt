@@ -1,7 +1,7 @@
 -- What was read is refused by no row.
 use Rattle.std.proofs.Common.{List, subst, sym}
 use Rattle.dw_base.specs.LineTables.{LineTable}
-use Rattle.dw_find.specs.MacroSections.{SectionUnits}
+use Rattle.dw_starts.specs.MacroSections.{SectionUnits}
 use Rattle.dbg_show.specs.ReadTables.{ViewTables}
 use Rattle.dbg_show.proofs.ReadLaws.{none-refuses}
 use Rattle.dbg_show.proofs.view_text.show.Goals as goal

@@ -1,5 +1,5 @@
 -- No entry starts there.
-use Rattle.dw_find.proofs.StartLaws.{number-absent}
+use Rattle.dw_starts.proofs.StartSearchLaws.{number-absent}
 use Rattle.dw_attrs.proofs.entry_index.entry_number.Goals as goal
 
 pub returns-in-Err : goal.returns-in-Err

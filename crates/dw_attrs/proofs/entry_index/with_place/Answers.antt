@@ -1,5 +1,5 @@
 -- A search among places that rise.
-use Rattle.dw_find.proofs.StartLaws.{searched}
+use Rattle.dw_starts.proofs.StartSearchLaws.{searched}
 use Rattle.dw_attrs.proofs.entry_index.with_place.Goals as goal
 
 pub returns-clause-absent : goal.returns-clause-absent

@@ -2,8 +2,8 @@
 use Rattle.std.proofs.Common.{ap, ◌∙◌, length, refl}
 use Rattle.dw_patch.specs.Patching.{PatchList}
 use Rattle.elf_layout.specs.Patched.{with_patches}
-use Rattle.dw_find.specs.ViewFields.{info_of}
-use Rattle.dw_find.specs.SectionFields.{SectionFields}
+use Rattle.dw_unit_fields.specs.ViewFields.{info_of}
+use Rattle.dw_unit_fields.specs.SectionFields.{SectionFields}
 use Rattle.dw_rewrite.proofs.SectionBytesLaws.{fields-put, line-free, none-free, start-free}
 use Rattle.dw_base.specs.declared.debug_sections.DebugSection.TheVariants.{Str, LineStr, Line}
 use Rattle.dw_rewrite.specs.NewPlaces.{places_known}

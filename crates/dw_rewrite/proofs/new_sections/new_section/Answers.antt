@@ -3,8 +3,8 @@ use Rattle.std.proofs.Common.{ap, ◌∙◌, sym, length}
 use Rattle.std.proofs.lemmas.Bool.{OnTrue_at}
 use Rattle.std.proofs.lemmas.List.{with_items_is}
 use Rattle.dw_base.specs.FileViews.{View, section_bytes}
-use Rattle.dw_find.specs.ViewFields.{info_of}
-use Rattle.dw_find.specs.SectionFields.{SectionFields}
+use Rattle.dw_unit_fields.specs.ViewFields.{info_of}
+use Rattle.dw_unit_fields.specs.SectionFields.{SectionFields}
 use Rattle.dw_rewrite.proofs.SectionBytesLaws.{body-is, body-patched, section-written}
 use Rattle.dw_base.specs.declared.debug_sections.DebugSection.TheVariants.{Str, LineStr, Line}
 use Rattle.dw_rewrite.specs.NewPlaces.{places_known}

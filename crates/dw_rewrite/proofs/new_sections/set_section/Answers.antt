@@ -2,8 +2,8 @@
 use Rattle.std.proofs.Common.{ap, ◌∙◌, sym, subst}
 use Rattle.dw_rewrite.specs.Changes.{AreFieldsOf, AreFree, AreSet}
 use Rattle.dw_rewrite.specs.NewTables.{source_into}
-use Rattle.dw_find.specs.Fields.{AllApart}
-use Rattle.dw_find.specs.SectionFields.{SectionFields}
+use Rattle.dw_unit_fields.specs.Fields.{AllApart}
+use Rattle.dw_unit_fields.specs.SectionFields.{SectionFields}
 use Rattle.dw_rewrite.proofs.GrowthLaws.{moved}
 use Rattle.dw_rewrite.proofs.SectionBytesLaws.{size-into}
 use Rattle.dw_rewrite.specs.NewPlaces.{places_known}

@@ -1,7 +1,7 @@
 -- The bytes of the section, one change after another.
 use Rattle.std.proofs.Common.{ap, ◌∙◌}
-use Rattle.dw_find.specs.ViewFields.{info_of}
-use Rattle.dw_find.specs.SectionFields.{SectionFields}
+use Rattle.dw_unit_fields.specs.ViewFields.{info_of}
+use Rattle.dw_unit_fields.specs.SectionFields.{SectionFields}
 use Rattle.dw_rewrite.proofs.SectionBytesLaws.{room-written}
 use Rattle.dw_rewrite.proofs.new_sections.write_section.Goals as goal
 

@@ -1,7 +1,7 @@
 -- The fields as the code has them.
 use Rattle.std.proofs.Common.{ap, ◌∙◌, sym}
 use Rattle.std.proofs.lemmas.Result.{err_from_is_err_and}
-use Rattle.dw_find.specs.SectionFields.{SectionFields}
+use Rattle.dw_unit_fields.specs.SectionFields.{SectionFields}
 use Rattle.dw_rewrite.specs.Changes.{AreFieldsOf}
 use Rattle.dw_rewrite.specs.NewTables.{source_into}
 use Rattle.dw_rewrite.proofs.GrowthLaws.{moved}

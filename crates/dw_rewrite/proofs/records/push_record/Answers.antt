@@ -1,6 +1,6 @@
 -- Whether another section holds the relocations of the section.
 use Rattle.std.proofs.Common.{ap, refl}
-use Rattle.dw_find.specs.SectionFields.{SectionFields}
+use Rattle.dw_unit_fields.specs.SectionFields.{SectionFields}
 use Rattle.dw_rewrite.proofs.RecordPushLaws.{none-makes, places-fit, section-there}
 use Rattle.dw_base.specs.declared.debug_sections.DebugSection.TheVariants.{Str, LineStr, Line}
 use Rattle.dw_rewrite.specs.NewPlaces.{places_known}

@@ -1,6 +1,6 @@
 -- Nothing was added yet, and at the end all; a table that is too long.
 use Rattle.std.proofs.lemmas.Result.{err_from_is_err_and}
-use Rattle.dw_find.specs.AllFields.{all_of}
+use Rattle.dw_read.specs.AllFields.{all_of}
 use Rattle.dw_rewrite.proofs.ListGrowthLaws.{growing-none, made-grown, made-refused}
 use Rattle.dw_rewrite.proofs.tables.grown_table.Goals as goal
 

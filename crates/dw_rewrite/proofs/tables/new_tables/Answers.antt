@@ -1,7 +1,7 @@
 -- Each table with the new places of its texts; one that would be too long.
 use Rattle.std.proofs.lemmas.Result.{err_from_is_err_and}
 use Rattle.dw_base.specs.declared.texts.TextSection.TheVariants.{InStr, InLineStr}
-use Rattle.dw_find.specs.AllFields.{all_of}
+use Rattle.dw_read.specs.AllFields.{all_of}
 use Rattle.dw_rewrite.proofs.GrowthLaws.{known-made, tables-row}
 use Rattle.dw_rewrite.proofs.tables.new_tables.Goals as goal
 

@@ -1,7 +1,7 @@
 -- The lists one after another; a table that is too long with one of them.
 use Rattle.std.proofs.Common.{[], ◌++◌}
 use Rattle.std.proofs.lemmas.Result.{err_from_is_err_and}
-use Rattle.dw_find.specs.AllFields.{all_of}
+use Rattle.dw_read.specs.AllFields.{all_of}
 use Rattle.dw_rewrite.proofs.ListGrowthLaws.{behind-five, behind-four, behind-one, behind-three, behind-two, grown-slice, last-refused, lists-refused, lists-start, long-slice}
 use Rattle.dw_rewrite.proofs.tables.note_lists.Goals as goal
 

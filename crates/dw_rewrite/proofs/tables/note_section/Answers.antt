@@ -1,6 +1,6 @@
 -- What is known of the table, before the section and behind it.
 use Rattle.std.proofs.Common.{ap}
-use Rattle.dw_find.specs.SectionFields.{SectionFields}
+use Rattle.dw_unit_fields.specs.SectionFields.{SectionFields}
 use Rattle.dw_rewrite.proofs.GrowthLaws.{section-grown, source-knows}
 use Rattle.dw_rewrite.proofs.tables.note_section.Goals as goal
 

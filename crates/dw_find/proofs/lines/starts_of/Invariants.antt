@@ -1,6 +1,0 @@
-use Rattle.std.proofs.Common.{◌≡◌, ◌++◌, drop}
-use Rattle.dw_find.specs.ViewLines.{starts_of}
-use Rattle.dw_find.proofs.lines.starts_of.Given as goal
-
-abbrev pub invariant-loop-table : goal.invariant-loop-table
-invariant-loop-table l = l.starts.items ++ starts_of (drop l.table-index l.tables) ≡ starts_of l.tables

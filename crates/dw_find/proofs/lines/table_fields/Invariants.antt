@@ -1,7 +1,0 @@
-use Rattle.std.proofs.Common.{◌≡◌, ◌++◌, drop}
-use Rattle.dw_find.specs.ViewLines.{table_fields}
-use Rattle.dw_find.proofs.lines.table_fields.Given as goal
-
-abbrev pub invariant-loop-table : goal.invariant-loop-table
-invariant-loop-table l =
-    l.fields.items ++ table_fields l.section l.str l.texts (drop l.table-index l.tables) ≡ table_fields l.section l.str l.texts l.tables

@@ -1,6 +1,0 @@
-use Rattle.std.proofs.Common.{◌≡◌, ◌++◌, drop}
-use Rattle.dw_find.specs.MacroSections.{line_fields}
-use Rattle.dw_find.proofs.macros.line_fields.Given as goal
-
-abbrev pub invariant-loop-unit : goal.invariant-loop-unit
-invariant-loop-unit l = l.fields.items ++ line_fields (drop l.unit-index l.units) ≡ line_fields l.units

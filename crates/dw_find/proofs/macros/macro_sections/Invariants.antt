@@ -1,5 +1,0 @@
-use Rattle.dw_find.proofs.MacroListLaws.{ListSo}
-use Rattle.dw_find.proofs.macros.macro_sections.Given as goal
-
-abbrev pub invariant-loop-section : goal.invariant-loop-section
-invariant-loop-section l = ListSo l.view l.section-index l.found.items

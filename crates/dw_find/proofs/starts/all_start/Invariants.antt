@@ -1,5 +1,0 @@
-use Rattle.dw_find.proofs.StartLaws.{AllPassed}
-use Rattle.dw_find.proofs.starts.all_start.Given as goal
-
-abbrev pub invariant-loop-found : goal.invariant-loop-found
-invariant-loop-found l = AllPassed l.view l.starts l.places l.paths l.found-index

@@ -1,7 +1,0 @@
-use Rattle.dw_base.specs.FileViews.{view_cells}
-use Rattle.dw_find.specs.NamedStarts.{says_unit}
-use Rattle.dw_find.proofs.StartLaws.{FieldsPassed}
-use Rattle.dw_find.proofs.starts.units_start.Given as goal
-
-abbrev pub invariant-loop-field : goal.invariant-loop-field
-invariant-loop-field l = FieldsPassed (says_unit l.view.order l.places) (view_cells l.view l.section) l.fields l.field-index

@@ -1,5 +1,0 @@
-use Rattle.dw_find.proofs.UnitPlaceLaws.{KeysPushed}
-use Rattle.dw_find.proofs.unit_places.push_keys.Given as goal
-
-abbrev pub invariant-loop-unit : goal.invariant-loop-unit
-invariant-loop-unit l = KeysPushed l.fn.keys.items l.units l.unit-index l.keys.items

@@ -1,5 +1,0 @@
-use Rattle.dw_find.proofs.UnitPlaceLaws.{AllKeys}
-use Rattle.dw_find.proofs.unit_places.unit_keys.Given as goal
-
-abbrev pub invariant-loop-section : goal.invariant-loop-section
-invariant-loop-section l = AllKeys l.macros l.section-index l.keys.items

@@ -1,0 +1,17 @@
+pub mod SlotPlaceLaws
+pub mod RoomFitLaws
+pub mod MacroFoundLaws
+pub mod MacroHaveLaws
+pub mod LinePlaceLaws
+pub mod LineTextLaws
+pub mod FoundUnitLaws
+pub mod MacroTextLaws
+pub mod MacroSectionLaws
+pub mod LineFieldLaws
+pub mod SlotPathLaws
+pub mod OffsetPlaceLaws
+pub mod MacroPathLaws
+pub mod NameHaveLaws
+pub mod FoundPathLaws
+pub mod MapCheckLaws
+pub mod ReadDataLaws

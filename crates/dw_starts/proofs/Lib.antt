@@ -1,0 +1,13 @@
+pub mod MacroPlaceLaws
+pub mod MacroNumberLaws
+pub mod MacroNameLaws
+pub mod MacroStartLaws
+pub mod UnitKeyLaws
+pub mod MacroLoopLaws
+pub mod UnitPlaceLaws
+pub mod TableLaws
+pub mod StartSearchLaws
+pub mod MacroAskedLaws
+pub mod MacroStrayLaws
+pub mod MacroListLaws
+pub mod TableStartLaws

@@ -1,0 +1,5 @@
+pub mod StringTables
+pub mod MacroSections
+pub mod UnitPlaces
+pub mod LineStarts
+pub mod MacroNames

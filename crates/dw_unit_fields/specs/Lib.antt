@@ -1,0 +1,14 @@
+pub mod Fields
+pub mod SectionFields
+pub mod TextPlaces
+pub mod NamedStarts
+pub mod EntryTexts
+pub mod NamedSlots
+pub mod QuietValues
+pub mod LaterValues
+pub mod UnitTexts
+pub mod IndexedTexts
+pub mod InlineRooms
+pub mod FieldOffsets
+pub mod ViewFields
+pub mod StartRows
