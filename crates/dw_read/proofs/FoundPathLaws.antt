@@ -18,7 +18,6 @@ use Rattle.dw_base.specs.Refusals.{Blames}
 use Rattle.dw_base.specs.SectionTexts.{NameTexts, name_role, name_role_by, offset_role, slot_role}
 use Rattle.dw_base.specs.SlotTexts.{contributions_in}
 use Rattle.dw_base.specs.Slots.{slots_of}
-use Rattle.dw_base.specs.StringOffsetFails.{ContributionsFail}
 use Rattle.dw_base.specs.StringOffsets.{AreContributions, ContributionsUpTo}
 use Rattle.dw_base.specs.TextChanges.{NamesTextBy}
 use Rattle.dw_base.specs.TextIndexes.{EachUse, Indexing, NamesSlot, holds_number}
@@ -94,8 +93,6 @@ use Rattle.dw_meaning.specs.RelocationFails.{LeftRelocationsRead}
 use Rattle.dw_relocs.specs.FieldRefusals.{FieldsRefuse}
 use Rattle.dw_relocs.specs.FieldRefusals.FieldsRefuse.{left as left_field, entries, macros}
 use Rattle.dw_unit_fields.specs.UnitTexts.{data_fails}
-use Rattle.dw_units.specs.UnitLists.{UnitListFails}
-use Rattle.dw_unit_fields.proofs.UnitRowLaws.{list-refuses}
 use Rattle.dw_meaning.specs.DataFails.DataFails.{entries as entry_row}
 use Rattle.dw_starts.proofs.MacroListLaws.{units-exclude}
 use Rattle.dw_meaning.proofs.LeftRowLaws.{values-left}
@@ -404,15 +401,15 @@ fields-read v list marks starts_ tables ts ss us slots_ all are named lines star
       tables = lines.is;
     }
 
-pub fields-found : (v : View) (list : List Contribution) (marks first slice : List ℕ) (tables : List NameTable) (ts : List LineTable) (ss : List SectionUnits)
+pub fields-found : (v : View) (list : List Contribution) (marks first : List ℕ) (tables : List NameTable) (ts : List LineTable) (ss : List SectionUnits)
     (us slots_first slots_ lines_first lines_ macros_first macros_ names_first names_ : List SectionFields) (all : Fields) → AreContributions v.order (string_offsets v) list → AreRead v tables → TablesFound v ts
-    → first ≡ starts_of ts → slice ≡ first → UnitsFoundIn v ss → UnitsNamed v list slice ss marks us → slots_first ≡ [] → SlotsFound v list marks slots_first slots_ → lines_first ≡ []
+    → first ≡ starts_of ts → UnitsFoundIn v ss → UnitsNamed v list first ss marks us → slots_first ≡ [] → SlotsFound v list marks slots_first slots_ → lines_first ≡ []
     → lines_ ≡ lines_first ++ lines_of_view v ts → macros_first ≡ [] → macros_ ≡ macros_first ++ macros_of v ss → names_first ≡ [] → names_ ≡ names_first ++ names_of_view v (fields_of_names tables)
     → LeftRelocationsRead (debug_data v) (moving_sections v) → all ≡ five_lists us slots_ lines_ macros_ names_ → FieldsFound v all marks ts
-fields-found v list marks first slice tables ts ss us slots_first slots_ lines_first lines_ macros_first macros_ names_first names_ all are named lines starts_are same units_are n s slots_found l lines_are o
+fields-found v list marks first tables ts ss us slots_first slots_ lines_first lines_ macros_first macros_ names_first names_ all are named lines starts_are units_are n s slots_found l lines_are o
     macros_are q names_are rest all_is =
     let r : FieldsRead v all marks ts =
-    fields-read v list marks slice tables ts ss us slots_ all are named lines (same ∙ starts_are) units_are n
+    fields-read v list marks first tables ts ss us slots_ all are named lines starts_are units_are n
     (subst (λ (none : List SectionFields). SlotsFound v list marks none slots_) s slots_found)
     (all_is ∙ ap (λ (ws : List SectionFields). five_lists us slots_ ws macros_ names_) (lines_are ∙ ap (λ (none : List SectionFields). none ++ lines_of_view v ts) l)
     ∙ ap (λ (ws : List SectionFields). five_lists us slots_ (lines_of_view v ts) ws names_) (macros_are ∙ ap (λ (none : List SectionFields). none ++ macros_of v ss) o)
@@ -430,10 +427,6 @@ fields-found v list marks first slice tables ts ss us slots_first slots_ lines_f
     }
 
 -- why nothing was found
-pub contributions-fault : (v : View) (f : Fault) → Blames (ContributionsFail v.order (string_offsets v)) f → Blames (DataRefuses v) f
-contributions-fault v NoMemory h = tt
-contributions-fault v (Refused r) h = string_tables h
-
 names-row : (v : View) (r : Refusal) → NamesRefuse v r → DataRefuses v r
 names-row v r (named_tables f) = name_tables f
 names-row v r (named_offsets list start t u some is f) = name_offsets (named_offsets list start t u some is f)
@@ -506,11 +499,6 @@ lie-marks v list marks are is =
     let size : length marks ≡ length (string_offsets v).bytes = ap (λ (l : List ℕ). length l) is ∙ length-replicate (length (string_offsets v).bytes) none in
     contributions-lie v.order (string_offsets v) list (length marks) are size
 
--- units that aren't listed
-pub list-fault : (v : View) (f : Fault) → Blames (UnitListFails (debug_data v)) f → Blames (DataRefuses v) f
-list-fault v NoMemory h = tt
-list-fault v (Refused r) h = units (list-refuses (debug_data v) r h)
-
 -- a section that has relocations was read again: why it can't be is a row, but for macro units, which can be
 fields-row : (v : View) (ss : List SectionUnits) (r : Refusal) → UnitsFoundIn v ss → FieldsRefuse v r → DataRefuses v r
 fields-row v ss r found (left_field f) = relocations f
@@ -521,4 +509,4 @@ pub fields-fault : (v : View) (ss : List SectionUnits) (f : Fault) → UnitsFoun
 fields-fault v ss NoMemory found h = tt
 fields-fault v ss (Refused r) found h = fields-row v ss r found h
 
-pub ruleset found_rules = (list-fault, fields-fault, tables-named, units-in, contributions-fault, names-fault, units-fault, slots-fault, lie-marks)
+pub ruleset found_rules = (fields-fault, tables-named, units-in, names-fault, units-fault, slots-fault, lie-marks)

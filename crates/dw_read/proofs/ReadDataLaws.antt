@@ -7,11 +7,13 @@ use Rattle.dw_base.specs.LineTables.{LineTable}
 use Rattle.dw_base.specs.Refusals.{Blames}
 use Rattle.dw_base.specs.RelocationRows.{moving_sections}
 use Rattle.dw_base.specs.StringOffsetFails.{ContributionsFail}
+use Rattle.dw_base.specs.StringOffsets.{AreContributions}
 use Rattle.dw_base.specs.ViewData.{debug_data, string_offsets}
 use Rattle.dw_base.specs.declared.fault.Fault.{Fault}
 use Rattle.dw_base.specs.declared.fault.Fault.TheVariants.{NoMemory, Refused}
 use Rattle.dw_base.specs.declared.fault.Refusal.{Refusal}
 use Rattle.dw_base.proofs.ViewCellLaws.{offsets-located}
+use Rattle.dw_lines.specs.ViewTables.{TablesFound}
 use Rattle.dw_meaning.specs.DataFails.{LinesFail}
 use Rattle.dw_meaning.specs.DataOutput.{DataReads}
 use Rattle.dw_meaning.proofs.DataRowLaws.{data-excludes}
@@ -26,10 +28,14 @@ use Rattle.dw_base.specs.MacroOffsets.{UnitsRefuse, units as read_units, offsets
 use Rattle.dw_base.specs.NameOffsets.{NamesRefuse, tables as named_tables, offsets as named_offsets}
 use Rattle.dw_read.specs.FoundPaths.{FieldsFound}
 use Rattle.dw_starts.specs.MacroSections.{SectionUnits, UnitsFailIn, UnitsFoundIn, units as section_fails, offsets as section_offsets}
-use Rattle.dw_read.specs.ReadData.{DataRead, DataRefuses}
+use Rattle.dw_read.specs.ReadData.{DataRead, DataRefuses, IsDebugData}
 use Rattle.dw_read.specs.ReadData.DataRefuses.{units, starts, string_tables, slots, name_tables, name_offsets, relocations, lines, macros}
 use Rattle.dw_read.specs.AllFields.{Fields}
 use Rattle.dw_unit_fields.specs.UnitTexts.{data_fails, header_fails, relocation_fails, text_fails}
+use Rattle.dw_starts.specs.LineStarts.{starts_of}
+use Rattle.dw_read.specs.declared.reading.DebugData.{DebugData}
+use Rattle.dw_unit_fields.proofs.UnitRowLaws.{list-refuses}
+use Rattle.dw_units.specs.UnitLists.{UnitListFails}
 use Rattle.dw_base.proofs.RelocationRowLaws.{header_offsets_exclude}
 use Rattle.dw_base.specs.declared.debug_sections.DebugSection.TheVariants.{StrOffsets, Macro}
 use Rattle.dw_meaning.specs.RelocationFails.{RelocationsReadIn}
@@ -43,19 +49,41 @@ pub macros-fault : (v : View) (f : Fault) → Blames (UnitsFailIn v) f → Blame
 macros-fault v NoMemory h = tt
 macros-fault v (Refused r) h = macros h
 
-pub data-read : (v : View) (us : Fields) (marks : List ℕ) (ts slice : List LineTable) (ss : List SectionUnits) → slice ≡ ts → FieldsFound v us marks slice → UnitsFoundIn v ss
-    → DataRead v ts ss
-data-read v us marks ts slice ss same f units_ = record {
-  readings = f.readings;
-  reads = f.reads;
-  tables = sym same ∙ f.tables;
-  units = units_;
-  relocations = f.relocations;
-}
+-- so are units that can't be listed, and string offsets
+pub list-fault : (v : View) (f : Fault) → Blames (UnitListFails (debug_data v)) f → Blames (DataRefuses v) f
+list-fault v NoMemory h = tt
+list-fault v (Refused r) h = units (list-refuses (debug_data v) r h)
 
--- those of a slice of the sections are those of the sections
+pub contributions-fault : (v : View) (f : Fault) → Blames (ContributionsFail v.order (string_offsets v)) f → Blames (DataRefuses v) f
+contributions-fault v NoMemory h = tt
+contributions-fault v (Refused r) h = string_tables h
+
+-- the tables and the units of a slice are those of the list
+pub slice-tables : (v : View) (ts slice : List LineTable) → slice ≡ ts → TablesFound v ts → TablesFound v slice
+slice-tables v ts slice same found = subst (TablesFound v) (sym same) found
+
 pub slice-units : (v : View) (ss slice : List SectionUnits) → slice ≡ ss → UnitsFoundIn v ss → UnitsFoundIn v slice
 slice-units v ss slice same found = subst (UnitsFoundIn v) (sym same) found
+
+-- what was found by a slice of the line tables is what was found by them
+pub slice-found : (v : View) (us : Fields) (marks : List ℕ) (ts slice : List LineTable) → slice ≡ ts → FieldsFound v us marks slice → FieldsFound v us marks ts
+slice-found v us marks ts slice same found = subst (FieldsFound v us marks) same found
+
+-- what was read of the debug data
+data-read : (v : View) (us : Fields) (marks : List ℕ) (ts : List LineTable) (ss : List SectionUnits) → FieldsFound v us marks ts → UnitsFoundIn v ss → DataRead v ts ss
+data-read v us marks ts ss f units_ = record { readings = f.readings; reads = f.reads; tables = f.tables; units = units_; relocations = f.relocations }
+
+pub data-is : (v : View) (d : DebugData) (us : Fields) (marks : List ℕ) (slice : List LineTable) → slice ≡ d.lines.items → FieldsFound v us marks slice → UnitsFoundIn v d.macros.items
+    → AreContributions v.order (string_offsets v) d.contributions → d.starts.items ≡ starts_of slice → IsDebugData v d
+data-is v d us marks slice same f units_ are starts_are = record {
+  read = data-read v us marks d.lines.items d.macros.items (slice-found v us marks d.lines.items slice same f) units_;
+  contributions = are;
+  starts = starts_are ∙ ap starts_of same;
+}
+
+-- its line tables are those of the view
+pub data-tables : (v : View) (ts : List LineTable) (ss : List SectionUnits) → DataRead v ts ss → TablesFound v ts
+data-tables v ts ss d = record { readings = d.readings.lines; reads = d.reads.lines; is = d.tables }
 
 -- what was read excludes each row
 strings-exclude : (v : View) (rs : DataReadings) (r : Refusal) → DataReads (debug_data v) rs → ContributionsFail v.order (string_offsets v) r → ⊥
@@ -89,7 +117,7 @@ data_read-excludes v rs r reads h (lines f) = lines-exclude (debug_data v) rs.li
 data_read-excludes v rs r reads h (macros (section_fails z before behind split f)) = macros-exclude v rs before behind z r reads split f
 data_read-excludes v rs r reads h (macros (section_offsets z before behind split f)) = units-row v rs before behind z r reads h split f
 
-pub found-excludes : {v : View} {us : Fields} {marks : List ℕ} {ts : List LineTable} (r : Refusal) → FieldsFound v us marks ts → DataRefuses v r → ⊥
-found-excludes {v} {us} {marks} {ts} r found f = data_read-excludes v found.readings r found.reads found.relocations f
+pub read-excludes : {v : View} {ts : List LineTable} {ss : List SectionUnits} (r : Refusal) → DataRead v ts ss → DataRefuses v r → ⊥
+read-excludes {v} {ts} {ss} r d f = data_read-excludes v d.readings r d.reads d.relocations f
 
-pub ruleset read_rules = (lines-fault, macros-fault, data-read, slice-units)
+pub ruleset read_rules = (lines-fault, macros-fault, list-fault, contributions-fault, slice-tables, slice-units)

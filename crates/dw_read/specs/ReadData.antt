@@ -7,6 +7,7 @@ use Rattle.dw_base.specs.LineTables.{LineTable}
 use Rattle.dw_base.specs.NameTableFails.{NameTablesFail}
 use Rattle.dw_base.specs.RelocationRows.{moving_sections}
 use Rattle.dw_base.specs.StringOffsetFails.{ContributionsFail}
+use Rattle.dw_base.specs.StringOffsets.{AreContributions}
 use Rattle.dw_base.specs.ViewData.{debug_data, string_offsets}
 use Rattle.dw_base.specs.declared.fault.Refusal.{Refusal}
 use Rattle.dw_lines.specs.ViewTables.{tables_read}
@@ -16,6 +17,8 @@ use Rattle.dw_meaning.specs.RelocationFails.{LeftRelocationsFail, RelocationsRea
 use Rattle.dw_base.specs.NameOffsets.{NamesRefuse}
 use Rattle.dw_starts.specs.MacroSections.{SectionUnits, UnitsFailIn, UnitsFoundIn}
 use Rattle.dw_unit_fields.specs.UnitTexts.{UnitsRefuse}
+use Rattle.dw_starts.specs.LineStarts.{starts_of}
+use Rattle.dw_read.specs.declared.reading.DebugData.{DebugData}
 
 -- the debug data of a view can be read, their relocations are ones that may stand there, and these are the line tables and the macro units
 pub record DataRead (v : View) (ts : List LineTable) (ss : List SectionUnits) : Type 0 where
@@ -24,6 +27,12 @@ pub record DataRead (v : View) (ts : List LineTable) (ss : List SectionUnits) : 
   pub tables : ts ≡ tables_read (line_source (debug_data v)) readings.lines
   pub units : UnitsFoundIn v ss
   pub relocations : RelocationsReadIn (debug_data v) (moving_sections v)
+
+-- this is what was read of them: these line tables and macro units, the contributions of string offsets, and where the line tables start
+pub record IsDebugData (v : View) (d : DebugData) : Type 0 where
+  pub read : DataRead v d.lines.items d.macros.items
+  pub contributions : AreContributions v.order (string_offsets v) d.contributions
+  pub starts : d.starts.items ≡ starts_of d.lines.items
 
 -- why they can't be: a unit, an entry or an offset of a text in one can't be read; what is to say where a line table or a macro unit starts
 -- names none; string offsets, slots, name tables, line tables or macro units can't be read

@@ -13,7 +13,7 @@
 //! ```
 //! let elf = ElfFile::read(alloc, bytes)?;
 //! let view = View::one(&elf)?;
-//! let tables = read_data(alloc, &view)?;
+//! let (units, data) = read_data(alloc, &view)?;
 //! ```
 #![tactic(auto)]
 
@@ -27,5 +27,4 @@ mod rooms;
 
 pub use all_fields::Fields;
 pub use map_checks::check_map;
-pub use paths::found_fields;
-pub use reading::{ReadTables, read_data};
+pub use reading::{DebugData, read_data, read_fields};

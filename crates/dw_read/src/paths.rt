@@ -13,7 +13,7 @@ ghost use Rattle.dw_base.specs.declared.debug_sections.DebugSection.TheVariants.
 ghost use Rattle.dw_lines.specs.ViewTables.{TablesFound};
 ghost use Rattle.dw_units.specs.UnitLists.{ListsAll};
 ghost use Rattle.dw_read.specs.FoundPaths.{FieldsFound, SlotsFound, UnitsFound, UnitsNamed};
-ghost use Rattle.dw_starts.specs.LineStarts.{TablesStart};
+ghost use Rattle.dw_starts.specs.LineStarts.{TablesStart, starts_of};
 ghost use Rattle.dw_unit_fields.specs.IndexedTexts.{TextsIndexed, TextsRefuse};
 ghost use Rattle.dw_starts.specs.UnitPlaces.{UnitsStart};
 ghost use Rattle.dw_starts.specs.MacroSections.{UnitsFoundIn};
@@ -29,57 +29,41 @@ use crate::macros::push_macros;
 use dw_base::{DebugSection, Fault};
 use dw_lines::LineTable;
 use dw_offsets::{
-    ContributionList, NameTableList, OffsetField, SlotMarks, all_slots, contributions, name_fields,
-    name_tables,
+    ContributionList, NameTableList, OffsetField, SlotMarks, all_slots, name_fields, name_tables,
 };
 use dw_relocs::check_fields;
-use dw_starts::{MacroSection, UnitPlaces, macros_name, starts_of};
+use dw_starts::{MacroSection, UnitPlaces, macros_name};
 use dw_unit_fields::{NamedSlots, SectionFields, TextTable, TextTables, unit_fields};
-use dw_units::{Units, read_units};
+use dw_units::Units;
 use dw_view::View;
 use std::alloc::{AllocError, Global};
 
-/// What the debug data of the view say of texts, kind by kind, and which slots values by index name. Refused where one of their sections or
-/// a name table can't be read or names no text, where what is to say where a line table or a macro unit starts names none, and where a
-/// relocation stands that may not.
+/// What the debug data of the view say of texts, kind by kind, and which slots values by index name; by its units, the contributions of its
+/// string offsets, its line tables, which start at these places, and its macro units. Refused where an entry, a name table or a slot can't
+/// be read or names no text, where what is to say where a line table or a macro unit starts names none, and where a relocation stands that
+/// may not.
 #[tactic(auto, using(crate::proofs::FoundPathLaws::found_rules))]
-pub fn found_fields(
-    alloc: Global,
-    view: &View,
-    tables: &[LineTable],
-    macros: &[MacroSection],
-) -> Result<(Fields, SlotMarks), Fault>
-    requires tables { TablesFound view.now tables.now }
-    requires macros { UnitsFoundIn view.now macros.now }
-    ensures found { IfOk result (λ found. FieldsFound view.now found.0 found.1 tables.now) }
-    ensures refused { IfErr result (Blames (DataRefuses view.now)) }
-{
-    let units = read_units(alloc, view)?;
-    let found = listed_paths(alloc, view, &units, tables, macros)?;
-    Ok(found)
-}
-
-/// The same, where the units are listed.
-#[tactic(auto, using(crate::proofs::FoundPathLaws::found_rules))]
-fn listed_paths(
+pub(crate) fn found_fields(
     alloc: Global,
     view: &View,
     listed: &Units,
+    list: &ContributionList,
+    starts: &[u64],
     tables: &[LineTable],
     macros: &[MacroSection],
 ) -> Result<(Fields, SlotMarks), Fault>
     requires listed { ListsAll (debug_data view.now) listed.now.tables ((debug_data view.now).found Info) listed.now.units }
+    requires contributions { AreContributions view.now.order (string_offsets view.now) list.now }
+    requires starts { starts.now ≡ starts_of tables.now }
     requires tables { TablesFound view.now tables.now }
     requires macros { UnitsFoundIn view.now macros.now }
     ensures found { IfOk result (λ found. FieldsFound view.now found.0 found.1 tables.now) }
     ensures refused { IfErr result (Blames (DataRefuses view.now)) }
 {
-    let list = contributions(alloc, view)?;
     let names = name_tables(alloc, view)?;
-    let starts = starts_of(alloc, tables)?;
-    let (marks, units) = named_paths(alloc, view, listed, &list, starts.as_slice(), macros)?;
+    let (marks, units) = named_paths(alloc, view, listed, list, starts, macros)?;
     let mut slots = Vec::new(alloc);
-    push_slots(alloc, view, &list, &marks, &mut slots)?;
+    push_slots(alloc, view, list, &marks, &mut slots)?;
     let mut lines = Vec::new(alloc);
     push_lines(alloc, view, tables, &mut lines)?;
     let mut macro_fields = Vec::new(alloc);
