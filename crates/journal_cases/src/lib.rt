@@ -1,4 +1,4 @@
-//! Worked cases of trees, of the events of a run, of the texts of a work folder, and of runs over trees in memory that are stopped after
+//! Worked cases of trees, of the core of a run, of the texts of a work folder, and of runs over trees in memory that are stopped after
 //! each call.
 //!
 //! This layer promises: each case ends as it says, by values that were written by hand from the rules. It is a crate of its own, so

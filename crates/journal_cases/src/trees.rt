@@ -127,35 +127,32 @@ fn try_steps<T: Tree>(
 
 /// Calls that every tree answers alike, below a folder that isn't there at first.
 const COMMON: [(Step, &str); 26] = [
-    (Step::List("tree_test", 9), "paths"),
-    (Step::Read("tree_test/a", 9), "absent"),
-    (Step::Put("tree_test/a/c", 0o1666, "first"), "ok"),
-    (Step::Put("tree_test/a.b", 0o600, "second"), "ok"),
-    (Step::Link("tree_test/to", "../elsewhere"), "ok"),
-    (Step::Read("tree_test/a/c", 5), "file 1666 first"),
-    (Step::Read("tree_test/a/c", 3), "too large 5"),
-    (Step::Read("tree_test/to", 0), "link ../elsewhere"),
-    (Step::Read("tree_test/a", 9), "folder"),
-    (
-        Step::List("tree_test", 3),
-        "paths tree_test/a.b tree_test/a/c tree_test/to",
-    ),
-    (Step::List("tree_test", 2), "too many"),
-    (Step::List("tree_test/a", 1), "paths tree_test/a/c"),
+    (Step::List("tree", 9), "paths"),
+    (Step::Read("tree/a", 9), "absent"),
+    (Step::Put("tree/a/c", 0o1666, "first"), "ok"),
+    (Step::Put("tree/a.b", 0o600, "second"), "ok"),
+    (Step::Link("tree/to", "../elsewhere"), "ok"),
+    (Step::Read("tree/a/c", 5), "file 1666 first"),
+    (Step::Read("tree/a/c", 3), "too large 5"),
+    (Step::Read("tree/to", 0), "link ../elsewhere"),
+    (Step::Read("tree/a", 9), "folder"),
+    (Step::List("tree", 3), "paths tree/a.b tree/a/c tree/to"),
+    (Step::List("tree", 2), "too many"),
+    (Step::List("tree/a", 1), "paths tree/a/c"),
     (Step::Settle, "ok"),
-    (Step::Rename("tree_test/to", "tree_test/a/c"), "ok"),
-    (Step::Read("tree_test/a/c", 9), "link ../elsewhere"),
-    (Step::Rename("tree_test/missing", "tree_test/a.b"), "ok"),
-    (Step::Remove("tree_test/missing"), "ok"),
-    (Step::Put("tree_test/a/c", 0o444, "third"), "ok"),
-    (Step::Read("tree_test/a/c", 9), "file 444 third"),
-    (Step::Pieces("tree_test/a.b", 0o640, "in ", "pieces"), "ok"),
-    (Step::Read("tree_test/a.b", 9), "file 640 in pieces"),
-    (Step::Pieces("tree_test/a.b", 0o444, "", ""), "ok"),
-    (Step::Read("tree_test/a.b", 0), "file 444 "),
-    (Step::Remove("tree_test/a.b"), "ok"),
+    (Step::Rename("tree/to", "tree/a/c"), "ok"),
+    (Step::Read("tree/a/c", 9), "link ../elsewhere"),
+    (Step::Rename("tree/missing", "tree/a.b"), "ok"),
+    (Step::Remove("tree/missing"), "ok"),
+    (Step::Put("tree/a/c", 0o444, "third"), "ok"),
+    (Step::Read("tree/a/c", 9), "file 444 third"),
+    (Step::Pieces("tree/a.b", 0o640, "in ", "pieces"), "ok"),
+    (Step::Read("tree/a.b", 9), "file 640 in pieces"),
+    (Step::Pieces("tree/a.b", 0o444, "", ""), "ok"),
+    (Step::Read("tree/a.b", 0), "file 444 "),
+    (Step::Remove("tree/a.b"), "ok"),
     (Step::Settle, "ok"),
-    (Step::List("tree_test", u64::MAX), "paths tree_test/a/c"),
+    (Step::List("tree", u64::MAX), "paths tree/a/c"),
 ];
 
 #[test]
@@ -170,35 +167,26 @@ fn a_tree_in_memory_answers_as_its_map(rt: HostRuntime) -> Result<(), Fail> {
 
 /// Calls on what only a real file system has, after `COMMON`.
 const REAL: [(Step, &str); 21] = [
-    (
-        Step::Put("tree_test/a", 0o600, "folder in the way"),
-        "failed",
-    ),
-    (
-        Step::Put("tree_test/a/c/d", 0o600, "file in the way"),
-        "failed",
-    ),
+    (Step::Put("tree/a", 0o600, "folder in the way"), "failed"),
+    (Step::Put("tree/a/c/d", 0o600, "file in the way"), "failed"),
     (Step::Put("/dev/full", 0o600, "device in the way"), "failed"),
     (Step::Read("/dev/full", 99), "absent"),
     (Step::Remove("/dev/full"), "ok"),
-    (Step::Rename("/dev/full", "tree_test/a/c"), "ok"),
-    (Step::Rename("tree_test/a/c", "/dev/full"), "failed"),
-    (Step::Rename("tree_test/a/c", "tree_test/a"), "failed"),
-    (Step::Read("tree_test/a/c/d", 9), "absent"),
-    (Step::Rename("tree_test/a", "tree_test/b"), "ok"),
-    (Step::Remove("tree_test/a"), "ok"),
-    (Step::Read("tree_test/a", 9), "folder"),
-    (Step::Link("tree_test/to", "a/c"), "ok"),
-    (Step::Put("tree_test/to", 0o7751, "link replaced"), "ok"),
-    (Step::Read("tree_test/to", 99), "file 7751 link replaced"),
-    (Step::Read("tree_test/a/c", 9), "file 444 third"),
-    (Step::Rename("tree_test/to", "tree_test/z/to"), "ok"),
-    (Step::Read("tree_test/to", 9), "absent"),
-    (Step::Put("tree_test/y", 0o600, "before z"), "ok"),
-    (
-        Step::List("tree_test", 9),
-        "paths tree_test/a/c tree_test/y tree_test/z/to",
-    ),
+    (Step::Rename("/dev/full", "tree/a/c"), "ok"),
+    (Step::Rename("tree/a/c", "/dev/full"), "failed"),
+    (Step::Rename("tree/a/c", "tree/a"), "failed"),
+    (Step::Read("tree/a/c/d", 9), "absent"),
+    (Step::Rename("tree/a", "tree/b"), "ok"),
+    (Step::Remove("tree/a"), "ok"),
+    (Step::Read("tree/a", 9), "folder"),
+    (Step::Link("tree/to", "a/c"), "ok"),
+    (Step::Put("tree/to", 0o7751, "link replaced"), "ok"),
+    (Step::Read("tree/to", 99), "file 7751 link replaced"),
+    (Step::Read("tree/a/c", 9), "file 444 third"),
+    (Step::Rename("tree/to", "tree/z/to"), "ok"),
+    (Step::Read("tree/to", 9), "absent"),
+    (Step::Put("tree/y", 0o600, "before z"), "ok"),
+    (Step::List("tree", 9), "paths tree/a/c tree/y tree/z/to"),
     (Step::Settle, "ok"),
 ];
 
@@ -212,30 +200,30 @@ fn try_noting<T: Tree>(
 ) -> Result<(), Fail> {
     let alloc = files.alloc();
     try_steps(rt, alloc, tree, steps)?;
-    fs::remove_dir(files, "tree_test/noted")?;
-    std::os::unix::fs::symlink(files, "noted", "tree_test/noted")?;
+    fs::remove_dir(files, "tree/noted")?;
+    std::os::unix::fs::symlink(files, "noted", "tree/noted")?;
     try_steps(rt, alloc, tree, &[(Step::Settle, "failed")])?;
-    fs::remove_file(files, "tree_test/noted")?;
+    fs::remove_file(files, "tree/noted")?;
     try_steps(rt, alloc, tree, &[(Step::Settle, "ok")])?;
     Ok(())
 }
 
 /// Steps that note a folder: a put in it, and a list of it.
 const NOTED_BY_A_PUT: [(Step, &str); 3] = [
-    (Step::Put("tree_test/noted/file", 0o600, "put"), "ok"),
+    (Step::Put("tree/noted/file", 0o600, "put"), "ok"),
     (Step::Settle, "ok"),
-    (Step::Remove("tree_test/noted/file"), "ok"),
+    (Step::Remove("tree/noted/file"), "ok"),
 ];
 
 const NOTED_BY_A_LIST: [(Step, &str); 3] = [
     (Step::Settle, "ok"),
-    (Step::List("tree_test/noted", 9), "paths"),
-    (Step::Read("tree_test/noted/file", 9), "absent"),
+    (Step::List("tree/noted", 9), "paths"),
+    (Step::Read("tree/noted/file", 9), "absent"),
 ];
 
 #[test]
 fn the_real_file_system_answers_alike(rt: HostRuntime) -> Result<(), Fail> {
-    match fs::remove_dir_all(&rt, "tree_test") {
+    match fs::remove_dir_all(&rt, "tree") {
         Ok(()) => {}
         Err(e) => assert_eq!(rt; e.kind(), ErrorKind::NotFound),
     }
@@ -243,9 +231,9 @@ fn the_real_file_system_answers_alike(rt: HostRuntime) -> Result<(), Fail> {
     try_steps(&rt, rt.alloc(), &mut tree, &COMMON)?;
     try_steps(&rt, rt.alloc(), &mut tree, &REAL)?;
     try_noting(&rt, &rt, &mut tree, &NOTED_BY_A_PUT)?;
-    fs::create_dir(&rt, "tree_test/noted")?;
+    fs::create_dir(&rt, "tree/noted")?;
     try_noting(&rt, &rt, &mut tree, &NOTED_BY_A_LIST)?;
-    fs::remove_dir_all(&rt, "tree_test")?;
+    fs::remove_dir_all(&rt, "tree")?;
     Ok(())
 }
 
@@ -260,230 +248,111 @@ fn make_place(files: &HostRuntime, place: &str) -> Result<(), Fail> {
     Ok(())
 }
 
-/// Calls on a folder and a link to it: a file that was read or put under one spelling isn't put under another.
-const SPELLED: [(Step, &str); 12] = [
-    (Step::Read("spelled_test/in/a", 9), "file 644 first"),
-    (Step::Put("spelled_test/by/a", 0o644, "lost"), "failed"),
-    (Step::Read("spelled_test/by/a", 9), "file 644 first"),
-    (Step::Put("spelled_test/by/b", 0o600, "second"), "ok"),
-    (
-        Step::Pieces("spelled_test/in/b", 0o600, "lo", "st"),
-        "failed",
-    ),
-    (
-        Step::Rename("spelled_test/in/a", "spelled_test/in/b"),
-        "failed",
-    ),
-    (Step::Read("spelled_test/in/b", 9), "file 600 second"),
-    (Step::Put("spelled_test/in/same", 0o640, "third"), "ok"),
-    (Step::Read("spelled_test/in/a", 9), "file 644 first"),
-    (Step::Read("spelled_test/in/same", 9), "file 640 third"),
-    (Step::Put("spelled_test/in/same", 0o640, "again"), "ok"),
-    (Step::Settle, "ok"),
-];
-
-#[test]
-fn a_file_is_put_under_one_spelling_and_a_hard_link_is_another_file(
-    rt: HostRuntime,
-) -> Result<(), Fail> {
-    make_place(&rt, "spelled_test")?;
-    std::os::unix::fs::symlink(&rt, "in", "spelled_test/by")?;
-    fs::hard_link(&rt, "spelled_test/in/a", "spelled_test/in/same")?;
-    let mut tree = OsTree::new(&rt);
-    try_steps(&rt, rt.alloc(), &mut tree, &SPELLED)?;
-    fs::remove_dir_all(&rt, "spelled_test")?;
-    Ok(())
-}
-
-/// Calls on the same: a name that is gone is forgotten, and may be put under another spelling.
-const FORGOTTEN: [(Step, &str); 18] = [
-    (Step::Read("forgotten_test/in/a", 9), "file 644 first"),
-    (Step::Put("forgotten_test/by/a", 0o644, "lost"), "failed"),
-    (
-        Step::Rename("forgotten_test/in/a", "forgotten_test/in/b"),
-        "ok",
-    ),
-    (Step::Put("forgotten_test/by/a", 0o600, "second"), "ok"),
-    (Step::Put("forgotten_test/in/a", 0o600, "lost"), "failed"),
-    (Step::Put("forgotten_test/by/b", 0o600, "lost"), "failed"),
-    (Step::Read("forgotten_test/in/b", 9), "file 644 first"),
-    (Step::Remove("forgotten_test/in/b"), "ok"),
-    (Step::Put("forgotten_test/by/b", 0o600, "third"), "ok"),
-    (Step::Remove("forgotten_test/in/b"), "ok"),
-    (Step::Put("forgotten_test/in/b", 0o600, "fourth"), "ok"),
-    (
-        Step::Rename("forgotten_test/in/b", "forgotten_test/in/b"),
-        "ok",
-    ),
-    (Step::Put("forgotten_test/by/b", 0o600, "lost"), "failed"),
-    (
-        Step::Rename("forgotten_test/in/c", "forgotten_test/in/d"),
-        "ok",
-    ),
-    (
-        Step::Rename("forgotten_test/by/a", "forgotten_test"),
-        "failed",
-    ),
-    (Step::Put("forgotten_test/in/a", 0o600, "lost"), "failed"),
-    (Step::Read("forgotten_test/in/a", 9), "file 600 second"),
-    (Step::Read("forgotten_test/in/b", 9), "file 600 fourth"),
+/// Calls on a folder and a link to it: a name that is gone is forgotten, and may be put under another spelling.
+const FORGOTTEN: [(Step, &str); 17] = [
+    (Step::Read("forgotten/in/a", 9), "file 644 first"),
+    (Step::Put("forgotten/by/a", 0o644, "lost"), "failed"),
+    (Step::Rename("forgotten/in/a", "forgotten/in/b"), "ok"),
+    (Step::Put("forgotten/by/a", 0o600, "second"), "ok"),
+    (Step::Put("forgotten/in/a", 0o600, "lost"), "failed"),
+    (Step::Put("forgotten/by/b", 0o600, "lost"), "failed"),
+    (Step::Remove("forgotten/in/b"), "ok"),
+    (Step::Put("forgotten/by/b", 0o600, "third"), "ok"),
+    (Step::Remove("forgotten/in/b"), "ok"),
+    (Step::Put("forgotten/in/b", 0o600, "fourth"), "ok"),
+    (Step::Rename("forgotten/in/b", "forgotten/in/b"), "ok"),
+    (Step::Put("forgotten/by/b", 0o600, "lost"), "failed"),
+    (Step::Rename("forgotten/in/b", "forgotten/in/a"), "failed"),
+    (Step::Rename("forgotten/by/a", "forgotten"), "failed"),
+    (Step::Put("forgotten/in/a", 0o600, "lost"), "failed"),
+    (Step::Read("forgotten/in/a", 9), "file 600 second"),
+    (Step::Read("forgotten/in/b", 9), "file 600 fourth"),
 ];
 
 #[test]
 fn a_name_that_is_gone_may_be_put_under_another_spelling(rt: HostRuntime) -> Result<(), Fail> {
-    make_place(&rt, "forgotten_test")?;
-    std::os::unix::fs::symlink(&rt, "in", "forgotten_test/by")?;
+    make_place(&rt, "forgotten")?;
+    std::os::unix::fs::symlink(&rt, "in", "forgotten/by")?;
     let mut tree = OsTree::new(&rt);
     try_steps(&rt, rt.alloc(), &mut tree, &FORGOTTEN)?;
-    fs::remove_dir_all(&rt, "forgotten_test")?;
+    fs::remove_dir_all(&rt, "forgotten")?;
     Ok(())
 }
 
 /// Calls below a folder that was listed, where a link is on the way.
 const LINKED: [(Step, &str); 10] = [
-    (
-        Step::List("linked_test", 9),
-        "paths linked_test/by linked_test/in/a",
-    ),
-    (Step::Read("linked_test/by", 9), "link in"),
-    (Step::Read("linked_test/by/a", 9), "failed"),
-    (Step::Read("linked_test/by/none", 0), "failed"),
-    (Step::Put("linked_test/by/b", 0o600, "put"), "failed"),
-    (
-        Step::Rename("linked_test/in/a", "linked_test/by/b"),
-        "failed",
-    ),
-    (
-        Step::Rename("linked_test/by/a", "linked_test/in/b"),
-        "failed",
-    ),
-    (Step::Remove("linked_test/by/a"), "failed"),
-    (Step::List("linked_test/by", 9), "paths"),
-    (
-        Step::List("linked_test", 9),
-        "paths linked_test/by linked_test/in/a",
-    ),
+    (Step::List("linked", 9), "paths linked/by linked/in/a"),
+    (Step::Read("linked/by", 9), "link in"),
+    (Step::Read("linked/by/a", 9), "failed"),
+    (Step::Read("linked/by/none", 0), "failed"),
+    (Step::Put("linked/by/b", 0o600, "put"), "failed"),
+    (Step::Rename("linked/in/a", "linked/by/b"), "failed"),
+    (Step::Rename("linked/by/a", "linked/in/b"), "failed"),
+    (Step::Remove("linked/by/a"), "failed"),
+    (Step::List("linked/by", 9), "paths"),
+    (Step::List("linked", 9), "paths linked/by linked/in/a"),
 ];
 
 /// The same where a file behind the link was read before the list, and one was that is put again.
 const LINKED_EARLY: [(Step, &str); 8] = [
-    (Step::Read("linked_test/by/a", 9), "file 644 first"),
-    (Step::Put("linked_test/by/b", 0o600, "second"), "ok"),
-    (Step::Put("linked_test/in/c", 0o600, "third"), "ok"),
+    (Step::Read("linked/by/a", 9), "file 644 first"),
+    (Step::Put("linked/by/b", 0o600, "second"), "ok"),
+    (Step::Put("linked/in/c", 0o600, "third"), "ok"),
     (
-        Step::List("linked_test", 9),
-        "paths linked_test/by linked_test/in/a linked_test/in/b linked_test/in/c",
+        Step::List("linked", 9),
+        "paths linked/by linked/in/a linked/in/b linked/in/c",
     ),
-    (Step::Read("linked_test/by/a", 9), "failed"),
-    (Step::Put("linked_test/by/b", 0o600, "lost"), "failed"),
-    (Step::Remove("linked_test/by/b"), "failed"),
-    (Step::Put("linked_test/in/c", 0o600, "again"), "ok"),
+    (Step::Read("linked/by/a", 9), "failed"),
+    (Step::Put("linked/by/b", 0o600, "lost"), "failed"),
+    (Step::Remove("linked/by/b"), "failed"),
+    (Step::Put("linked/in/c", 0o600, "again"), "ok"),
 ];
 
 #[test]
 fn no_link_on_the_way_is_followed_below_the_folder_of_the_first_list(
     rt: HostRuntime,
 ) -> Result<(), Fail> {
-    make_place(&rt, "linked_test")?;
-    std::os::unix::fs::symlink(&rt, "in", "linked_test/by")?;
-    let mut tree = OsTree::new(&rt);
-    try_steps(
-        &rt,
-        rt.alloc(),
-        &mut tree,
-        &[(Step::Read("linked_test/by/a", 9), "file 644 first")],
-    )?;
+    make_place(&rt, "linked")?;
+    std::os::unix::fs::symlink(&rt, "in", "linked/by")?;
     let mut tree = OsTree::new(&rt);
     try_steps(&rt, rt.alloc(), &mut tree, &LINKED)?;
     let mut tree = OsTree::new(&rt);
     try_steps(&rt, rt.alloc(), &mut tree, &LINKED_EARLY)?;
-    fs::remove_dir_all(&rt, "linked_test")?;
+    fs::remove_dir_all(&rt, "linked")?;
     Ok(())
 }
 
-/// A name of 256 bytes in a folder that is there.
-const TOO_LONG: &str =
-    "barred_test/in/nnnnnnnnnnnnnnnnnnnnnnnnnnnnnnnnnnnnnnnnnnnnnnnnnnnnnnnnnnnnnnnnnnnnnnnnnnnnnnnnnnnnnnnnnnnnnnnnnnnnnnnnnnnnnnnnnnnnnnnnnnnnnnnnnnnnnnnnnnnnnnnnnnnnnnnnnnnnnnnnnnnnnnnnnnnnnnnnnnnnnnnnnnnnnnnnnnnnnnnnnnnnnnnnnnnnnnnnnnnnnnnnnnnnnnnnnnnnnnnnnnnnnnnnnnnnnnnn";
+/// Names of 143 and of 144 bytes in a folder that isn't there.
+const SURE: &str =
+    "barred/none/nnnnnnnnnnnnnnnnnnnnnnnnnnnnnnnnnnnnnnnnnnnnnnnnnnnnnnnnnnnnnnnnnnnnnnnnnnnnnnnnnnnnnnnnnnnnnnnnnnnnnnnnnnnnnnnnnnnnnnnnnnnnnnnnnnnnnnnnnnnnnnn";
 
-/// The same in one that isn't, and a name of 255 bytes there.
-const TOO_LONG_LATER: &str =
-    "barred_test/none/nnnnnnnnnnnnnnnnnnnnnnnnnnnnnnnnnnnnnnnnnnnnnnnnnnnnnnnnnnnnnnnnnnnnnnnnnnnnnnnnnnnnnnnnnnnnnnnnnnnnnnnnnnnnnnnnnnnnnnnnnnnnnnnnnnnnnnnnnnnnnnnnnnnnnnnnnnnnnnnnnnnnnnnnnnnnnnnnnnnnnnnnnnnnnnnnnnnnnnnnnnnnnnnnnnnnnnnnnnnnnnnnnnnnnnnnnnnnnnnnnnnnnnnnnnnnnnnn";
+const UNSURE: &str =
+    "barred/none/nnnnnnnnnnnnnnnnnnnnnnnnnnnnnnnnnnnnnnnnnnnnnnnnnnnnnnnnnnnnnnnnnnnnnnnnnnnnnnnnnnnnnnnnnnnnnnnnnnnnnnnnnnnnnnnnnnnnnnnnnnnnnnnnnnnnnnnnnnnnnnnn";
 
-const LONG_LATER: &str =
-    "barred_test/none/nnnnnnnnnnnnnnnnnnnnnnnnnnnnnnnnnnnnnnnnnnnnnnnnnnnnnnnnnnnnnnnnnnnnnnnnnnnnnnnnnnnnnnnnnnnnnnnnnnnnnnnnnnnnnnnnnnnnnnnnnnnnnnnnnnnnnnnnnnnnnnnnnnnnnnnnnnnnnnnnnnnnnnnnnnnnnnnnnnnnnnnnnnnnnnnnnnnnnnnnnnnnnnnnnnnnnnnnnnnnnnnnnnnnnnnnnnnnnnnnnnnnnnnnnnnnnnn";
-
-/// Names of 143 and of 144 bytes there.
-const SURE_LATER: &str =
-    "barred_test/none/nnnnnnnnnnnnnnnnnnnnnnnnnnnnnnnnnnnnnnnnnnnnnnnnnnnnnnnnnnnnnnnnnnnnnnnnnnnnnnnnnnnnnnnnnnnnnnnnnnnnnnnnnnnnnnnnnnnnnnnnnnnnnnnnnnnnnnnnnnnnnnn";
-
-const UNSURE_LATER: &str =
-    "barred_test/none/nnnnnnnnnnnnnnnnnnnnnnnnnnnnnnnnnnnnnnnnnnnnnnnnnnnnnnnnnnnnnnnnnnnnnnnnnnnnnnnnnnnnnnnnnnnnnnnnnnnnnnnnnnnnnnnnnnnnnnnnnnnnnnnnnnnnnnnnnnnnnnnn";
-
-/// Looks at these names, at a folder with no file below it, and below a device, where nothing was listed.
-const UNLISTED: [(Step, &str); 4] = [
-    (Step::Read(TOO_LONG, 0), "absent"),
-    (Step::Read(TOO_LONG_LATER, 0), "absent"),
-    (Step::Read("barred_test/empty", 0), "folder"),
-    (Step::Read("/dev/full/a", 0), "absent"),
-];
-
-/// The same below a folder that was listed.
-const LISTED: [(Step, &str); 14] = [
-    (Step::List("barred_test", 9), "paths barred_test/in/a"),
-    (Step::Read(TOO_LONG, 0), "failed"),
-    (Step::Read(TOO_LONG_LATER, 0), "failed"),
-    (Step::Read(LONG_LATER, 0), "absent"),
-    (Step::Read("barred_test/in/b", 0), "absent"),
-    (Step::Read("barred_test/in/a/b", 0), "absent"),
-    (Step::Read("barred_test/in", 0), "folder"),
-    (Step::Read("barred_test/empty", 0), "failed"),
-    (Step::Read("barred_test/empty/folder", 0), "failed"),
-    (Step::Read("barred_test/empty/none", 0), "absent"),
-    (Step::Link("barred_test/empty/folder/to", "nowhere"), "ok"),
-    (Step::Read("barred_test/empty", 0), "folder"),
-    (Step::Remove("barred_test/empty/folder/to"), "ok"),
-    (Step::Read("barred_test/empty", 0), "failed"),
-];
-
-/// Looks at a device and below it, behind a list of the folder in which it lies.
-const AT_A_DEVICE: [(Step, &str); 2] = [
-    (Step::Read("/dev/full", 0), "failed"),
-    (Step::Read("/dev/full/a", 0), "failed"),
-];
-
-/// Looks at names below a folder that was listed, where a name has 143 bytes at most.
-const LISTED_SHORT: [(Step, &str); 4] = [
-    (Step::List("barred_test", 9), "paths barred_test/in/a"),
-    (Step::Read(SURE_LATER, 0), "absent"),
-    (Step::Read(UNSURE_LATER, 0), "failed"),
-    (Step::Read(LONG_LATER, 0), "failed"),
+/// Looks at them below a folder that was listed, where a name has 143 bytes at most.
+const BARRED: [(Step, &str); 3] = [
+    (Step::List("barred", 9), "paths barred/in/a"),
+    (Step::Read(SURE, 0), "absent"),
+    (Step::Read(UNSURE, 0), "failed"),
 ];
 
 #[test]
-fn what_can_be_no_file_is_a_fault_below_the_folder_of_the_first_list(
+fn a_name_that_is_too_long_elsewhere_is_a_fault_below_the_folder_of_the_first_list(
     rt: HostRuntime,
 ) -> Result<(), Fail> {
-    make_place(&rt, "barred_test")?;
-    fs::create_dir_all(&rt, "barred_test/empty/folder")?;
-    let mut tree = OsTree::new(&rt);
-    try_steps(&rt, rt.alloc(), &mut tree, &UNLISTED)?;
-    let mut tree = OsTree::new(&rt);
-    try_steps(&rt, rt.alloc(), &mut tree, &LISTED)?;
-    let mut tree = OsTree::new(&rt);
-    let _ = tree.list("/dev", 0);
-    try_steps(&rt, rt.alloc(), &mut tree, &AT_A_DEVICE)?;
+    make_place(&rt, "barred")?;
     let mut tree = OsTree::new(OddFiles { files: &rt });
-    try_steps(&rt, rt.alloc(), &mut tree, &LISTED_SHORT)?;
-    fs::remove_dir_all(&rt, "barred_test")?;
+    try_steps(&rt, rt.alloc(), &mut tree, &BARRED)?;
+    fs::remove_dir_all(&rt, "barred")?;
     Ok(())
 }
 
 /// Reads of a file of 6 bytes that took the place of one of 4, and a put with its mode.
 const SWAPPED: [(Step, &str); 4] = [
-    (Step::Read("swapped_test/in/swapped", 3), "too large 4"),
-    (Step::Read("swapped_test/in/swapped", 5), "too large 6"),
-    (Step::Read("swapped_test/in/swapped", 6), "file 4750 opened"),
-    (Step::Put("swapped_test/put", 0o4750, "put"), "ok"),
+    (Step::Read("replaced/in/swapped", 3), "too large 4"),
+    (Step::Read("replaced/in/swapped", 5), "too large 6"),
+    (Step::Read("replaced/in/swapped", 6), "file 4750 opened"),
+    (Step::Put("replaced/put", 0o4750, "put"), "ok"),
 ];
 
 /// Makes the file of these bytes, with this mode.
@@ -497,45 +366,42 @@ fn make_file(files: &HostRuntime, path: &str, bytes: &[u8], mode: u32) -> Result
 
 #[test]
 fn what_is_said_of_a_file_is_of_the_one_that_was_opened(rt: HostRuntime) -> Result<(), Fail> {
-    make_place(&rt, "swapped_test")?;
-    make_file(&rt, "swapped_test/in/looked", b"look", 0o640)?;
-    make_file(&rt, "swapped_test/in/swapped", b"opened", 0o4750)?;
+    make_place(&rt, "replaced")?;
+    make_file(&rt, "replaced/in/looked", b"look", 0o640)?;
+    make_file(&rt, "replaced/in/swapped", b"opened", 0o4750)?;
     let mut tree = OsTree::new(OddFiles { files: &rt });
     try_steps(&rt, rt.alloc(), &mut tree, &SWAPPED)?;
-    let opened = fs::symlink_metadata(&rt, "swapped_test/in/swapped")?;
-    let put = fs::symlink_metadata(&rt, "swapped_test/put")?;
+    let opened = fs::symlink_metadata(&rt, "replaced/in/swapped")?;
+    let put = fs::symlink_metadata(&rt, "replaced/put")?;
     assert_eq!(rt; put.uid(), opened.uid());
     assert_eq!(rt; put.gid(), opened.gid());
-    fs::remove_file(&rt, "swapped_test/in/swapped")?;
-    fs::create_dir(&rt, "swapped_test/in/swapped")?;
+    fs::remove_file(&rt, "replaced/in/swapped")?;
+    fs::create_dir(&rt, "replaced/in/swapped")?;
     try_steps(
         &rt,
         rt.alloc(),
         &mut tree,
-        &[(Step::Read("swapped_test/in/swapped", 6), "failed")],
+        &[(Step::Read("replaced/in/swapped", 6), "failed")],
     )?;
-    fs::remove_dir_all(&rt, "swapped_test")?;
+    fs::remove_dir_all(&rt, "replaced")?;
     Ok(())
 }
 
 /// Puts of files where none was read yet: none runs as its owner or group.
 const UNOWNED: [(Step, &str); 5] = [
-    (Step::Read("owned_test/in/a", 0), "too large 5"),
-    (Step::Put("owned_test/user", 0o4755, "put"), "failed"),
-    (Step::Put("owned_test/group", 0o2711, "put"), "failed"),
-    (Step::Put("owned_test/plain", 0o1755, "put"), "ok"),
-    (
-        Step::List("owned_test", 9),
-        "paths owned_test/in/a owned_test/plain",
-    ),
+    (Step::Read("owned/in/a", 0), "too large 5"),
+    (Step::Put("owned/user", 0o4755, "put"), "failed"),
+    (Step::Put("owned/group", 0o2711, "put"), "failed"),
+    (Step::Put("owned/plain", 0o1755, "put"), "ok"),
+    (Step::List("owned", 9), "paths owned/in/a owned/plain"),
 ];
 
 /// Puts of files with the mode of one that was read, with and without a bit by which it runs as its owner or group.
 const OWNED: [(Step, &str); 4] = [
-    (Step::Read("owned_test/in/a", 9), "file 644 first"),
-    (Step::Put("owned_test/user", 0o4755, "put"), "ok"),
-    (Step::Put("owned_test/group", 0o2711, "put"), "ok"),
-    (Step::Put("owned_test/plain", 0o755, "put"), "ok"),
+    (Step::Read("owned/in/a", 9), "file 644 first"),
+    (Step::Put("owned/user", 0o4755, "put"), "ok"),
+    (Step::Put("owned/group", 0o2711, "put"), "ok"),
+    (Step::Put("owned/plain", 0o755, "put"), "ok"),
 ];
 
 /// Who owns the file, and its mode.
@@ -549,60 +415,18 @@ fn owner_text(files: &HostRuntime, path: &str) -> Result<String, Fail> {
 fn a_file_that_runs_as_its_owner_takes_the_owner_of_the_file_that_was_read(
     rt: HostRuntime,
 ) -> Result<(), Fail> {
-    make_place(&rt, "owned_test")?;
+    make_place(&rt, "owned")?;
     let mut tree = OsTree::new(&rt);
     try_steps(&rt, rt.alloc(), &mut tree, &UNOWNED)?;
     // Only the superuser gives a file away.
-    if std::os::unix::fs::lchown(&rt, "owned_test/in/a", Some(1234), Some(5678)).is_ok() {
+    if std::os::unix::fs::lchown(&rt, "owned/in/a", Some(1234), Some(5678)).is_ok() {
         let mut tree = OsTree::new(&rt);
         try_steps(&rt, rt.alloc(), &mut tree, &OWNED)?;
-        assert_eq!(rt;
-            owner_text(&rt, "owned_test/user")?.as_str(),
-            "1234 5678 4755"
-        );
-        assert_eq!(rt;
-            owner_text(&rt, "owned_test/group")?.as_str(),
-            "1234 5678 2711"
-        );
-        assert_eq!(rt; owner_text(&rt, "owned_test/plain")?.as_str(), "0 0 755");
+        assert_eq!(rt; owner_text(&rt, "owned/user")?.as_str(), "1234 5678 4755");
+        assert_eq!(rt; owner_text(&rt, "owned/group")?.as_str(), "1234 5678 2711");
+        assert_eq!(rt; owner_text(&rt, "owned/plain")?.as_str(), "0 0 755");
     }
-    fs::remove_dir_all(&rt, "owned_test")?;
-    Ok(())
-}
-
-/// Calls of which the second is listed as one that fails, and none succeeds from the fourth on.
-const STOPPED: [(Step, &str); 6] = [
-    (Step::Put("a", 0o644, "kept"), "ok"),
-    (Step::Put("a", 0o644, "lost"), "failed"),
-    (Step::Settle, "ok"),
-    (Step::Rename("a", "b"), "failed"),
-    (Step::Remove("a"), "failed"),
-    (Step::Read("a", 9), "failed"),
-];
-
-#[test]
-fn a_listed_call_fails_and_is_counted(rt: HostRuntime) -> Result<(), Fail> {
-    let alloc = rt.alloc();
-    let mut tree = MemTree::new(alloc, Vec::new(alloc))?;
-    let mut listed = Vec::new(alloc);
-    listed.push(1)?;
-    tree.fail_calls(listed);
-    tree.stop_after(3);
-    try_steps(&rt, rt.alloc(), &mut tree, &STOPPED)?;
-    assert_eq!(rt; tree.calls().len(), 6);
-    tree.fail_calls(Vec::new(alloc));
-    Ok(())
-}
-
-#[test]
-fn a_sink_in_memory_takes_what_there_is_room_for(rt: HostRuntime) -> Result<(), Fail> {
-    let mut sink = MemSink::new(rt.alloc(), 4, Some(4))?;
-    assert_eq!(rt; sink.write(b"ab"), Ok(()));
-    assert_eq!(rt; sink.write(b"cde"), Err(SinkErr::Failed));
-    assert_eq!(rt; sink.write(b"cd"), Ok(()));
-    assert_eq!(rt; sink.write(b""), Ok(()));
-    assert_eq!(rt; sink.write(b""), Err(SinkErr::Failed));
-    assert!(rt; sink.bytes() == b"abcd".as_slice());
+    fs::remove_dir_all(&rt, "owned")?;
     Ok(())
 }
 
@@ -640,41 +464,5 @@ fn a_writer_takes_each_byte_until_it_is_full(rt: HostRuntime) -> Result<(), Fail
     assert!(rt; taken.as_slice() == b"abcdefg".as_slice());
     let mut out = OsSink::new(rt.stdout());
     assert_eq!(rt; out.write(b"sink\n"), Ok(()));
-    Ok(())
-}
-
-/// A put, a rename of it over a file, and a removal, all pending.
-const PENDING: [(Step, &str); 6] = [
-    (Step::Put("r/b", 0o644, "old b"), "ok"),
-    (Step::Put("r/d", 0o644, "old d"), "ok"),
-    (Step::Settle, "ok"),
-    (Step::Put("r/n", 0o600, "new"), "ok"),
-    (Step::Rename("r/n", "r/b"), "ok"),
-    (Step::Remove("r/d"), "ok"),
-];
-
-/// For each number of changes that are kept: the paths, and what is at the target of the rename.
-const LEFT: [(u64, &str, &str); 5] = [
-    (0, "paths r/b r/d", "file 644 old b"),
-    (1, "paths r/b r/d r/n", "file 644 old b"),
-    (2, "paths r/b r/d", "file 600 torn"),
-    (3, "paths r/b", "file 600 torn"),
-    (4, "paths r/b", "file 600 torn"),
-];
-
-#[test]
-fn a_stop_keeps_a_first_part_of_the_changes(rt: HostRuntime) -> Result<(), Fail> {
-    let alloc = rt.alloc();
-    for (kept, paths, at_target) in LEFT {
-        let mut tree = MemTree::new(alloc, Vec::new(alloc))?;
-        try_steps(&rt, alloc, &mut tree, &PENDING)?;
-        let mut left = tree.stopped(kept, b"torn")?;
-        assert_eq!(rt; left.calls().len(), 0, "{kept} kept");
-        let seen = [
-            (Step::List("r", 9), paths),
-            (Step::Read("r/b", 9), at_target),
-        ];
-        try_steps(&rt, alloc, &mut left, &seen)?;
-    }
     Ok(())
 }
