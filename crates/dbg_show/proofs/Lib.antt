@@ -13,7 +13,6 @@ pub mod UnitTextLaws
 pub mod ShownLaws
 pub mod ArenaTextLaws
 pub mod SectionNameLaws
-pub mod UnitRowLaws
 pub mod EntryPrintLaws
 pub mod MacroListLaws
 pub mod MacroLoopLaws

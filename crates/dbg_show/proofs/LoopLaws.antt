@@ -14,7 +14,8 @@ use Rattle.dbg_show.specs.TableLists.{TableLists, listed_row, listed_rows}
 use Rattle.dbg_show.specs.declared.show_err.ShowErr.{ShowErr}
 use Rattle.dbg_show.proofs.PrintingLaws.{goes-start, goes-more, goes-over, goes-cut}
 
-drop-front : {X : Type 0} (xs : List X) (i : ℕ) (d : X) → i < length xs → drop i xs ≡ get_or xs i d ∷ drop (i + 1) xs
+-- one item more of a list
+pub drop-front : {X : Type 0} (xs : List X) (i : ℕ) (d : X) → i < length xs → drop i xs ≡ get_or xs i d ∷ drop (i + 1) xs
 drop-front xs i d lt =
     let next : suc i ≡ i + 1 = omega arith in
     drop-cons xs i d lt ∙ ap (λ (n : ℕ). get_or xs i d ∷ drop n xs) next

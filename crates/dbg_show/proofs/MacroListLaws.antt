@@ -1,5 +1,5 @@
 -- The macro units of a view in one list, with where they start.
-use Rattle.std.proofs.Common.{◌≡◌, ℕ, zero, suc, ◌+◌, ◌<◌, ◌≤◌, List, [], ◌∷◌, ◌++◌, length, get_or, drop, refl, sym, ap, ◌∙◌, subst, arith, append_assoc, append-nil}
+use Rattle.std.proofs.Common.{◌≡◌, ℕ, suc, ◌+◌, ◌<◌, ◌≤◌, List, [], ◌∷◌, ◌++◌, length, get_or, drop, refl, sym, ap, ◌∙◌, subst, arith, append_assoc, append-nil}
 use Rattle.std.proofs.Math.Seq.{drop-cons}
 use Rattle.std.proofs.lemmas.List.{drop_all}
 use Rattle.dw_base.specs.FileViews.{View}
@@ -7,7 +7,6 @@ use Rattle.dw_base.specs.declared.macro_units.MacroUnit.{MacroUnit}
 use Rattle.dw_starts.specs.MacroNames.{AllUnitsIn, AreUnitsIn}
 use Rattle.dw_starts.specs.MacroSections.{SectionUnits}
 use Rattle.dw_starts.specs.UnitPlaces.{AllBelow, all_units, place_key, place_limit, unit_keys}
-use Rattle.dw_macros.specs.MacroEvents.{IsUnitIn}
 use Rattle.dbg_show.specs.ShownMacros.{AreMacros}
 
 -- the units of one section more
@@ -55,11 +54,6 @@ keys-all us i keys end so = sym (append-nil keys) ∙ ap (λ (xs : List MacroUni
 
 pub keys-below : (us : List MacroUnit) (i : ℕ) (keys : List ℕ) → length us ≤ i → KeysOf us i keys → AllBelow us
 keys-below us i keys end so = so.below (subst AllBelow (sym (drop_all i us end)) tt)
-
-pub unit-in : (v : View) (us : List MacroUnit) (i : ℕ) (d : MacroUnit) → AreUnitsIn v us → i < length us → IsUnitIn v (get_or us i d)
-unit-in v [] i d all lt = absurd (omega (arith, lt))
-unit-in v (u ∷ us) zero d all lt = all.0
-unit-in v (u ∷ us) (suc i) d all lt = unit-in v us i d all.1 (omega (arith, lt))
 
 -- the units of all sections are of the view
 in-append : (v : View) (us ws : List MacroUnit) → AreUnitsIn v us → AreUnitsIn v ws → AreUnitsIn v (us ++ ws)

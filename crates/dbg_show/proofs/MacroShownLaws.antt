@@ -4,6 +4,7 @@ use Rattle.std.proofs.lemmas.List.{map-append}
 use Rattle.dw_base.specs.Cells.{CellSection}
 use Rattle.dw_base.specs.DebugData.{Around, DataReadings, around_of, line_source, started_unit}
 use Rattle.dw_base.specs.FileViews.{View}
+use Rattle.dw_base.specs.LineReadings.{table_starts}
 use Rattle.dw_base.specs.LineTables.{LineTable}
 use Rattle.dw_base.specs.MacroMeanings.{brought, MacroMeaning, macro_meanings, macros_behind}
 use Rattle.dw_base.specs.MacroReadings.{MacroReading, ReadsAllMacros, macro_starts}
@@ -15,7 +16,6 @@ use Rattle.dw_meaning.proofs.MacroMeantLaws.{UnitsFrom, units-meant}
 use Rattle.dw_macros.specs.EventMeanings.{event_meaning, unit_meaning}
 use Rattle.dw_macros.specs.MacroEvents.{unit_events}
 use Rattle.dw_macros.proofs.MeaningLaws.{Seen, seen-view, units-mean}
-use Rattle.dw_starts.specs.LineStarts.{TablesStart}
 use Rattle.dw_starts.specs.LineStarts.{Rises}
 use Rattle.dw_starts.specs.MacroNames.{AreUnitsIn}
 use Rattle.dw_starts.specs.MacroSections.{HaveUnits, SectionUnits, UnitsFoundIn}
@@ -91,6 +91,14 @@ units-numbered v ts ss d units keys are section place =
     ∙ ap (λ (us : List MacroUnit). unit_number (unit_keys us) section place) (sym are.units_are)
     ∙ ap (λ (ks : List ℕ). unit_number ks section place) (sym are.keys_are)
 
+-- where line tables start is where those of the readings do, and this rises
+pub lines-start : (v : View) (ts : List LineTable) (ss : List SectionUnits) (d : DataRead v ts ss) (starts : List ℕ) → starts ≡ starts_of ts → starts ≡ table_starts d.readings.lines
+lines-start v ts ss d starts is = is ∙ ap starts_of d.tables ∙ read-starts (line_source (debug_data v)) d.readings.lines
+
+pub lines-rise : (v : View) (ts : List LineTable) (ss : List SectionUnits) (d : DataRead v ts ss) (starts : List ℕ) → starts ≡ starts_of ts → Rises starts
+lines-rise v ts ss d starts is =
+    starts-rise (debug_data v) starts (record { tables = d.readings.lines; are = d.reads.lines; is = lines-start v ts ss d starts is })
+
 pub keys-risen : (v : View) (ss : List SectionUnits) → UnitsFoundIn v ss → (units : List MacroUnit) (keys : List ℕ) → AreMacros v ss units keys → Rises keys
 keys-risen v ss found units keys are = subst Rises (sym (are.keys_are ∙ ap unit_keys are.units_are)) (keys-rise v ss found (subst AllBelow are.units_are are.below))
 
@@ -99,21 +107,15 @@ pub macros-shown : (m : MacroSource) (ts : List LineTable) (ss : List SectionUni
 macros-shown m ts ss d lines are =
     units-same m (around_of (debug_data m.view) d.readings) 0 m.units
     (λ s o. units-numbered m.view ts ss d m.units m.keys are s o)
-    (sym (read-starts (line_source (debug_data m.view)) d.readings.lines) ∙ ap starts_of (sym d.tables) ∙ sym lines)
+    (sym (lines-start m.view ts ss d m.lines lines))
     ∙ ap (λ (us : List MacroUnit). macros_text 0 (map (unit_meaning m.view (around_of (debug_data m.view) d.readings)) us)) are.units_are
     ∙ ap (macros_text 0) (sym (units-all m.view (around_of (debug_data m.view) d.readings) ((debug_data m.view).found Macro) d.readings.macros ss (seen-view m.view d.readings)
     (order-seen m.view d.readings) (all-cells m.view) (numbers-below m.view) d.units.units (reads-order m.view d.readings.macros d.reads.macros)))
 
 -- and what is searched in rises
 pub macros-fit : (m : MacroSource) (ts : List LineTable) (ss : List SectionUnits) (d : DataRead m.view ts ss) → m.lines ≡ starts_of ts → AreMacros m.view ss m.units m.keys → MacrosFit m
-macros-fit m ts ss d lines are =
-    let t : TablesStart (debug_data m.view) m.lines = record {
-      tables = d.readings.lines;
-      are = d.reads.lines;
-      is = lines ∙ ap starts_of d.tables ∙ read-starts (line_source (debug_data m.view)) d.readings.lines;
-    } in
-    record {
-      units = subst (AreUnitsIn m.view) (sym are.units_are) (all-in m.view ss (units-in m.view ss d.units));
-      lines_rise = starts-rise (debug_data m.view) m.lines t;
-      keys_rise = keys-risen m.view ss d.units m.units m.keys are;
-    }
+macros-fit m ts ss d lines are = record {
+  units = subst (AreUnitsIn m.view) (sym are.units_are) (all-in m.view ss (units-in m.view ss d.units));
+  lines_rise = lines-rise m.view ts ss d m.lines lines;
+  keys_rise = keys-risen m.view ss d.units m.units m.keys are;
+}

@@ -14,7 +14,7 @@ use Rattle.dw_base.specs.LineTables.{LineTable}
 use Rattle.dw_base.specs.Refusals.{Blames}
 use Rattle.dw_base.specs.StringOffsets.{AreContributions}
 use Rattle.dw_base.specs.UnitMeanings.{units_of}
-use Rattle.dw_base.specs.ViewData.{debug_data, located, located_at, string_offsets}
+use Rattle.dw_base.specs.ViewData.{debug_data, located, string_offsets}
 use Rattle.dw_base.specs.declared.string_offsets.Contribution.{Contribution}
 use Rattle.dw_base.specs.declared.debug_sections.DebugSection.TheVariants.{Info, Str, LineStr, Line}
 use Rattle.dw_base.specs.declared.fault.Fault.{Fault}
@@ -28,12 +28,13 @@ use Rattle.dw_lines.specs.ViewTables.{tables_read, TablesUpTo, TablesFound}
 use Rattle.dw_base.proofs.FileViewLaws.{section_after-within}
 use Rattle.dw_meaning.proofs.LineOneLaws.{tables-one}
 use Rattle.dw_lines.proofs.ReadingLaws.{source-is}
+use Rattle.dw_lines.proofs.ViewTableLaws.{source-none}
 use Rattle.dw_starts.specs.MacroNames.{AllUnitsIn}
 use Rattle.dw_starts.specs.MacroSections.{SectionUnits}
-use Rattle.dw_read.specs.ReadData.{DataRead, DataRefuses, string_tables}
+use Rattle.dw_read.specs.ReadData.{DataRead, DataRefuses, IsDebugData}
+use Rattle.dw_read.specs.declared.reading.DebugData.{DebugData}
 use Rattle.dw_starts.specs.LineStarts.{starts_of}
 use Rattle.dw_starts.proofs.MacroNameLaws.{units-in}
-use Rattle.dw_base.specs.StringOffsetFails.{ContributionsFail}
 use Rattle.dw_rows.specs.TableRows.{IsTableIn, table_rows}
 use Rattle.dw_rows.proofs.TableLaws.{rows-meant}
 use Rattle.file_tree.specs.Heard.{Heard, grown}
@@ -45,17 +46,16 @@ use Rattle.dbg_show.specs.Rows.{rows_text}
 use Rattle.dbg_show.specs.ShownMacros.{AreMacros, MacroSource, MacrosFit, units_shown}
 use Rattle.dw_attrs.specs.UnitValues.{EntryIndex, UnitSource}
 use Rattle.dw_units.specs.UnitLists.{ListsAll}
-use Rattle.dw_attrs.specs.UnitReads.{AllCanRead, SourceFits}
+use Rattle.dw_attrs.specs.UnitReads.{SourceFits}
 use Rattle.dbg_show.specs.UnitTexts.{units_text}
 use Rattle.dbg_show.specs.ViewSources.{AreSources, all_printed}
 use Rattle.dw_units.specs.declared.listed_unit.ListedUnit.{ListedUnit}
 use Rattle.dbg_show.specs.Shows.{ShowReads, IsShown, ShowRefuses, unreadable, ShowEnds, refused, unread, cut, view_text}
 use Rattle.dbg_show.specs.declared.show_err.ShowErr.{ShowErr}
 use Rattle.dbg_show.specs.declared.show_err.ShowErr.TheVariants as err
-use Rattle.dbg_show.proofs.ExcludeLaws.{show-excludes}
 use Rattle.dbg_show.proofs.MacroShownLaws.{macros-fit, macros-shown}
 use Rattle.dbg_show.proofs.MeaningLaws.{dirs-meant, files-meant}
-use Rattle.dbg_show.proofs.SourceReadLaws.{source-fits, source-text, units-read}
+use Rattle.dbg_show.proofs.SourceReadLaws.{source-fits, source-text}
 use Rattle.dw_base.proofs.ViewCellLaws.{lines-located}
 use Rattle.dbg_show.proofs.PrintingLaws.{goes-start, goes-more, goes-over, goes-cut, printed-then, cut-then}
 
@@ -71,7 +71,7 @@ source-made v order lines str line_str o l s t =
 pub ruleset source_laws = (source-made)
 
 -- the tables of a view
-abbrev own-table : (v : View) (section p : ℕ) (r : LineReading) → section < length v.sections → ReadsTable (view_source v section) p r → IsTableIn v (table_read (view_source v section) r)
+abbrev pub own-table : (v : View) (section p : ℕ) (r : LineReading) → section < length v.sections → ReadsTable (view_source v section) p r → IsTableIn v (table_read (view_source v section) r)
 own-table v section p r there reads = record {
   start = p;
   there = there;
@@ -131,18 +131,14 @@ view-by v section ts there source r = record {
 }
 
 -- a view without a section of line tables
-no-bytes : (v : View) → None ≡ section_named v (name_of Line) → (line_source (debug_data v)).bytes ≡ []
-unfolding located
-no-bytes v none = ap (λ (z : Located). z.bytes) (lines-located v) ∙ ap (λ (o : Option ℕ). (located_at v o).bytes) (sym none)
-
 view-none : (v : View) (ts : List LineTable) → None ≡ section_named v (name_of Line) → TablesFound v ts → TablesMeant v ts
 view-none v ts none f =
-    let empty : length (line_source (debug_data v)).bytes ≡ 0 = ap length (no-bytes v none) in
+    let empty : length (line_source (debug_data v)).bytes ≡ 0 = ap length (source-none v none) in
     let first : [] ≡ f.readings =
     tables-one (line_source (debug_data v)) 0 (length (line_source (debug_data v)).bytes) [] f.readings (sym empty) f.reads in
     subst (TablesMeant v) (sym (f.is ∙ ap (tables_read (line_source (debug_data v))) (sym first))) (record { readings = []; tables = sym empty; each = tt; text = refl })
 
-section-within : (v : View) (section : ℕ) → section_named v (name_of Line) ≡ Some section → section < length v.sections
+pub section-within : (v : View) (section : ℕ) → section_named v (name_of Line) ≡ Some section → section < length v.sections
 unfolding section_named
 section-within v section e = (section_after-within v (name_of Line) 0 section e).1
 
@@ -162,8 +158,6 @@ view-read v ts ss d =
     let same : t.readings ≡ d.readings.lines =
     tables-one (line_source (debug_data v)) 0 (length (line_source (debug_data v)).bytes) t.readings d.readings.lines t.tables d.reads.lines in
     record { read = d; each = t.each; text = t.text ∙ ap (λ (rs : List LineReading). lines_text (line_meanings (line_source (debug_data v)) rs)) same }
-
-pub ruleset view_laws = (view-read)
 
 -- tables are printed one after another
 table-first : (v : View) (g : LineSource) (ts : List LineTable) (i : ℕ) (d : LineTable) → i < length ts
@@ -266,7 +260,7 @@ source_of v us tables index cs_ starts keys =
 abbrev pub macros_of : View → List ℕ → List MacroUnit → List ℕ → MacroSource
 macros_of v lines us keys = record { view = v; lines = lines; units = us; keys = keys }
 
-pub sources-are : (v : View) (us : List ListedUnit) (tables : List (List Abbreviation)) (index : EntryIndex) (cs_ : List Contribution) (starts : List ℕ) (macros : List MacroUnit)
+sources-are : (v : View) (us : List ListedUnit) (tables : List (List Abbreviation)) (index : EntryIndex) (cs_ : List Contribution) (starts : List ℕ) (macros : List MacroUnit)
     (keys : List ℕ) (ts : List LineTable) (ss : List SectionUnits) → ViewTables v ts ss → ListsAll (debug_data v) tables ((debug_data v).found Info) us → IsIndexed v tables us index
     → AreContributions v.order (string_offsets v) cs_ → starts ≡ starts_of ts → AreMacros v ss macros keys
     → AreSources v ts (source_of v us tables index cs_ starts keys) (macros_of v starts macros keys)
@@ -279,38 +273,39 @@ sources-are v us tables index cs_ starts macros keys ts ss t listed indexed are 
   macros = macros-shown (macros_of v starts macros keys) ts ss t.read is list;
 }
 
+-- by the names of the code
+pub data-sources : (v : View) (d : DebugData) (us : List ListedUnit) (tables : List (List Abbreviation)) (index : EntryIndex) (starts : List ℕ) (macros : List MacroUnit)
+    (keys : List ℕ) (ts : List LineTable) → IsDebugData v d → ListsAll (debug_data v) tables ((debug_data v).found Info) us → IsIndexed v tables us index → starts ≡ d.starts.items
+    → ts ≡ d.lines.items → AreMacros v d.macros.items macros keys → AreSources v ts (source_of v us tables index d.contributions starts keys) (macros_of v starts macros keys)
+data-sources v d us tables index starts macros keys ts read listed indexed are same list =
+    sources-are v us tables index d.contributions starts macros keys ts d.macros.items
+    (subst (λ (xs : List LineTable). ViewTables v xs d.macros.items) (sym same) (view-read v d.lines.items d.macros.items read.read)) listed indexed read.contributions
+    (are ∙ read.starts ∙ ap starts_of (sym same)) list
+
 -- the macro units are those of a list that was read
-pub macros-listed : (v : View) (ss : List SectionUnits) (us ws : List MacroUnit) (keys numbers : List ℕ) → us ≡ ws → keys ≡ numbers → AreMacros v ss ws numbers → AreMacros v ss us keys
-macros-listed v ss us ws keys numbers is are list =
-    subst (λ (xs : List MacroUnit). AreMacros v ss xs keys) (sym is) (subst (AreMacros v ss ws) (sym are) list)
+pub macros-listed : (v : View) (slice ss : List SectionUnits) (us ws : List MacroUnit) (keys numbers : List ℕ) → slice ≡ ss → us ≡ ws → keys ≡ numbers
+    → AreMacros v slice ws numbers → AreMacros v ss us keys
+macros-listed v slice ss us ws keys numbers same is are list =
+    subst (λ (xs : List SectionUnits). AreMacros v xs us keys) same
+    (subst (λ (xs : List MacroUnit). AreMacros v slice xs keys) (sym is) (subst (AreMacros v slice ws) (sym are) list))
 
--- and each of them can be read
-pub units-can : (v : View) (ts : List LineTable) (ss : List SectionUnits) (us : List ListedUnit) (tables : List (List Abbreviation)) → ViewTables v ts ss
-    → ListsAll (debug_data v) tables ((debug_data v).found Info) us → AllCanRead v tables us
-units-can v ts ss us tables t listed = units-read v ts ss us tables t.read listed
-
--- the macro units of sections that were read are of the view
-pub tables-units : (v : View) (ts : List LineTable) (ss : List SectionUnits) → ViewTables v ts ss → AllUnitsIn v ss
-tables-units v ts ss t = units-in v ss t.read.units
+-- and those of sections that were read are of the view
+pub data-units : (v : View) (d : DebugData) (slice : List SectionUnits) → IsDebugData v d → slice ≡ d.macros.items → AllUnitsIn v slice
+data-units v d slice read same = subst (AllUnitsIn v) (sym same) (units-in v d.macros.items read.read.units)
 
 pub ends-unread : (v : View) (h : Heard) (x : Fault) (e : ShowErr) → Blames (DataRefuses v) x → e ≡ err.Fault x → ShowEnds v h h e
 ends-unread v h NoMemory e b is = subst (λ (y : ShowErr). ShowEnds v h h y) (sym is) (unread refl)
 ends-unread v h (Refused r) e b is = subst (λ (y : ShowErr). ShowEnds v h h y) (sym is) (refused r (unreadable b) refl)
 
-pub ends-strings : (v : View) (h : Heard) (x : Fault) (e : ShowErr) → Blames (ContributionsFail v.order (string_offsets v)) x → e ≡ err.Fault x → ShowEnds v h h e
-ends-strings v h x e b is = ends-unread v h x e (row x b) is
-  where
-    row : (f : Fault) → Blames (ContributionsFail v.order (string_offsets v)) f → Blames (DataRefuses v) f
-    row NoMemory b = tt
-    row (Refused r) b = string_tables b
-
 pub ends-memory : (v : View) (h : Heard) (e : ShowErr) → e ≡ err.Fault NoMemory → ShowEnds v h h e
 ends-memory v h e is = subst (λ (y : ShowErr). ShowEnds v h h y) (sym is) (unread refl)
 
 -- a view that was read is refused by no row
-pub none-refuses : {X E : Type 0} (x : Result X E) (v : View) (ts : List LineTable) (ss : List SectionUnits) → ViewTables v ts ss
-    → OnOk x ((r : Refusal) → ShowRefuses v r → ⊥)
-none-refuses (Ok y) v ts ss t = λ r row. show-excludes v r (reads-of v ts ss t) row
-none-refuses (Err e) v ts ss t = tt
+none-row : (v : View) (r : Refusal) → ((r : Refusal) → DataRefuses v r → ⊥) → ShowRefuses v r → ⊥
+none-row v r none (unreadable f) = none r f
 
-pub ruleset show_laws = (ends-unread, ends-strings, ends-memory)
+pub none-refuses : {X E : Type 0} (x : Result X E) (v : View) → ((r : Refusal) → DataRefuses v r → ⊥) → OnOk x ((r : Refusal) → ShowRefuses v r → ⊥)
+none-refuses (Ok y) v none = λ r row. none-row v r none row
+none-refuses (Err e) v none = tt
+
+pub ruleset show_laws = (ends-unread, ends-memory)

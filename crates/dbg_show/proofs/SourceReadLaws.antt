@@ -2,7 +2,6 @@
 use Rattle.std.proofs.Common.{◌≡◌, ℕ, List, [], ◌∷◌, length, refl, sym, ap, ◌∙◌, subst}
 use Rattle.dw_base.specs.AbbreviationTables.{Abbreviation}
 use Rattle.dw_base.specs.Cells.{Located, bytes_of}
-use Rattle.dw_base.specs.DebugData.{line_source}
 use Rattle.dw_base.specs.FileViews.{View}
 use Rattle.dw_base.specs.LineTables.{LineTable}
 use Rattle.dw_base.specs.StringOffsets.{AreContributions, ContributionsUpTo}
@@ -17,12 +16,9 @@ use Rattle.dw_base.specs.declared.macro_units.MacroUnit.{MacroUnit}
 use Rattle.dw_base.specs.declared.shared.Order.{Order}
 use Rattle.dw_base.specs.declared.string_offsets.Contribution.{Contribution}
 use Rattle.dw_meaning.proofs.MacroFirstLaws.{first-macros}
-use Rattle.dw_starts.specs.LineStarts.{TablesStart}
 use Rattle.dw_starts.specs.MacroSections.{SectionUnits}
 use Rattle.dw_read.specs.ReadData.{DataRead}
 use Rattle.dw_starts.specs.LineStarts.{starts_of}
-use Rattle.dw_starts.proofs.StartSearchLaws.{starts-rise}
-use Rattle.dw_starts.proofs.TableStartLaws.{read-starts}
 use Rattle.dw_attrs.specs.EntryIndexes.{IsIndexed}
 use Rattle.dbg_show.specs.ShownMacros.{AreMacros}
 use Rattle.dw_attrs.specs.UnitValues.{UnitSource, first_macro}
@@ -34,7 +30,7 @@ use Rattle.dw_units.specs.declared.listed_unit.ListedUnit.{ListedUnit}
 use Rattle.dw_attrs.proofs.AllRunLaws.{EachUnit, all-hold}
 use Rattle.dw_attrs.proofs.IndexListLaws.{stand-apart}
 use Rattle.dw_attrs.proofs.InfoLaws.{info-is}
-use Rattle.dbg_show.proofs.MacroShownLaws.{keys-risen, units-numbered}
+use Rattle.dbg_show.proofs.MacroShownLaws.{keys-risen, lines-rise, lines-start, units-numbered}
 use Rattle.dw_attrs.proofs.UnitFactLaws.{unit-reads}
 use Rattle.dw_attrs.proofs.AroundLaws.{SourceIs}
 use Rattle.dbg_show.proofs.UnitTextLaws.{units-shown}
@@ -71,7 +67,7 @@ source-is g ts ss d macros listed are starts list = record {
   units = d.reads.units;
   offsets = d.reads.offsets;
   contributions = contributions-read g.view d.readings.offsets g.contributions d.reads.offsets are;
-  starts = sym (read-starts (line_source (debug_data g.view)) d.readings.lines) ∙ ap starts_of (sym d.tables) ∙ sym starts;
+  starts = sym (lines-start g.view ts ss d g.starts starts);
   macros = λ section place. units-numbered g.view ts ss d macros g.keys list section place;
   first = first-is g.view;
   info = info-is g.view;
@@ -91,19 +87,13 @@ units-read v ts ss us tables d listed =
 pub source-fits : (g : UnitSource) (ts : List LineTable) (ss : List SectionUnits) (d : DataRead g.view ts ss) (macros : List MacroUnit)
     → ListsAll (debug_data g.view) g.tables ((debug_data g.view).found Info) g.units
     → g.starts ≡ starts_of ts → IsIndexed g.view g.tables g.units g.index → AreMacros g.view ss macros g.keys → SourceFits g
-source-fits g ts ss d macros listed starts indexed list =
-    let t : TablesStart (debug_data g.view) g.starts = record {
-      tables = d.readings.lines;
-      are = d.reads.lines;
-      is = starts ∙ ap starts_of d.tables ∙ read-starts (line_source (debug_data g.view)) d.readings.lines;
-    } in
-    record {
-      units = units-read g.view ts ss g.units g.tables d listed;
-      index = indexed;
-      apart = stand-apart g.view g.tables g.units listed;
-      rises = starts-rise (debug_data g.view) g.starts t;
-      keys_rise = keys-risen g.view ss d.units macros g.keys list;
-    }
+source-fits g ts ss d macros listed starts indexed list = record {
+  units = units-read g.view ts ss g.units g.tables d listed;
+  index = indexed;
+  apart = stand-apart g.view g.tables g.units listed;
+  rises = lines-rise g.view ts ss d g.starts starts;
+  keys_rise = keys-risen g.view ss d.units macros g.keys list;
+}
 
 -- so what is printed is the text of what units mean
 pub source-text : (g : UnitSource) (ts : List LineTable) (ss : List SectionUnits) (d : DataRead g.view ts ss) (macros : List MacroUnit)

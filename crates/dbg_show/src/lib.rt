@@ -24,7 +24,6 @@ mod macro_source;
 mod macro_texts;
 mod printing;
 mod quoting;
-mod reading;
 mod row_texts;
 mod show_err;
 mod source;

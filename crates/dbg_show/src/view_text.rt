@@ -5,31 +5,33 @@ ghost use Rattle.std.specs.String.{string_bytes};
 ghost use Rattle.dw_base.specs.DebugData.{line_source};
 ghost use Rattle.dw_base.specs.LineMeanings.{dir_texts, file_texts};
 ghost use Rattle.dw_base.specs.ViewData.{debug_data};
+ghost use Rattle.dw_base.specs.declared.debug_sections.DebugSection.TheVariants.{Info};
 ghost use Rattle.dw_base.specs.declared.fault.Refusal.{Refusal as RefusalOf};
+ghost use Rattle.dw_read.specs.ReadData.{IsDebugData};
 ghost use Rattle.dw_rows.specs.TableRows.{IsTableIn, rows_left, table_rows};
 ghost use Rattle.dbg_show.specs.LineTexts.{dirs_text, files_text, first_number};
 ghost use Rattle.dbg_show.specs.Printing.{Cut, Printed};
-ghost use Rattle.dbg_show.specs.ReadTables.{AllIn, ViewTables, all_read, lists_of, read_text};
+ghost use Rattle.dbg_show.specs.ReadTables.{AllIn, all_read, lists_of, read_text};
 ghost use Rattle.dbg_show.specs.Rows.{rows_text};
 ghost use Rattle.dbg_show.specs.Shows.{IsShown, ShowEnds, ShowRefuses};
 ghost use Rattle.dbg_show.specs.ShownMacros.{MacrosFit, units_shown};
 ghost use Rattle.dbg_show.specs.TableLists.{listed_rows};
 ghost use Rattle.dw_attrs.specs.UnitReads.{SourceFits};
+ghost use Rattle.dw_units.specs.UnitLists.{ListsAll};
 ghost use Rattle.dbg_show.specs.ViewSources.{AreSources, all_printed};
 
 use crate::lists::TableLists;
 use crate::macro_lines::print_macros;
 use crate::macro_source::{MacroSource, macro_list};
 use crate::printing::write_all;
-use crate::reading::{listed_units, read_tables};
 use crate::show_err::ShowErr;
 use crate::source::{LineSource, line_source};
 use crate::table_lines::{print_dirs, print_files, print_row, print_start};
 use crate::unit_lines::print_units;
 use dw_attrs::{EntryIndex, UnitSource};
-use dw_offsets::contributions;
+use dw_read::{DebugData, read_data};
 use dw_rows::{LineTable, Rows};
-use dw_starts::{MacroSection, starts_of};
+use dw_units::Units;
 use dw_view::View;
 use file_tree::Sink;
 use std::alloc::Global;
@@ -226,31 +228,29 @@ fn write_shown<O: Sink>(
     }
 }
 
-/// Writes the text of a view whose line tables and macro units were read.
+/// Writes the text of a view whose debug data were read.
 #[tactic(auto, using(crate::proofs::ReadLaws::show_laws))]
-fn show_tables<O: Sink>(
+fn show_data<'v, O: Sink>(
     alloc: Global,
-    view: &View,
-    tables: &[LineTable],
-    macros: &[MacroSection],
+    view: &'v View,
+    units: &Units<'v>,
+    data: &DebugData,
     out: &mut O,
 ) -> Result<(), ShowErr>
-    requires read { ViewTables view.now tables.now macros.now }
+    requires units { ListsAll (debug_data view.now) units.now.tables ((debug_data view.now).found Info) units.now.units }
+    requires data { IsDebugData view.now data.now }
     ensures shown { OnOk result (IsShown view.now (O.heard out.old) (O.heard out.new)) }
     ensures ends { IfErr result (ShowEnds view.now (O.heard out.old) (O.heard out.new)) }
 {
-    let list = listed_units(alloc, view)?;
-    let index = EntryIndex::read(alloc, view, &list)?;
-    let contributions = contributions(alloc, view)?;
-    let starts = starts_of(alloc, tables)?;
-    let found = macro_list(alloc, view, macros)?;
-    let lines = starts.as_slice();
+    let index = EntryIndex::read(alloc, view, units)?;
+    let found = macro_list(alloc, view, data.macros.as_slice())?;
+    let lines = data.starts.as_slice();
     let keys = found.keys.as_slice();
     let source = UnitSource {
         view,
-        list: &list,
+        list: units,
         index: &index,
-        contributions: &contributions,
+        contributions: &data.contributions,
         starts: lines,
         keys,
     };
@@ -260,6 +260,7 @@ fn show_tables<O: Sink>(
         units: found.units.as_slice(),
         keys,
     };
+    let tables = data.lines.as_slice();
     write_shown(alloc, view, &source, tables, &macro_source, out)
 }
 
@@ -274,12 +275,6 @@ pub fn show<O: Sink>(alloc: Global, view: &View, out: &mut O) -> Result<(), Show
     ensures none { OnOk result ((r : RefusalOf) → ShowRefuses view.now r → ⊥) }
     ensures ends { IfErr result (ShowEnds view.now (O.heard out.old) (O.heard out.new)) }
 {
-    let tables = read_tables(alloc, view)?;
-    show_tables(
-        alloc,
-        view,
-        tables.lines.as_slice(),
-        tables.macros.as_slice(),
-        out,
-    )
+    let (units, data) = read_data(alloc, view)?;
+    show_data(alloc, view, &units, &data, out)
 }

@@ -1,6 +1,7 @@
 -- No unit yet, one more, and all.
 use Rattle.std.proofs.Common.{List, ℕ, subst, sym}
-use Rattle.dbg_show.proofs.MacroListLaws.{KeysOf, keys-all, keys-below, keys-more, keys-start, unit-in}
+use Rattle.dbg_show.proofs.MacroListLaws.{KeysOf, keys-all, keys-below, keys-more, keys-start}
+use Rattle.dbg_show.proofs.MacroLoopLaws.{unit-in}
 use Rattle.dbg_show.proofs.macro_source.unit_keys.Goals as goal
 
 pub loop-unit-init : goal.loop-unit-init
