@@ -1,5 +1,5 @@
 -- Counting one after another: what was counted, and what is left.
-use Rattle.std.proofs.Common.{◌≡◌, ℕ, zero, suc, ◌+◌, ◌<◌, ◌≤◌, ◌^◌, List, [], ◌∷◌, ◌++◌, length, drop, drop-cons, get_or, Some, refl, sym, ap, ◌∙◌, subst, arith, length-append}
+use Rattle.std.proofs.Common.{◌≡◌, ℕ, ◌+◌, ◌<◌, ◌≤◌, ◌^◌, List, [], ◌∷◌, ◌++◌, length, drop, get_or, Some, sym, ap, ◌∙◌, subst, arith, length-append}
 use Rattle.std.proofs.lemmas.List.{drop_all}
 use Rattle.dw_base.specs.AbbreviationTables.{Abbreviation}
 use Rattle.dw_base.specs.FileViews.{View}
@@ -13,6 +13,7 @@ use Rattle.dw_rows.specs.TableRows.{IsTableIn, table_rows}
 use Rattle.dw_units.specs.UnitLists.{IsTableOf, Units}
 use Rattle.dw_units.specs.declared.listed_unit.ListedUnit.{ListedUnit}
 use Rattle.dw_units.proofs.UnitTableLaws.{unit-table}
+use Rattle.dbg_show.proofs.LoopLaws.{drop-front}
 use Rattle.dbg_show.specs.ReadTables.{AllIn}
 use Rattle.dw_attrs.specs.UnitValues.{unit_bytes, unit_entries}
 use Rattle.dw_attrs.proofs.EntryListLaws.{Fronts, PassAt, pass-ends, pass-front}
@@ -40,11 +41,6 @@ pass-counted v h table s u number p g = p.count ∙ ap length (sym (pass-ends h 
 pub listed-counted : (v : View) (us : Units) (n : ℕ) (u : ListedUnit) (t s : List Abbreviation) → IsTableOf us n t → item_at us.units n ≡ Some u → s ≡ t
     → length (unit_entries u.header s (unit_bytes v u.header)) ≡ tabled_count v u.header (item_at us.tables u.table)
 listed-counted v us n u t s of there same = ap (tabled_count v u.header) (sym (unit-table us n u t s of there same))
-
-drop-front : {X : Type 0} (xs : List X) (i : ℕ) (d : X) → i < length xs → drop i xs ≡ get_or xs i d ∷ drop (i + 1) xs
-drop-front xs i d lt =
-    let next : suc i ≡ i + 1 = omega arith in
-    drop-cons xs i d lt ∙ ap (λ (n : ℕ). get_or xs i d ∷ drop n xs) next
 
 -- units one after another
 pub entries-one : (v : View) (tables : List (List Abbreviation)) (us : List ListedUnit) (i : ℕ) (d : ListedUnit) → i < length us
@@ -103,10 +99,6 @@ tables-start v ts = omega arith
 pub tables-more : (v : View) (ts : List LineTable) (i count one total : ℕ) (d : LineTable) → count + rows_listed v (drop i ts) ≡ total → i < length ts
     → one ≡ length (table_rows v (get_or ts i d)) → count + one + rows_listed v (drop (i + 1) ts) ≡ total
 tables-more v ts i count one total d left lt is = omega (arith, left, is, tables-one v ts i d lt)
-
-pub tables-few : (v : View) (ts : List LineTable) (i count total : ℕ) (d : LineTable) → count + rows_listed v (drop i ts) ≡ total → i < length ts
-    → count + length (table_rows v (get_or ts i d)) ≤ total
-tables-few v ts i count total d left lt = omega (arith, left, tables-one v ts i d lt)
 
 pub tables-over : (v : View) (ts : List LineTable) (i count total : ℕ) → count + rows_listed v (drop i ts) ≡ total → length ts ≤ i → count ≡ total
 tables-over v ts i count total left past =

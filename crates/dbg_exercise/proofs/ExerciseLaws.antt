@@ -1,15 +1,15 @@
 -- A generated file is taken, and what its output means can be counted.
-use Rattle.std.proofs.Common.{◌≡◌, ℕ, zero, suc, ◌+◌, ◌*◌, ◌<◌, ◌≤◌, ◌^◌, List, length, slice_index, refl, sym, ap, ◌∙◌, subst, arith}
+use Rattle.std.proofs.Common.{◌≡◌, ℕ, zero, suc, ◌+◌, ◌*◌, ◌<◌, ◌≤◌, ◌^◌, List, length, sym, ap, ◌∙◌, subst, arith}
 use Rattle.dw_base.specs.Layout.{output_limit}
 use Rattle.dw_base.specs.Paths.{PathMap}
 use Rattle.dw_base.specs.ViewData.{Meaning, mapped}
 use Rattle.dw_base.proofs.ListLaws.{get_or-tabulate}
 use Rattle.dw_meaning.specs.EditRows.{IsAccepted}
 use Rattle.dw_meaning.specs.FileMeanings.{IsOutput, Means, MeaningKept}
-use Rattle.dbg_gen.specs.GeneratedFiles.{file_of_counts, generated}
+use Rattle.dbg_gen.specs.GeneratedFiles.{generated}
 use Rattle.dbg_gen.specs.VariableCounts.{variable_count, variable_counts}
 use Rattle.dbg_gen.proofs.SizeLaws.{file-small}
-use Rattle.gen_laws.specs.Counts.{entries_counted, rows_counted, variables_counted}
+use Rattle.gen_laws.specs.Counts.{variables_counted}
 use Rattle.gen_laws.proofs.AcceptedLaws.{generated-accepted}
 use Rattle.gen_laws.proofs.CountedLaws.{HasCounts, generated-counted}
 use Rattle.gen_laws.proofs.VariableLaws.{counts-few, length-counts}

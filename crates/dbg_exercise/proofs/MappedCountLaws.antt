@@ -1,5 +1,5 @@
 -- A map changes texts, and neither how many units and entries there are nor how many rows.
-use Rattle.std.proofs.Common.{◌≡◌, ℕ, suc, ◌+◌, List, [], ◌∷◌, length, map, refl, ap, arith}
+use Rattle.std.proofs.Common.{◌≡◌, suc, ◌+◌, List, [], ◌∷◌, length, map, refl, ap, arith}
 use Rattle.dw_base.specs.Forests.{Forest, no_entries, entry}
 use Rattle.dw_base.specs.LineMeanings.{LineMeaning, ShownRow, mapped_lines, mapped_row}
 use Rattle.dw_base.specs.MappedUnits.{mapped_forest, mapped_units}

@@ -1,9 +1,9 @@
 -- How many units begin and how many entries open among the marks of pieces: as many as there are in the units that the marks spell.
-use Rattle.std.proofs.Common.{◌≡◌, ℕ, zero, suc, ◌+◌, true, false, List, [], ◌∷◌, ◌++◌, length, refl, sym, ap, ◌∙◌, arith, length-append}
+use Rattle.std.proofs.Common.{◌≡◌, ℕ, ◌+◌, true, false, List, [], ◌∷◌, ◌++◌, length, refl, ap, ◌∙◌, arith, length-append}
 use Rattle.dw_base.specs.DebugData.{Around}
 use Rattle.dw_base.specs.Forests.{AttributeMeaning, Forest, no_entries, entry, Mark, begins, opens, attribute, null, no_mark, HasAttributes, no_attributes, form_first, one_more, Spells, no_marks, padding, lone, parent, SpellsChildren, closed, lone_child, parent_child}
 use Rattle.dw_base.specs.Pieces.{Piece}
-use Rattle.dw_base.specs.Readings.{Reading, Readings}
+use Rattle.dw_base.specs.Readings.{Readings}
 use Rattle.dw_base.specs.UnitMeanings.{UnitMeaning, mark_of}
 use Rattle.dw_base.specs.UnitStates.{UnitState}
 use Rattle.dw_meaning.specs.PieceRuns.{all_of}

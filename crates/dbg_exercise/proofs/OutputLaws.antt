@@ -1,6 +1,5 @@
 -- A file that an edit takes isn't refused, and its output is within the limit; and the map of an exercise is one.
 use Rattle.std.proofs.Common.{true, ◌≡◌, ℕ, ◌≤◌, List, [], ◌∷◌, length, refl, sym, ap, ◌∙◌, subst}
-use Rattle.dw_base.specs.DebugData.{DataReadings}
 use Rattle.dw_base.specs.Layout.{output_limit}
 use Rattle.dw_base.specs.Paths.{IsPathMap, PathMap, is_prefix, path_map}
 use Rattle.dw_base.specs.Refusals.{Blames}

@@ -1,5 +1,5 @@
 -- A file that can be read is read: none of the conditions holds that refuse it; and its counts are those of what it means.
-use Rattle.std.proofs.Common.{◌≡◌, ℕ, ◌<◌, ◌^◌, List, length, refl, sym, ap, ◌∙◌, subst, arith}
+use Rattle.std.proofs.Common.{◌≡◌, ℕ, ◌<◌, ◌^◌, List, length, sym, ap, ◌∙◌, subst, arith}
 use Rattle.dw_base.specs.AbbreviationTables.{Abbreviation}
 use Rattle.dw_base.specs.DebugData.{DataReadings, line_source}
 use Rattle.dw_base.specs.ElfFails.{ElfFails, ElfReads}
@@ -20,13 +20,12 @@ use Rattle.dw_read.specs.ReadData.{DataRead, DataRefuses}
 use Rattle.dw_read.proofs.ReadDataLaws.{data_read-excludes}
 use Rattle.dw_meaning.specs.FileMeanings.{Means, ViewMeans}
 use Rattle.dw_meaning.proofs.DataOneLaws.{data-one}
-use Rattle.dw_units.specs.UnitLists.{ListsAll, UnitListFails}
+use Rattle.dw_units.specs.UnitLists.{ListsAll}
 use Rattle.dw_units.specs.declared.listed_unit.ListedUnit.{ListedUnit}
 use Rattle.dbg_show.specs.ReadTables.{AllIn}
 use Rattle.dw_attrs.specs.UnitReads.{AllCanRead}
 use Rattle.dbg_show.proofs.ReadLaws.{view-read}
 use Rattle.dbg_show.proofs.SourceReadLaws.{units-read}
-use Rattle.dbg_show.proofs.UnitRowLaws.{list-row}
 use Rattle.gen_laws.specs.Counts.{entries_counted, rows_counted, rows_in, units_counted}
 use Rattle.dbg_exercise.specs.ViewCounts.{AreCounts, IsCountable, IsCountableFile, entries_listed, rows_listed}
 use Rattle.dbg_exercise.specs.declared.counts.Counts.{Counts}
@@ -37,9 +36,6 @@ use Rattle.dbg_exercise.proofs.UnitCountLaws.{entries-counted, units-counted}
 pub data-taken : (v : View) (f : Fault) (r : Refusal) → Blames (DataRefuses v) f → f ≡ Refused r → IsCountable v → ⊥
 data-taken v f r blamed is c =
     data_read-excludes v c.means.readings r c.means.reads c.relocations (subst (λ (x : Fault). Blames (DataRefuses v) x) is blamed)
-
-pub list-taken : (v : View) (f : Fault) (r : Refusal) → Blames (UnitListFails (debug_data v)) f → f ≡ Refused r → IsCountable v → ⊥
-list-taken v f r blamed is c = data-taken v f r (list-row v f blamed) is c
 
 -- the records and the sections of a file
 pub records-taken : (b : List ℕ) (f : Fault) (r : Refusal) → Blames (ElfFails b) f → f ≡ Refused r → ElfReads b → ⊥
@@ -125,6 +121,6 @@ pub file-said : (b own : List ℕ) (v : View) (c : Counts) → own ≡ b → v �
     → AreCounts x c
 file-said b own v c same is each x m = each x (subst (λ (w : View). ViewMeans w x) (sym (is ∙ ap view_of same)) (file-means b x m))
 
-pub ruleset data_laws = (data-taken, list-taken)
+pub ruleset data_laws = (data-taken)
 
 pub ruleset file_laws = (records-taken, sections-taken, file-reads, elf-views, view-countable)

@@ -10,8 +10,6 @@ use Rattle.dw_base.specs.FileViews.{View}
 use Rattle.dw_base.specs.Forests.Mark.{null as null_mark}
 use Rattle.dw_base.specs.Forms.{ValueKind, number_of, leb_number, signed_leb, block_of, counted, counted_leb, inline_text, text_offset, present, in_abbreviation, form_in_front, supplementary, unlisted, kind_in}
 use Rattle.dw_base.specs.LineMeanings.{item_at}
-use Rattle.dw_base.specs.Pieces.{Piece}
-use Rattle.dw_base.specs.Readings.{Readings}
 use Rattle.dw_base.specs.UnitHeaders.{UnitBase, unit_header}
 use Rattle.dw_base.specs.UnitMeanings.{UnitMeaning, code_mark, entry_mark, head_mark, value_mark}
 use Rattle.dw_base.specs.UnitPieces.{unit_grammar}

@@ -6,7 +6,6 @@ use Rattle.dw_base.specs.ViewData.{Meaning}
 use Rattle.dw_meaning.specs.FileMeanings.{IsOutput, Means}
 use Rattle.dbg_gen.specs.GeneratedFiles.{generated}
 use Rattle.dbg_exercise.specs.ViewCounts.{AreCounts}
-use Rattle.dbg_exercise.specs.declared.counts.Counts.{Counts}
 use Rattle.dbg_exercise.specs.declared.summary.Summary.{Summary}
 
 -- the map of an exercise: from the directory in which all units of a generated file were compiled

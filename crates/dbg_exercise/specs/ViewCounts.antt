@@ -1,7 +1,7 @@
 -- How many units, entries and rows there are, by what debug data mean and by what is read of a view (DWARF 5, 7.5.2, 7.5.3 and 6.2.2).
 use Rattle.std.specs.Prelude.{◌≡◌, ℕ, ◌+◌, ◌<◌, ◌^◌, List, [], ◌∷◌, length, Option, Some, None}
 use Rattle.dw_base.specs.AbbreviationTables.{Abbreviation}
-use Rattle.dw_base.specs.FileViews.{View, view_of}
+use Rattle.dw_base.specs.FileViews.{View}
 use Rattle.dw_base.specs.LineMeanings.{item_at}
 use Rattle.dw_base.specs.LineTables.{LineTable}
 use Rattle.dw_base.specs.RelocationRows.{moving_sections}

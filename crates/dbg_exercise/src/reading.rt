@@ -7,7 +7,7 @@ ghost use Rattle.dw_base.specs.Layout.{output_limit};
 ghost use Rattle.dw_base.specs.ViewData.{Meaning, debug_data};
 ghost use Rattle.dw_base.specs.ViewFails.{ViewReads};
 ghost use Rattle.dw_base.specs.declared.debug_sections.DebugSection.TheVariants.{Info};
-ghost use Rattle.dw_read.specs.ReadData.{DataRead};
+ghost use Rattle.dw_read.specs.ReadData.{IsDebugData};
 ghost use Rattle.dw_meaning.specs.FileMeanings.{Means, ViewMeans};
 ghost use Rattle.dw_units.specs.UnitLists.{ListsAll};
 ghost use Rattle.dbg_exercise.specs.ViewCounts.{AreCounts, IsCountableFile, IsCountable};
@@ -15,33 +15,21 @@ ghost use Rattle.dbg_exercise.specs.ViewCounts.{AreCounts, IsCountableFile, IsCo
 use crate::counting::{entry_count, row_count};
 use crate::counts::Counts;
 use dw_base::{Fault, NoMemory};
-use dw_read::{ReadTables, read_data};
-use dw_units::{Units, read_units};
+use dw_read::{DebugData, read_data};
+use dw_units::Units;
 use dw_view::View;
 use elf_file::ElfFile;
 use std::alloc::Global;
 
-/// The line tables and the macro units of a view whose debug data can be read.
+/// The units of a view whose debug data can be read, with their tables of abbreviations, and all else of these.
 #[tactic(auto, using(crate::proofs::ReadingLaws::data_laws))]
-fn tables_in(alloc: Global, view: &View) -> Result<ReadTables, NoMemory>
+fn data_in<'v>(alloc: Global, view: &'v View) -> Result<(Units<'v>, DebugData), NoMemory>
     requires countable { IsCountable view.now }
-    ensures read { IfOk result (λ tables. DataRead view.now tables.lines.items tables.macros.items) }
+    ensures units { IfOk result (λ r. ListsAll (debug_data view.now) r.0.tables ((debug_data view.now).found Info) r.0.units) }
+    ensures data { IfOk result (λ r. IsDebugData view.now r.1) }
 {
     match read_data(alloc, view) {
-        Ok(tables) => Ok(tables),
-        Err(Fault::NoMemory) => Err(NoMemory),
-        Err(Fault::Refused(_)) => unreachable!(),
-    }
-}
-
-/// Its units, with their tables of abbreviations.
-#[tactic(auto, using(crate::proofs::ReadingLaws::data_laws))]
-fn units_in<'v>(alloc: Global, view: &'v View) -> Result<Units<'v>, NoMemory>
-    requires countable { IsCountable view.now }
-    ensures read { IfOk result (λ units. ListsAll (debug_data view.now) units.tables ((debug_data view.now).found Info) units.units) }
-{
-    match read_units(alloc, view) {
-        Ok(units) => Ok(units),
+        Ok(read) => Ok(read),
         Err(Fault::NoMemory) => Err(NoMemory),
         Err(Fault::Refused(_)) => unreachable!(),
     }
@@ -52,10 +40,9 @@ fn view_counts(alloc: Global, view: &View) -> Result<Counts, NoMemory>
     requires countable { IsCountable view.now }
     ensures counts { IfOk result (λ c. (x : Meaning) → ViewMeans view.now x → AreCounts x c) }
 {
-    let tables = tables_in(alloc, view)?;
-    let units = units_in(alloc, view)?;
+    let (units, data) = data_in(alloc, view)?;
     let entries = entry_count(alloc, view, &units, units.all())?;
-    let rows = row_count(view, tables.lines.as_slice());
+    let rows = row_count(view, data.lines.as_slice());
     Ok(Counts {
         units: units.all().len() as u64,
         entries,
