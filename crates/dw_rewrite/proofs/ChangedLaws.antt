@@ -22,6 +22,9 @@ field_front fields d i lt =
     let next : suc i ≡ i + 1 = omega arith in
     drop-cons fields i d lt ∙ ap (λ (n : ℕ). get_or fields i d ∷ drop n fields) next
 
+pub field_next : (fields : List OffsetField) (i : ℕ) (f : OffsetField) → i < length fields → f ≡ get_or fields i f → drop i fields ≡ f ∷ drop (i + 1) fields
+field_next fields i f lt is = field_front fields f i lt ∙ ap (λ (g : OffsetField). g ∷ drop (i + 1) fields) (sym is)
+
 -- one more text at the end of the list
 length-with_text : (ts : List (List ℕ)) (t : List ℕ) → length (laid_texts ts) ≤ length (laid_texts (with_text ts t))
 length-with_text ts t = by_in (is_in ts t)
@@ -42,7 +45,7 @@ pub texts_step : (m : PathMap) (s : FieldSource) (ts : List (List ℕ)) (fields 
     → i < length fields → f ≡ get_or fields i f
     → texts_at m s (with_mention m ts (field_mention s f)) (drop (i + 1) fields) ≡ texts_at m s ts (drop i fields)
 texts_step m s ts fields i f lt is =
-    sym (ap (texts_at m s ts) (field_front fields f i lt ∙ ap (λ (g : OffsetField). g ∷ drop (i + 1) fields) (sym is)))
+    sym (ap (texts_at m s ts) (field_next fields i f lt is))
 
 -- a table that is too long at a field is too long at the end
 pub refused_at : (m : PathMap) (s : FieldSource) (ts first : List (List ℕ)) (fields : List OffsetField) (i : ℕ) (f : OffsetField) (fault : Fault)

@@ -2,7 +2,6 @@
 use Rattle.std.proofs.Common.{Bool, true, false, ◌≡◌, ◌≢◌, ℕ, ◌<◌, ◌≤◌, List, ◌∷◌, ◌++◌, length, if◌then◌else◌, Option, sym, ap, ◌∙◌, refl, subst, arith}
 use Rattle.std.specs.Prelude.{slice_index}
 use Rattle.std.proofs.lemmas.Bool.{true≢false}
-use Rattle.dw_lines.specs.ViewTables.{TablesFound}
 use Rattle.dw_meaning.specs.DataOutput.{Body, DataReads, changes_of, new_bodies, new_lines}
 use Rattle.dw_base.specs.DebugData.{Around, DataReadings, DebugData, around_of, line_source, table_of}
 use Rattle.dw_base.specs.Cells.{CellSection}
@@ -49,7 +48,6 @@ use Rattle.dw_base.specs.declared.fault.Fault.TheVariants.{NoMemory, Refused}
 use Rattle.dw_base.specs.declared.fault.Kind.TheVariants.{Fixed, TooLarge}
 use Rattle.dw_base.specs.declared.fault.Refusal.{Refusal}
 use Rattle.dw_base.specs.declared.line_tables.LineText.{LineText}
-use Rattle.dw_meaning.specs.DataFails.{LinesFail}
 use Rattle.dw_meaning.proofs.DataOneLaws.{data-one}
 use Rattle.dw_meaning.proofs.EditRowLaws.{edit-excludes}
 use Rattle.dw_meaning.proofs.FileBackLaws.{build_id-back, is_read_name}
@@ -62,15 +60,16 @@ use Rattle.dw_base.proofs.SectionLaws.{length-contents}
 use Rattle.dw_meaning.proofs.TableKeptLaws.{TablePlace, nowhere, lies_at}
 use Rattle.dw_rewrite.specs.Bodies.{BodiesRefuse, FileBodiesMade, long_table, held_bodies, moved_numbers}
 use Rattle.dw_read.specs.AllFields.{Fields}
-use Rattle.dw_read.specs.FoundPaths.{MapRefuses, PathsFound}
+use Rattle.dw_read.specs.FoundPaths.{FieldsFound, MapRefuses, PathsFound}
 use Rattle.dw_rewrite.specs.Bodies.BodiesRefuse.{addend_of, line_table_of, long_lines_of, long_table_of}
 use Rattle.dw_read.specs.FoundPaths.MapRefuses.{inline as map_inline, shared as map_shared}
 use Rattle.dw_read.specs.ReadData.{DataRefuses}
 use Rattle.dw_read.specs.ReadData.DataRefuses.{units as data_units, starts as data_starts, string_tables as data_string_tables, name_tables as data_name_tables, name_offsets as data_name_offsets, relocations as data_relocations, slots as data_slots, lines as data_lines, macros as data_macros}
 use Rattle.dw_rewrite.specs.CheckedFiles.{IsChecked}
 use Rattle.dw_rewrite.specs.Rewritten.{AllStand, IsInFile, body_with, long_fault, long_or, long_refusal, told_refusal}
-use Rattle.dw_starts.specs.MacroSections.{SectionUnits, UnitsFailIn, UnitsFoundIn}
+use Rattle.dw_starts.specs.MacroSections.{UnitsFailIn}
 use Rattle.dw_starts.specs.MacroSections.UnitsFailIn.{units as units_fail, offsets as offsets_fail}
+use Rattle.dw_starts.specs.LineStarts.{starts_of}
 use Rattle.dw_unit_fields.specs.UnitTexts.UnitsRefuse.{data_fails, header_fails, relocation_fails, text_fails}
 use Rattle.dw_rewrite.proofs.FileBodyLaws.{alloc-stays, bodies-same}
 use Rattle.dw_rewrite.proofs.MovedNumberLaws.{are-moved}
@@ -155,36 +154,21 @@ pub refused_map : (m : PathMap) (b : List ℕ) (v : View) (f : Fault) → IsChec
 refused_map m b v NoMemory j is h = tt
 refused_map m b v (Refused r) j is h = map_fail m b r j.elf (subst (λ (w : View). MapRefuses m w r) is h)
 
-pub found_paths : (m : PathMap) (b : List ℕ) (v : View) (us : Fields) (ts : List LineTable) → v ≡ view_of b → PathsFound m v us ts → PathsFound m (view_of b) us ts
-found_paths m b v us ts is h = subst (λ (w : View). PathsFound m w us ts) is h
+-- what was found by a slice of the line tables is what was found by them
+pub found_paths : (m : PathMap) (b : List ℕ) (v : View) (us : Fields) (ts slice : List LineTable) → v ≡ view_of b → slice ≡ ts → PathsFound m v us slice
+    → PathsFound m (view_of b) us ts
+found_paths m b v us ts slice is same h = subst (λ (w : View). PathsFound m w us ts) is (subst (PathsFound m v us) same h)
 
-pub seen_tables : (b : List ℕ) (v : View) (ts : List LineTable) → v ≡ view_of b → TablesFound (view_of b) ts → TablesFound v ts
-seen_tables b v ts is h = subst (λ (w : View). TablesFound w ts) (sym is) h
+pub slice_fields : (v : View) (us : Fields) (marks : List ℕ) (ts slice : List LineTable) → slice ≡ ts → FieldsFound v us marks ts → FieldsFound v us marks slice
+slice_fields v us marks ts slice same h = subst (FieldsFound v us marks) (sym same) h
 
-pub seen_macros : (b : List ℕ) (v : View) (ss : List SectionUnits) → v ≡ view_of b → UnitsFoundIn (view_of b) ss → UnitsFoundIn v ss
-seen_macros b v ss is h = subst (λ (w : View). UnitsFoundIn w ss) (sym is) h
+pub slice_paths : (m : PathMap) (b : List ℕ) (us : Fields) (ts slice : List LineTable) → slice ≡ ts → PathsFound m (view_of b) us ts → PathsFound m (view_of b) us slice
+slice_paths m b us ts slice same h = subst (PathsFound m (view_of b) us) (sym same) h
 
-pub ruleset paths_rules = (refused_data, refused_map, found_paths, seen_tables, seen_macros)
+pub slice_starts : (starts own : List ℕ) (ts slice : List LineTable) → own ≡ starts → slice ≡ ts → starts ≡ starts_of ts → own ≡ starts_of slice
+slice_starts starts own ts slice is same are = is ∙ are ∙ ap starts_of (sym same)
 
--- so are line tables that can't be read.
-pub refused_tables : (m : PathMap) (b : List ℕ) (v : View) (f : Fault) → IsChecked b → v ≡ view_of b → Blames (LinesFail (debug_data v)) f → Blames (EditFails m b) f
-refused_tables m b v NoMemory j is h = tt
-refused_tables m b v (Refused r) j is h = file (lines_row j.elf (subst (λ (w : View). LinesFail (debug_data w) r) is h))
-
-pub found_tables : (b : List ℕ) (v : View) (ts : List LineTable) → v ≡ view_of b → TablesFound v ts → TablesFound (view_of b) ts
-found_tables b v ts is h = subst (λ (w : View). TablesFound w ts) is h
-
-pub ruleset tables_rules = (refused_tables, found_tables)
-
--- and macro units.
-pub refused_macros : (m : PathMap) (b : List ℕ) (v : View) (f : Fault) → IsChecked b → v ≡ view_of b → Blames (UnitsFailIn v) f → Blames (EditFails m b) f
-refused_macros m b v NoMemory j is h = tt
-refused_macros m b v (Refused r) j is h = macro_fail m b r j.elf (subst (λ (w : View). UnitsFailIn w r) is h)
-
-pub found_macros : (b : List ℕ) (v : View) (ss : List SectionUnits) → v ≡ view_of b → UnitsFoundIn v ss → UnitsFoundIn (view_of b) ss
-found_macros b v ss is h = subst (λ (w : View). UnitsFoundIn w ss) is h
-
-pub ruleset macros_rules = (refused_macros, found_macros)
+pub ruleset found_rules = (refused_data, refused_map, found_paths, slice_fields)
 
 -- A file whose debug data can be read, with their relocations, reads as a whole.
 reads_checked : (b : List ℕ) (r : DataReadings) → IsChecked b → RelocationsReadIn (file_data b) (moving_sections (view_of b)) → DataReads (file_data b) r → FileReads b r

@@ -10,7 +10,7 @@ use Rattle.elf_layout.specs.declared.patch.Patch.{Patch}
 use Rattle.dw_patch.proofs.PatchLaws.{free-more}
 use Rattle.dw_unit_fields.specs.Fields.{AllApart, IsApartFrom}
 use Rattle.dw_rewrite.specs.Changes.{AreFree, AreSaid, AreSet, FieldSource, IsSet, Says, SaysBy, more_said, none_said, offset_at, offset_bytes, put_at, says_none, says_one, with_all_known, with_known}
-use Rattle.dw_rewrite.proofs.ChangedLaws.{field_front, field_there}
+use Rattle.dw_rewrite.proofs.ChangedLaws.{field_next, field_there}
 
 -- nothing is set, or one field is
 pub none-set : (s : FieldSource) (f : OffsetField) (p : PatchList) → IsSet s f None p p
@@ -104,19 +104,16 @@ pub pass-start : (s : FieldSource) (known : Bool → ℕ → Option ℕ) (fields
 pass-start s known fields p free apart =
     record { order = refl; size = refl; done = []; list = sym (append-nil p.list); said = λ more said. said; free = free; apart = apart }
 
-left : (fields : List OffsetField) (i : ℕ) (f : OffsetField) → i < length fields → f ≡ get_or fields i f → drop i fields ≡ f ∷ drop (i + 1) fields
-left fields i f lt is = field_front fields f i lt ∙ ap (λ (g : OffsetField). g ∷ drop (i + 1) fields) (sym is)
-
 pub pass-free : (s : FieldSource) (known : Bool → ℕ → Option ℕ) (fields : List OffsetField) (old now : PatchList) (i : ℕ) (f : OffsetField) → SetPass s known fields old now i
     → i < length fields → f ≡ get_or fields i f → IsFree now.list f.at f.size
 pass-free s known fields old now i f p lt is =
-    let free : AreFree now.list (f ∷ drop (i + 1) fields) = subst (AreFree now.list) (left fields i f lt is) p.free in
+    let free : AreFree now.list (f ∷ drop (i + 1) fields) = subst (AreFree now.list) (field_next fields i f lt is) p.free in
     free.0
 
 pass-step : (s : FieldSource) (known : Bool → ℕ → Option ℕ) (fields : List OffsetField) (old now new : PatchList) (i : ℕ) (f : OffsetField) → SetPass s known fields old now i
     → i < length fields → f ≡ get_or fields i f → IsSet s f (known f.path (offset_at s f)) now new → SetPass s known fields old new (i + 1)
 pass-step s known fields old now new i f p lt is h =
-    let cut : drop i fields ≡ f ∷ drop (i + 1) fields = left fields i f lt is in
+    let cut : drop i fields ≡ f ∷ drop (i + 1) fields = field_next fields i f lt is in
     let free : AreFree now.list (f ∷ drop (i + 1) fields) = subst (AreFree now.list) cut p.free in
     let apart : AllApart (f ∷ drop (i + 1) fields) = subst AllApart cut p.apart in
     record {

@@ -207,7 +207,8 @@ same-table g bytes apart small =
     (said-kept [] 0 (cells_from (relocations_in g) 0 bytes) (cells_from (relocations_in g) 0 bytes) (λ k lt. refl) (same-self (cells_from (relocations_in g) 0 bytes))))
     ∙ table-same g small
 
-source-small : (b : List ℕ) (k : ℕ) → ((n : ℕ) → slice_index b n < 256) → (n : ℕ) → slice_index (relocation_source (contents_of b) b k).table n < 256
+-- each place that a record of it holds fits its word
+pub source-small : (b : List ℕ) (k : ℕ) → ((n : ℕ) → slice_index b n < 256) → (n : ℕ) → slice_index (relocation_source (contents_of b) b k).table n < 256
 unfolding relocation_source
 source-small b k small n = contents-small b k small n
 

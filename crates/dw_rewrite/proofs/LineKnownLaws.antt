@@ -128,7 +128,7 @@ one-agrees g m str line_str ks kl w x whole reads s l ns nl other = by (x.place.
         known-asked m g.line_str.bytes line_str kl x.path x.place.at l
         (subst (IsNoted kl x.path) (text-offset g InLineStr w x.place x.path whole reads says) nl.0)
 
-each-parts : {X : Type 0} (P : X → Type 0) (xs ys : List X) → EachOf P (xs ++ ys) → EachOf P xs × EachOf P ys
+pub each-parts : {X : Type 0} (P : X → Type 0) (xs ys : List X) → EachOf P (xs ++ ys) → EachOf P xs × EachOf P ys
 each-parts P [] ys h = (tt, h)
 each-parts P (x ∷ xs) ys h = let rest = each-parts P xs ys h.1 in ((h.0, rest.0), rest.1)
 

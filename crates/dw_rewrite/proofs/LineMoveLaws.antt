@@ -1,6 +1,5 @@
 -- Line tables are moved one behind another: runs and offsets so far, and those of the tables that are left, are those of all.
 use Rattle.std.proofs.Common.{Bool, ◌≡◌, ◌≢◌, ℕ, zero, suc, ◌+◌, ◌<◌, ◌≤◌, ◌^◌, List, [], ◌∷◌, ◌++◌, length, get_or, drop, Option, Some, refl, sym, ap, ◌∙◌, subst, arith, append_assoc, append-nil}
-use Rattle.std.proofs.Math.Seq.{drop-cons}
 use Rattle.std.proofs.lemmas.List.{drop_all, length-append}
 use Rattle.dw_base.specs.Cells.{bytes_of}
 use Rattle.dw_base.specs.DebugData.{line_source}
@@ -40,7 +39,7 @@ use Rattle.dw_lines.specs.declared.moves.NewFieldOffset.{NewFieldOffset}
 use Rattle.dw_rewrite.specs.LineOffsets.{AllMove, StartsKnown, TableMoves, line_offsets, line_runs, stretches_known}
 use Rattle.dw_rewrite.specs.NewLines.{AllStandIn, LinesWritten, StandsIn, lines_known}
 use Rattle.dw_rewrite.proofs.LineReadLaws.{all-stand}
-use Rattle.dw_rewrite.proofs.LineWriteLaws.{stands-own, stands-there}
+use Rattle.dw_rewrite.proofs.LineWriteLaws.{front, stands-own, stands-there}
 
 -- where the relocations of tables are ones that are handled, they move
 pub apart-behind : (g : LineSource) (r : LineReading) (rs : List LineReading) → TablesApart g (r ∷ rs) → TablesApart g rs
@@ -157,11 +156,6 @@ pass-starts m g ks kl ts ns runs offsets r o moves = record {
   offsets_are = ap (λ (l : List NewFieldOffset). l ++ line_offsets m g ks kl ts) o;
   moves = moves;
 }
-
-front : (ts : List LineTable) (t : LineTable) (i : ℕ) → i < length ts → t ≡ get_or ts i t → drop i ts ≡ t ∷ drop (i + 1) ts
-front ts t i lt is =
-    let next : suc i ≡ i + 1 = omega arith in
-    drop-cons ts i t lt ∙ ap (λ (x : LineTable). x ∷ drop (suc i) ts) (sym is) ∙ ap (λ (n : ℕ). t ∷ drop n ts) next
 
 here : (m : PathMap) (g : LineSource) (ks kl : Bool → ℕ → Option ℕ) (ts : List LineTable) (ns : List ℕ) (runs : List Run) (offsets : List NewFieldOffset) (i : ℕ) (t : LineTable)
     (p : MovePass m g ks kl ts ns runs offsets i) → i < length ts → t ≡ get_or ts i t → TableHere m g ks kl p.place p.new t (drop (i + 1) ts) ns i

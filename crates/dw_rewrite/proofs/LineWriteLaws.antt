@@ -64,7 +64,8 @@ pass-starts m g ks kl ts bs starts_ b s = record {
   can = λ all. all;
 }
 
-front : (ts : List LineTable) (t : LineTable) (i : ℕ) → i < length ts → t ≡ get_or ts i t → drop i ts ≡ t ∷ drop (i + 1) ts
+-- one table more of a list
+pub front : (ts : List LineTable) (t : LineTable) (i : ℕ) → i < length ts → t ≡ get_or ts i t → drop i ts ≡ t ∷ drop (i + 1) ts
 front ts t i lt is =
     let next : suc i ≡ i + 1 = omega arith in
     drop-cons ts i t lt ∙ ap (λ (x : LineTable). x ∷ drop (suc i) ts) (sym is) ∙ ap (λ (n : ℕ). t ∷ drop n ts) next

@@ -36,7 +36,7 @@ use Rattle.dw_unit_fields.specs.SectionFields.{SectionFields, paths_of}
 use Rattle.dw_rewrite.specs.NewLines.{AllCanWrite, LinesWritten, lines_known}
 use Rattle.dw_read.specs.ViewLines.{lines_by, lines_of_view, lines_with, table_fields}
 use Rattle.dw_starts.specs.LineStarts.{starts_of}
-use Rattle.dw_rewrite.proofs.LineKnownLaws.{EachCanWrite, NotedIn, TablesAgree, all-can, lines-same, tables-agree}
+use Rattle.dw_rewrite.proofs.LineKnownLaws.{EachCanWrite, NotedIn, TablesAgree, all-can, each-parts, lines-same, tables-agree}
 use Rattle.dw_rewrite.proofs.ListGrowthLaws.{of-macros, of-names, of-slots, of-units}
 use Rattle.dw_rewrite.proofs.MacroWrittenLaws.{macros-bodies}
 use Rattle.dw_starts.proofs.TableStartLaws.{read-starts}
@@ -46,10 +46,6 @@ use Rattle.dw_unit_fields.proofs.PlaceValueLaws.{EachOf}
 use Rattle.dw_starts.proofs.StartSearchLaws.{starts-rise}
 use Rattle.dw_rewrite.proofs.TableTextLaws.{lines-none, lines-whole, made-table, same-lines, same-texts, table-bytes}
 use Rattle.dw_rewrite.proofs.LineMentionLaws.{line_texts}
-
-each-parts : {X : Type 0} (P : X → Type 0) (xs ys : List X) → EachOf P (xs ++ ys) → EachOf P xs × EachOf P ys
-each-parts P [] ys h = (tt, h)
-each-parts P (x ∷ xs) ys h = let rest = each-parts P xs ys h.1 in ((h.0, rest.0), rest.1)
 
 -- the known places make the bodies of some of the sections
 known-parts : (m : PathMap) (v : View) (us : Fields) (part : List SectionFields) (ts : List LineTable) (ps pl : TextTable) (ks kl kt : Bool → ℕ → Option ℕ) (f : PathsFound m v us ts) → TableMade m v InStr (all_of us) ps ks
@@ -252,11 +248,10 @@ starts-fit m v us ts ks kl bs ns old f w is small =
           subst (λ (x : List ℕ). get_or x i 0 < 2 ^ 32) (sym w.starts) (omega (arith, within, size, small));
     }
 
-pub slices-fit : (m : PathMap) (v : View) (us : Fields) (ts : List LineTable) (ks kl : Bool → ℕ → Option ℕ) (bs ns old first second : List ℕ) → PathsFound m v us ts
-    → LinesWritten m (line_source (debug_data v)) ks kl ts bs ns → old ≡ starts_of ts → first ≡ old → second ≡ ns → length bs ≤ output_limit
-    → StartsFit (record { old = first; new = second })
-slices-fit m v us ts ks kl bs ns old first second f w is a b small =
-    subst (λ (xs : List ℕ). StartsFit (record { old = first; new = xs })) (sym b) (starts-fit m v us ts ks kl bs ns first f w (a ∙ is) small)
+pub slices-fit : (m : PathMap) (v : View) (us : Fields) (ts : List LineTable) (ks kl : Bool → ℕ → Option ℕ) (bs ns old new : List ℕ) → PathsFound m v us ts
+    → LinesWritten m (line_source (debug_data v)) ks kl ts bs ns → old ≡ starts_of ts → new ≡ ns → length bs ≤ output_limit → StartsFit (record { old = old; new = new })
+slices-fit m v us ts ks kl bs ns old new f w is same small =
+    subst (λ (xs : List ℕ). StartsFit (record { old = old; new = xs })) (sym same) (starts-fit m v us ts ks kl bs ns old f w is small)
 
 pub table-body : (v : View) (table : TextSection) (pool : TextTable) (n : ℕ) (bytes : List ℕ) → n ≡ table_number (debug_data v) table → bytes ≡ table_bytes pool
     → record { number = n; bytes = bytes } ≡ table_body_of v table pool

@@ -25,7 +25,8 @@ use Rattle.dw_rewrite.specs.OffsetAddends.{FieldMakes, FieldMisses, FieldsMake, 
 use Rattle.dw_rewrite.specs.OffsetAddends.FieldMisses.{misses_new}
 use Rattle.dw_rewrite.specs.OffsetAddends.FieldsMiss.{one_field}
 use Rattle.dw_rewrite.specs.OffsetAddends.SectionMisses.{in_str_field, in_line_str_field, in_start_field}
-use Rattle.dw_rewrite.proofs.ChangedLaws.{field_front, field_there}
+use Rattle.dw_unit_fields.proofs.FieldOffsetLaws.{offset-some}
+use Rattle.dw_rewrite.proofs.ChangedLaws.{field_next, field_there}
 use Rattle.dw_rewrite.proofs.SectionBytesLaws.{line_str-fields, places-there, start-fields, str-fields}
 use Rattle.dw_rewrite.proofs.SaidLaws.{Sized, patch-further, patch-skip}
 
@@ -119,13 +120,9 @@ together-skip [] gs hs h = together-behind gs hs h
 together-skip (f ∷ fs) gs hs h = (alone-without f fs gs hs h.0, together-skip fs gs hs h.1)
 
 -- each field has bytes
-sized-some : (n : ℕ) → (n ≡ 4) ⊎ (n ≡ 8) → 0 < n
-sized-some n (inl four) = omega (arith, four)
-sized-some n (inr eight) = omega (arith, eight)
-
 sized-each : (fs : List OffsetField) → ((k : ℕ) (d : OffsetField) → k < length fs → ((get_or fs k d).size ≡ 4) ⊎ ((get_or fs k d).size ≡ 8)) → Sized fs
 sized-each [] each = tt
-sized-each (f ∷ fs) each = (sized-some f.size (each 0 f (omega arith)), sized-each fs (λ k d lt. each (suc k) d (omega (arith, lt))))
+sized-each (f ∷ fs) each = (offset-some f.size (each 0 f (omega arith)), sized-each fs (λ k d lt. each (suc k) d (omega (arith, lt))))
 
 sized-append : (fs gs : List OffsetField) → Sized fs → Sized gs → Sized (fs ++ gs)
 sized-append [] gs h k = k
@@ -227,20 +224,17 @@ pub record AddPass (s : FieldSource) (known : Bool → ℕ → Option ℕ) (fiel
 pub pass-start : (s : FieldSource) (known : Bool → ℕ → Option ℕ) (fields : List OffsetField) (old : List Patch) → NoneTogether fields → AreAbsent old fields → AddPass s known fields old old 0
 pass-start s known fields old together absent = record { list = refl; absent = absent; together = together; made = λ h. h }
 
-left : (fields : List OffsetField) (i : ℕ) (f : OffsetField) → i < length fields → f ≡ get_or fields i f → drop i fields ≡ f ∷ drop (i + 1) fields
-left fields i f lt is = field_front fields f i lt ∙ ap (λ (g : OffsetField). g ∷ drop (i + 1) fields) (sym is)
-
 pub pass-absent : (s : FieldSource) (known : Bool → ℕ → Option ℕ) (fields : List OffsetField) (old now : List Patch) (i : ℕ) (f : OffsetField) → AddPass s known fields old now i
     → i < length fields → f ≡ get_or fields i f → patch_for now f.at ≡ None
 pass-absent s known fields old now i f p lt is =
-    let absent : AreAbsent now (f ∷ drop (i + 1) fields) = subst (AreAbsent now) (left fields i f lt is) p.absent in
+    let absent : AreAbsent now (f ∷ drop (i + 1) fields) = subst (AreAbsent now) (field_next fields i f lt is) p.absent in
     absent.0
 
 pub pass-more : (s : FieldSource) (known : Bool → ℕ → Option ℕ) (fields : List OffsetField) (old now new : List Patch) (i : ℕ) (f : OffsetField) (k : Option ℕ)
     → AddPass s known fields old now i → i < length fields → f ≡ get_or fields i f → k ≡ known f.path (offset_at s f) → new ≡ now ++ offset_by f k → FieldMakes s f k
     → AddPass s known fields old new (i + 1)
 pass-more s known fields old now new i f k p lt is known_is e makes =
-    let cut : drop i fields ≡ f ∷ drop (i + 1) fields = left fields i f lt is in
+    let cut : drop i fields ≡ f ∷ drop (i + 1) fields = field_next fields i f lt is in
     let absent : AreAbsent now (f ∷ drop (i + 1) fields) = subst (AreAbsent now) cut p.absent in
     let together : NoneTogether (f ∷ drop (i + 1) fields) = subst NoneTogether cut p.together in
     let added : new ≡ now ++ offset_by f (known f.path (offset_at s f)) = e ∙ ap (λ (x : Option ℕ). now ++ offset_by f x) known_is in

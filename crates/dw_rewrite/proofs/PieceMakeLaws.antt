@@ -39,7 +39,7 @@ use Rattle.dw_rewrite.specs.OffsetAddends.FieldMisses.{misses_new}
 use Rattle.dw_rewrite.specs.OffsetAddends.FieldsMiss.{one_field}
 use Rattle.dw_rewrite.specs.UnitsAfter.{start_source, text_source}
 use Rattle.dw_rewrite.proofs.EditedLaws.{piece-there}
-use Rattle.dw_rewrite.proofs.SaidLaws.{Sized}
+use Rattle.dw_rewrite.proofs.SaidLaws.{Sized, sized-parts}
 
 -- the row of one of some fields, by the list
 abbrev pub AnyMisses : FieldSource → (Bool → ℕ → Option ℕ) → ℕ → List OffsetField → Refusal → Type 0
@@ -69,10 +69,6 @@ any-parts s known number (f ∷ fs) gs r (inr h) = by (any-parts s known number 
     by : AnyMisses s known number fs r ⊎ AnyMisses s known number gs r → AnyMisses s known number (f ∷ fs) r ⊎ AnyMisses s known number gs r
     by (inl x) = inl (inr x)
     by (inr x) = inr x
-
-sized-parts : (fs gs : List OffsetField) → Sized (fs ++ gs) → Sized fs × Sized gs
-sized-parts [] gs h = (tt, h)
-sized-parts (f ∷ fs) gs h = let rest = sized-parts fs gs h.1 in ((h.0, rest.0), rest.1)
 
 -- the relocation that begins at a piece
 first-here : (p behind cells : List Cell) (place : ℕ) → p ++ behind ≡ drop place cells → 0 < length p → relocation_at cells place ≡ first_relocation p

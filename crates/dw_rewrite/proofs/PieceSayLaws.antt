@@ -19,7 +19,7 @@ use Rattle.dw_base.specs.declared.texts.TextSection.TheVariants.{InStr, InLineSt
 use Rattle.elf_layout.specs.declared.patch.Patch.{Patch}
 use Rattle.dw_patch.proofs.SaidCellLaws.{SaidAll, said-append}
 use Rattle.dw_rewrite.proofs.MacroWrittenLaws.{from-macro_texts, from-macros}
-use Rattle.dw_rewrite.proofs.SaidLaws.{FromHere, SaidStep, Sized, said-step}
+use Rattle.dw_rewrite.proofs.SaidLaws.{FromHere, SaidStep, Sized, said-step, sized-parts}
 use Rattle.dw_rewrite.proofs.SlotWrittenLaws.{slots-bytes}
 use Rattle.dw_rewrite.proofs.UnitWrittenLaws.{placed-bytes}
 use Rattle.dw_read.specs.MacroFields.{macro_starts, macro_texts}
@@ -30,11 +30,6 @@ use Rattle.dw_read.proofs.NameHaveLaws.{NamesPlaced, names-from, no-start as no-
 use Rattle.dw_unit_fields.proofs.PieceFieldLaws.{from-place, from-starts}
 use Rattle.dw_unit_fields.proofs.PlacedLaws.{PlacedCells}
 use Rattle.dw_read.proofs.SlotPlaceLaws.{SlotsIn, from-place as slots-from, no-start}
-
--- parts of fields that have bytes have them
-sized-parts : (fs gs : List OffsetField) → Sized (fs ++ gs) → Sized fs × Sized gs
-sized-parts [] gs h = (tt, h)
-sized-parts (f ∷ fs) gs h = let rest = sized-parts fs gs h.1 in ((h.0, rest.0), rest.1)
 
 -- units
 pub said-units : (c : TableChanges) (a : Around) (cells : List Cell) (offs : List Patch) (place : ℕ) (xs : List (Piece UnitState))

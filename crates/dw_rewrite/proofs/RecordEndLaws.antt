@@ -25,7 +25,6 @@ use Rattle.dw_meaning.specs.DataOutput.{changes_of}
 use Rattle.dw_meaning.specs.FileMeanings.{file_data}
 use Rattle.dw_meaning.specs.NewAddends.{AddendsFail, MakesRole}
 use Rattle.dw_meaning.specs.RelocatedBodies.{new_cells}
-use Rattle.dw_meaning.proofs.NewCellLaws.{contents-small}
 use Rattle.dw_patch.specs.RecordMoves.{PlacesFit}
 use Rattle.dw_read.specs.AllFields.{Fields, all_of, standing}
 use Rattle.dw_read.specs.FoundPaths.{PathsFound}
@@ -40,6 +39,7 @@ use Rattle.dw_rewrite.specs.Bodies.{held_bodies, numbers_in}
 use Rattle.dw_rewrite.specs.NewOffsets.{AllPlacesFit, records_known}
 use Rattle.dw_rewrite.specs.NewTables.{IsSectionNoted, TableMade}
 use Rattle.dw_rewrite.specs.OffsetAddends.{AllMake, AllMiss}
+use Rattle.dw_rewrite.proofs.HeldBodyLaws.{source-small}
 use Rattle.dw_rewrite.proofs.HeldRecordLaws.{FoundParts, records-after, records-asked}
 use Rattle.dw_rewrite.proofs.MovedRecordLaws.{asked_in}
 use Rattle.dw_rewrite.proofs.MadeBodyLaws.{noted-parts}
@@ -48,15 +48,11 @@ use Rattle.dw_rewrite.proofs.SectionMakeLaws.{AnySection, all-known, all-parts, 
 use Rattle.dw_rewrite.proofs.TableTextLaws.{made-table}
 
 -- each place that a record holds fits its word
-table-small : (b : List ℕ) (k : ℕ) → ((n : ℕ) → slice_index b n < 256) → (n : ℕ) → slice_index (relocation_source (contents_of b) b k).table n < 256
-unfolding relocation_source
-table-small b k small n = contents-small b k small n
-
 source-fits : (g : RelocationSource) → ((n : ℕ) → slice_index g.table n < 256) → PlacesFit g []
 source-fits g small = record { each = λ i lt counts. spelled-lt g.order g.table (i * reloc_size g.class g.rela) (word_size g.class) small }
 
 pub places-fit : (b : List ℕ) → ((n : ℕ) → slice_index b n < 256) → AllPlacesFit b
-places-fit b small = record { each = λ i k lt is. source-fits (relocation_source (contents_of b) b k) (table-small b k small) }
+places-fit b small = record { each = λ i k lt is. source-fits (relocation_source (contents_of b) b k) (source-small b k small) }
 
 -- the sections that were found, but for that of line tables
 abbrev pub parts_of : View → DataReadings → List SectionFields

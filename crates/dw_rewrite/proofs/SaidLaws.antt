@@ -58,6 +58,10 @@ abbrev pub Sized : List OffsetField → Type 0
 Sized [] = ⊤
 Sized (f ∷ fs) = (0 < f.size) × Sized fs
 
+pub sized-parts : (fs gs : List OffsetField) → Sized (fs ++ gs) → Sized fs × Sized gs
+sized-parts [] gs h = (tt, h)
+sized-parts (f ∷ fs) gs h = let rest = sized-parts fs gs h.1 in ((h.0, rest.0), rest.1)
+
 -- from a place on the offsets are those of the fields that are left
 pub record FromHere (c : TableChanges) (a : Around) (cells : List Cell) (offs : List Patch) (place : ℕ) (fs gs hs : List OffsetField) : Type 0 where
   pub each : (q : ℕ) → place ≤ q → patch_for offs q ≡ patch_for (offsets_after c a cells fs gs hs) q

@@ -13,36 +13,18 @@ use Rattle.dw_base.specs.Relocs.{word_width}
 use Rattle.dw_base.specs.declared.view_fields.Field.{Field}
 use Rattle.dw_base.specs.declared.shared.Order.{Order}
 use Rattle.dw_base.specs.declared.shared.Order.TheVariants.{Little, Big}
-use Rattle.dw_base.proofs.ViewCellLaws.{length-view_cells, offset_at-cells}
+use Rattle.dw_base.proofs.ViewCellLaws.{length-view_cells}
+use Rattle.dw_unit_fields.proofs.FieldOffsetLaws.{field-inside, offset-cells, offset-few, offset-some}
 use Rattle.dw_meaning.specs.NewAddends.{AddendMakes, Makes, Misses}
 use Rattle.dw_view.specs.Relocations.{relocation_value}
 use Rattle.dw_view.specs.declared.fields.Relocation.{Relocation}
 
--- a field has bytes, eight at most, and lies in the section
-pub sized-some : (n : ℕ) → (n ≡ 4) ⊎ (n ≡ 8) → 0 < n
-sized-some n (inl four) = omega (arith, four)
-sized-some n (inr eight) = omega (arith, eight)
-
-pub sized-few : (n : ℕ) → (n ≡ 4) ⊎ (n ≡ 8) → n ≤ 8
-sized-few n (inl four) = omega (arith, four)
-sized-few n (inr eight) = omega (arith, eight)
-
-pub lies-inside : (v : View) (section place n : ℕ) → place + n ≤ length (view_cells v section) → place + n ≤ length (section_bytes v section)
-lies-inside v section place n inside =
-    let size : length (view_cells v section) ≡ length (section_bytes v section) = length-view_cells v section in
-    omega (arith, inside, size)
-
--- the offset that it holds
-pub offset-there : (v : View) (section place n offset : ℕ) (z : Located) → (n ≡ 4) ⊎ (n ≡ 8) → place + n ≤ length (view_cells v section)
-    → offset ≡ offset_into z (field_at v section place n) → offset ≡ offset_of v.order z (cells_at (view_cells v section) place n)
-offset-there v section place n offset z sized inside is =
-    is ∙ sym (offset_at-cells v z section place n (sized-some n sized) (lies-inside v section place n inside))
-
+-- the offset that a field holds
 pub offset-by : (v : View) (section place n offset : ℕ) (z : Located) (f : Field) → (n ≡ 4) ⊎ (n ≡ 8) → place + n ≤ length (view_cells v section)
     → f ≡ field_at v section place n → offset ≡ offset_into z f → offset ≡ offset_of v.order z (cells_at (view_cells v section) place n)
-offset-by v section place n offset z f sized inside f_is is = offset-there v section place n offset z sized inside (is ∙ ap (offset_into z) f_is)
+offset-by v section place n offset z f sized inside f_is is = offset-cells v section place n offset z sized inside (is ∙ ap (offset_into z) f_is)
 
-pub ruleset offset_rules = (sized-some, sized-few, lies-inside, offset-by)
+pub ruleset offset_rules = (offset-some, offset-few, field-inside, offset-by)
 
 -- what so many bytes hold of a number
 list-four : (a b c d e f g h : ℕ) → a ≡ e → b ≡ f → c ≡ g → d ≡ h → a ∷ b ∷ c ∷ d ∷ [] ≡ e ∷ f ∷ g ∷ h ∷ []
@@ -85,13 +67,13 @@ pub number-says : (v : View) (section place n number low offset : ℕ) → ((o :
     → number_bytes v.order n low ≡ bytes_of (with_offset v.order (cells_at (view_cells v section) place n) offset)
 number-says v section place n number low offset same is = same v.order ∙ is
 
-pub ruleset number_rules = (lies-inside, number-says)
+pub ruleset number_rules = (field-inside, number-says)
 
 -- whether a field can say an offset
 pub begins-before : (v : View) (section place n : ℕ) → (n ≡ 4) ⊎ (n ≡ 8) → place + n ≤ length (view_cells v section) → place < length (section_bytes v section)
 begins-before v section place n sized inside =
     let size : length (view_cells v section) ≡ length (section_bytes v section) = length-view_cells v section in
-    let some : 0 < n = sized-some n sized in
+    let some : 0 < n = offset-some n sized in
     omega (arith, inside, size, some)
 
 pub addend-makes : (r : Relocation) (a : ℤ) (value size n : ℕ) (t : Bool) → r.addend ≡ Some a → value ≡ symbol_value r.target

@@ -24,6 +24,7 @@ ghost use Rattle.dw_rewrite.specs.NewTables.{bodies_known, table_body_of};
 ghost use Rattle.dw_rewrite.specs.Bodies.{BodiesRefuse, FileBodiesMade};
 ghost use Rattle.dw_read.specs.AllFields.{standing};
 ghost use Rattle.dw_read.specs.FoundPaths.{PathsFound};
+ghost use Rattle.dw_starts.specs.LineStarts.{starts_of};
 ghost use Rattle.dw_rewrite.specs.PushedBodies.{one_body, pushed_bodies};
 ghost use Rattle.dw_rewrite.specs.NewLines.{LinesFail, LinesWritten};
 ghost use Rattle.dw_rewrite.specs.LineOffsets.{OffsetMisses, OffsetsMake, StartsKnown, line_offsets, line_record};
@@ -42,7 +43,7 @@ use dw_base::{DebugSection, Fault, Kind, NoMemory, OUTPUT_LIMIT, Refusal, TextSe
 use dw_lines::{LineTable, NewTexts};
 use dw_paths::Maps;
 use dw_read::Fields;
-use dw_starts::{starts_of, table_number};
+use dw_starts::table_number;
 use dw_strings::LentPool;
 use dw_unit_fields::SectionFields;
 use dw_view::{RelocationSources, View};
@@ -50,11 +51,11 @@ use elf_file::ElfFile;
 use elf_layout::NewBody;
 use std::alloc::Global;
 
-/// The sections with new bytes: the tables of texts, string offsets, line tables and name tables, then the sections
-/// of macro units and the unit sections, each in the order of their numbers, and those that hold relocations of them.
-/// Refused as `TooLarge`, at the section, where a table of texts or the line tables would be longer than a file that
-/// is written, where a line table can't be written, and as `TooWide` where the addend of a relocation can't make the
-/// new offset of its field, at the field.
+/// The sections with new bytes, from the line tables of the view, where these start, and what was found of texts: the
+/// tables of texts, string offsets, line tables and name tables, then the sections of macro units and the unit sections,
+/// each in the order of their numbers, and those that hold relocations of them. Refused as `TooLarge`, at the section,
+/// where a table of texts or the line tables would be longer than a file that is written, where a line table can't be
+/// written, and as `TooWide` where the addend of a relocation can't make the new offset of its field, at the field.
 #[tactic(auto, using(crate::proofs::MadeBodyLaws::body_rules, crate::proofs::FileMadeLaws::end_rules))]
 pub(crate) fn new_bodies<'a>(
     alloc: Global,
@@ -63,6 +64,7 @@ pub(crate) fn new_bodies<'a>(
     sources: &RelocationSources,
     maps: &Maps,
     tables: &[LineTable],
+    old: &[u64],
     paths: &Fields,
 ) -> Result<Vec<Body<'a>>, Fault>
     requires file { view.now ≡ view_of elf.now.bytes.now }
@@ -70,17 +72,17 @@ pub(crate) fn new_bodies<'a>(
     requires relocations { RelocationSectionsRead (contents_of sources.now) sources.now }
     requires bytes { (k : ℕ) → slice_index sources.now k < 256 }
     requires found { PathsFound maps.now view.now paths.now tables.now }
+    requires starts { old.now ≡ starts_of tables.now }
     ensures made { IfOk result (λ bodies. FileBodiesMade maps.now sources.now bodies.items) }
     ensures refused { IfErr result (Blames (BodiesRefuse maps.now (debug_data view.now))) }
 {
-    let old = starts_of(alloc, tables)?;
     let NewTables {
         pool,
         line_pool,
         texts,
     } = new_tables(alloc, view, maps, paths)?;
     let NewLines { bytes, starts: new } = limited_lines(alloc, view, maps, &texts, tables)?;
-    let starts = NewStarts::new(old.as_slice(), new.as_slice());
+    let starts = NewStarts::new(old, new.as_slice());
     let places = NewPlaces { texts, starts };
     let mut bodies = table_bodies(alloc, view, pool, line_pool)?;
     let lines = lines_body(view, bytes);

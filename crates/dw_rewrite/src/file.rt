@@ -18,7 +18,7 @@ ghost use Rattle.dw_base.specs.Refusals.{Blames};
 ghost use Rattle.dw_base.specs.declared.fault.Refusal.{Refusal as RefusalOf};
 ghost use Rattle.dw_rewrite.specs.Bodies.{FileBodiesMade};
 ghost use Rattle.dw_read.specs.FoundPaths.{PathsFound};
-ghost use Rattle.dw_starts.specs.MacroSections.{UnitsFoundIn};
+ghost use Rattle.dw_starts.specs.LineStarts.{starts_of};
 ghost use Rattle.dw_rewrite.specs.CheckedFiles.{IsChecked};
 ghost use Rattle.dw_rewrite.specs.Rewritten.{AllStand, AreGiven, IsGiven, IsInFile, body_with, long_fault, long_refusal, told_refusal};
 
@@ -27,10 +27,9 @@ use crate::loaded_sections::check_unloaded;
 use crate::new_sections::Body;
 use crate::refusal::{fixed, too_large};
 use dw_base::{Fault, Kind, Refusal};
-use dw_lines::{LineTable, line_tables};
+use dw_lines::LineTable;
 use dw_paths::Maps;
-use dw_read::{Fields, check_map, found_fields};
-use dw_starts::{MacroSection, macro_sections};
+use dw_read::{DebugData, Fields, check_map, read_fields};
 use dw_view::{RelocationSources, View};
 use elf_file::ElfFile;
 use elf_layout::{NewBody, Pieces, emit};
@@ -43,6 +42,14 @@ pub struct Rewritten<'a> {
     pub file: Pieces<'a>,
     /// The line tables of the file as it was, in the order of their places.
     pub tables: Vec<LineTable>,
+}
+
+/// What is taken of the debug data of a file: its line tables, where they start, and what the data say of texts.
+#[derive(Drop)]
+struct Found {
+    tables: Vec<LineTable>,
+    starts: Vec<u64>,
+    fields: Fields,
 }
 
 /// The file with each source path mapped: each table of texts is built anew, of the texts that fields name after mapping;
@@ -116,88 +123,56 @@ fn rewrite_checked<'a>(
 {
     // What a map obeys is known where one of its fields is used: no text that it makes has a NUL.
     let _ = &maps.pairs;
-    let tables = tables_in(alloc, elf, view, maps)?;
-    let bodies = made_bodies(alloc, elf, view, sources, maps, tables.as_slice())?;
+    let (tables, bodies) = made_bodies(alloc, elf, view, sources, maps)?;
     let file = emitted(alloc, elf, bodies)?;
     Ok(Rewritten { file, tables })
 }
 
-/// The new bytes of the sections that change, by the file's line tables.
+/// The line tables of the file, and the new bytes of the sections that change. What else was found of its debug data is let go.
 fn made_bodies<'a>(
     alloc: Global,
     elf: &ElfFile<'a>,
     view: &View,
     sources: &RelocationSources,
     maps: &Maps,
-    tables: &[LineTable],
-) -> Result<Vec<Body<'a>>, Fault>
+) -> Result<(Vec<LineTable>, Vec<Body<'a>>), Fault>
     requires small { length elf.now.bytes.now ≤ output_limit }
     requires checked { IsChecked elf.now.bytes.now }
     requires view { view.now ≡ view_of elf.now.bytes.now }
     requires sources { sources.now ≡ elf.now.bytes.now }
-    requires tables { TablesFound (view_of elf.now.bytes.now) tables.now }
-    ensures made { IfOk result (λ bodies. FileBodiesMade maps.now elf.now.bytes.now bodies.items) }
+    ensures tables { IfOk result (λ m. TablesFound (view_of elf.now.bytes.now) m.0.items) }
+    ensures made { IfOk result (λ m. FileBodiesMade maps.now elf.now.bytes.now m.1.items) }
     ensures refused { IfErr result (Blames (EditFails maps.now elf.now.bytes.now)) }
 {
-    let macros = macros_in(alloc, elf, view, maps)?;
-    let paths = paths_in(alloc, elf, view, maps, tables, &macros)?;
-    bodies_in(alloc, elf, view, sources, maps, tables, &paths)
+    let Found {
+        tables,
+        starts,
+        fields,
+    } = found_in(alloc, elf, view, maps)?;
+    let lines = tables.as_slice();
+    let old = starts.as_slice();
+    let bodies = bodies_in(alloc, elf, view, sources, maps, lines, old, &fields)?;
+    Ok((tables, bodies))
 }
 
-/// The line tables of the file.
-#[tactic(auto, using(crate::proofs::ExitLaws::tables_rules))]
-fn tables_in(
-    alloc: Global,
-    elf: &ElfFile,
-    view: &View,
-    maps: &Maps,
-) -> Result<Vec<LineTable>, Fault>
+/// What the debug data of the file say of texts, where the map can be applied to the paths among them, with its line tables and where
+/// these start.
+#[tactic(auto, using(crate::proofs::ExitLaws::found_rules))]
+fn found_in(alloc: Global, elf: &ElfFile, view: &View, maps: &Maps) -> Result<Found, Fault>
     requires checked { IsChecked elf.now.bytes.now }
     requires view { view.now ≡ view_of elf.now.bytes.now }
-    ensures tables { IfOk result (λ tables. TablesFound (view_of elf.now.bytes.now) tables.items) }
+    ensures found { IfOk result (λ f. PathsFound maps.now (view_of elf.now.bytes.now) f.fields f.tables.items) }
+    ensures starts { IfOk result (λ f. f.starts.items ≡ starts_of f.tables.items) }
     ensures refused { IfErr result (Blames (EditFails maps.now elf.now.bytes.now)) }
 {
-    let tables = line_tables(alloc, view)?;
-    Ok(tables)
-}
-
-/// The macro units of the file.
-#[tactic(auto, using(crate::proofs::ExitLaws::macros_rules))]
-fn macros_in(
-    alloc: Global,
-    elf: &ElfFile,
-    view: &View,
-    maps: &Maps,
-) -> Result<Vec<MacroSection>, Fault>
-    requires checked { IsChecked elf.now.bytes.now }
-    requires view { view.now ≡ view_of elf.now.bytes.now }
-    ensures macros { IfOk result (λ macros. UnitsFoundIn (view_of elf.now.bytes.now) macros.items) }
-    ensures refused { IfErr result (Blames (EditFails maps.now elf.now.bytes.now)) }
-{
-    let macros = macro_sections(alloc, view)?;
-    Ok(macros)
-}
-
-/// What the debug data of the file say of texts, where the map can be applied to the paths among them.
-#[tactic(auto, using(crate::proofs::ExitLaws::paths_rules))]
-fn paths_in(
-    alloc: Global,
-    elf: &ElfFile,
-    view: &View,
-    maps: &Maps,
-    tables: &[LineTable],
-    macros: &[MacroSection],
-) -> Result<Fields, Fault>
-    requires checked { IsChecked elf.now.bytes.now }
-    requires view { view.now ≡ view_of elf.now.bytes.now }
-    requires tables { TablesFound (view_of elf.now.bytes.now) tables.now }
-    requires macros { UnitsFoundIn (view_of elf.now.bytes.now) macros.now }
-    ensures found { IfOk result (λ paths. PathsFound maps.now (view_of elf.now.bytes.now) paths tables.now) }
-    ensures refused { IfErr result (Blames (EditFails maps.now elf.now.bytes.now)) }
-{
-    let (paths, marks) = found_fields(alloc, view, tables, macros)?;
-    check_map(alloc, view, maps, &paths, &marks, tables)?;
-    Ok(paths)
+    let (data, fields, marks) = read_fields(alloc, view)?;
+    check_map(alloc, view, maps, &fields, &marks, data.lines.as_slice())?;
+    let DebugData { lines, starts, .. } = data;
+    Ok(Found {
+        tables: lines,
+        starts,
+        fields,
+    })
 }
 
 /// The new bytes of the sections that change, by what was found of texts.
@@ -209,6 +184,7 @@ fn bodies_in<'a>(
     sources: &RelocationSources,
     maps: &Maps,
     tables: &[LineTable],
+    old: &[u64],
     paths: &Fields,
 ) -> Result<Vec<Body<'a>>, Fault>
     requires small { length elf.now.bytes.now ≤ output_limit }
@@ -216,10 +192,11 @@ fn bodies_in<'a>(
     requires view { view.now ≡ view_of elf.now.bytes.now }
     requires sources { sources.now ≡ elf.now.bytes.now }
     requires found { PathsFound maps.now (view_of elf.now.bytes.now) paths.now tables.now }
+    requires starts { old.now ≡ starts_of tables.now }
     ensures made { IfOk result (λ bodies. FileBodiesMade maps.now elf.now.bytes.now bodies.items) }
     ensures refused { IfErr result (Blames (EditFails maps.now elf.now.bytes.now)) }
 {
-    match new_bodies(alloc, elf, view, sources, maps, tables, paths) {
+    match new_bodies(alloc, elf, view, sources, maps, tables, old, paths) {
         Ok(bodies) => Ok(bodies),
         Err(fault) => Err(long_fault(elf, fault)),
     }

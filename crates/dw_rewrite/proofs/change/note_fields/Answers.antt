@@ -1,5 +1,5 @@
 -- No path is noted yet, one more, and all; a table that is too long at a field is too long at the end.
-use Rattle.std.proofs.Common.{◌≡◌, ◌+◌, ◌∙◌, List, [], ℕ, ap, arith, drop, length, refl, subst, sym}
+use Rattle.std.proofs.Common.{◌≡◌, ◌+◌, ◌∙◌, List, ℕ, ap, arith, drop, length, refl, subst, sym}
 use Rattle.std.proofs.lemmas.List.{drop_all, get_or_default}
 use Rattle.std.proofs.lemmas.Result.{err_from_is_err_and}
 use Rattle.dw_offsets.specs.declared.fields.OffsetField.{OffsetField}
