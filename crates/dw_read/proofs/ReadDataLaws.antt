@@ -1,5 +1,5 @@
 -- Debug data that are read: what was read excludes what refuses.
-use Rattle.std.proofs.Common.{◌≡◌, ℕ, List, ◌∷◌, ◌++◌, sym, ◌∙◌, subst}
+use Rattle.std.proofs.Common.{◌≡◌, ℕ, List, ◌∷◌, ◌++◌, sym, ap, ◌∙◌, subst}
 use Rattle.dw_base.specs.Cells.{CellSection, Located}
 use Rattle.dw_base.specs.DebugData.{DataReadings}
 use Rattle.dw_base.specs.FileViews.{View}
