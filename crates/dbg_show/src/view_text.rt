@@ -234,23 +234,23 @@ fn show_data<'v, O: Sink>(
     alloc: Global,
     view: &'v View,
     units: &Units<'v>,
-    data: &DebugData,
+    read: &DebugData,
     out: &mut O,
 ) -> Result<(), ShowErr>
     requires units { ListsAll (debug_data view.now) units.now.tables ((debug_data view.now).found Info) units.now.units }
-    requires data { IsDebugData view.now data.now }
+    requires read { IsDebugData view.now read.now }
     ensures shown { OnOk result (IsShown view.now (O.heard out.old) (O.heard out.new)) }
     ensures ends { IfErr result (ShowEnds view.now (O.heard out.old) (O.heard out.new)) }
 {
     let index = EntryIndex::read(alloc, view, units)?;
-    let found = macro_list(alloc, view, data.macros.as_slice())?;
-    let lines = data.starts.as_slice();
+    let found = macro_list(alloc, view, read.macros.as_slice())?;
+    let lines = read.starts.as_slice();
     let keys = found.keys.as_slice();
     let source = UnitSource {
         view,
         list: units,
         index: &index,
-        contributions: &data.contributions,
+        contributions: &read.contributions,
         starts: lines,
         keys,
     };
@@ -260,7 +260,7 @@ fn show_data<'v, O: Sink>(
         units: found.units.as_slice(),
         keys,
     };
-    let tables = data.lines.as_slice();
+    let tables = read.lines.as_slice();
     write_shown(alloc, view, &source, tables, &macro_source, out)
 }
 
