@@ -16,7 +16,6 @@ pub mod SectionNameLaws
 pub mod EntryPrintLaws
 pub mod MacroListLaws
 pub mod MacroLoopLaws
-pub mod MacroStartLaws
 pub mod MacroShownLaws
 pub mod SourceReadLaws
 pub mod ExcludeLaws

@@ -1,5 +1,5 @@
 -- Events and macro units are printed one after another.
-use Rattle.std.proofs.Common.{Bool, true, false, ◌≡◌, ℕ, zero, suc, ◌+◌, ◌<◌, ◌≤◌, List, [], ◌∷◌, ◌++◌, length, drop, drop-cons, get_or, Option, Some, None, refl, sym, ap, ◌∙◌, subst, arith}
+use Rattle.std.proofs.Common.{Bool, true, false, ◌≡◌, ℕ, suc, ◌+◌, ◌<◌, ◌≤◌, List, [], ◌∷◌, ◌++◌, length, drop, drop-cons, get_or, Option, Some, None, refl, sym, ap, ◌∙◌, subst, arith}
 use Rattle.std.specs.Prelude.{option_map}
 use Rattle.std.proofs.lemmas.List.{drop_all}
 use Rattle.dw_base.specs.Cells.{Located}
@@ -22,7 +22,7 @@ use Rattle.dw_base.specs.declared.view_fields.Field.{Field}
 use Rattle.dw_base.specs.declared.view_fields.Field.TheVariants.{Num, Into, Sym}
 use Rattle.dw_base.proofs.FileViewLaws.{section_after-within}
 use Rattle.dw_macros.specs.MacroEvents.{IsUnitIn, SpellsEvents, over, one_event, event_by, event_if, event_in, import_at, import_of, inline_place, named_place, text_event, text_if, unit_events}
-use Rattle.dw_starts.specs.MacroNames.{AreUnitsIn}
+use Rattle.dw_starts.proofs.MacroLoopLaws.{unit-at}
 use Rattle.file_tree.specs.Heard.{Heard}
 use Rattle.dbg_show.specs.Printing.{Printed, Cut, Goes}
 use Rattle.dbg_show.specs.ShownMacros.{EventThere, EventsThere, MacroSource, event_shown, events_shown, unit_shown, units_shown}
@@ -209,9 +209,4 @@ units-cut g us i u d before between old mid new e goes lt is c =
     (subst (λ (rest : List ℕ). Goes (units_shown g 0 us) rest before old mid between)
     (unit-first g us i d lt ∙ ap (λ (x : MacroUnit). unit_shown g i x ++ units_shown g (i + 1) (drop (i + 1) us)) (sym is)) goes) c
 
-pub unit-in : (v : View) (us : List MacroUnit) (i : ℕ) (d : MacroUnit) → AreUnitsIn v us → i < length us → IsUnitIn v (get_or us i d)
-unit-in v [] i d all lt = absurd (omega (arith, lt))
-unit-in v (u ∷ us) zero d all lt = all.0
-unit-in v (u ∷ us) (suc i) d all lt = unit-in v us i d all.1 (omega (arith, lt))
-
-pub ruleset units_laws = (units-start, units-more, unit-in)
+pub ruleset units_laws = (units-start, units-more, unit-at)

@@ -13,25 +13,24 @@ use Rattle.dw_base.specs.declared.macro_units.MacroEvent.{MacroEvent}
 use Rattle.dw_base.specs.declared.macro_units.MacroEvent.TheVariants.{Define, Undef, StartFile, EndFile, Import}
 use Rattle.dw_base.specs.declared.macro_units.MacroUnit.{MacroUnit}
 use Rattle.dw_meaning.proofs.MacroMeantLaws.{UnitsFrom, units-meant}
+use Rattle.dw_meaning.proofs.MacroReadLaws.{all-macros-one}
 use Rattle.dw_macros.specs.EventMeanings.{event_meaning, unit_meaning}
 use Rattle.dw_macros.specs.MacroEvents.{unit_events}
 use Rattle.dw_macros.proofs.MeaningLaws.{Seen, seen-view, units-mean}
-use Rattle.dw_starts.specs.LineStarts.{Rises}
+use Rattle.dw_starts.specs.LineStarts.{Rises, starts_of}
 use Rattle.dw_starts.specs.MacroNames.{AreUnitsIn}
-use Rattle.dw_starts.specs.MacroSections.{HaveUnits, SectionUnits, UnitsFoundIn}
+use Rattle.dw_starts.specs.MacroSections.{HaveUnits, SectionUnits, UnitsFoundIn, first_section}
 use Rattle.dw_read.specs.ReadData.{DataRead}
-use Rattle.dw_starts.specs.LineStarts.{starts_of}
-use Rattle.dw_starts.specs.UnitPlaces.{AllBelow, all_units, unit_keys, unit_number}
+use Rattle.dw_starts.specs.UnitPlaces.{AllBelow, UnitsStart, all_units, unit_keys, unit_number}
 use Rattle.dw_starts.proofs.MacroNumberLaws.{AllBelow as AllUnder, AllCells, numbers-below}
 use Rattle.dw_starts.proofs.MacroNameLaws.{units-in}
 use Rattle.dw_starts.proofs.MacroStartLaws.{all-cells}
 use Rattle.dw_starts.proofs.StartSearchLaws.{starts-rise}
 use Rattle.dw_starts.proofs.TableStartLaws.{read-starts}
-use Rattle.dw_starts.proofs.UnitKeyLaws.{keys-rise}
+use Rattle.dw_starts.proofs.UnitPlaceLaws.{places-rise, units-start}
 use Rattle.dbg_show.specs.MacroTexts.{events_text, macros_line, macros_text}
 use Rattle.dbg_show.specs.ShownMacros.{AreMacros, MacroSource, MacrosFit, event_shown, events_shown, line_number, units_shown}
 use Rattle.dbg_show.proofs.MacroListLaws.{all-in}
-use Rattle.dbg_show.proofs.MacroStartLaws.{unit-numbered}
 use Rattle.dw_base.specs.declared.debug_sections.DebugSection.TheVariants.{Line, Macro}
 
 -- the units of all sections mean what their pieces mean
@@ -87,9 +86,11 @@ reads-order v rs reads = reads
 pub units-numbered : (v : View) (ts : List LineTable) (ss : List SectionUnits) (d : DataRead v ts ss) (units : List MacroUnit) (keys : List ℕ) → AreMacros v ss units keys
     → (section place : ℕ) → started_unit 0 (macro_starts d.readings.macros) section place ≡ unit_number keys section place
 units-numbered v ts ss d units keys are section place =
-    unit-numbered v ss d.readings.macros d.units d.reads.macros (subst AllBelow are.units_are are.below) section place
-    ∙ ap (λ (us : List MacroUnit). unit_number (unit_keys us) section place) (sym are.units_are)
-    ∙ ap (λ (ks : List ℕ). unit_number ks section place) (sym are.keys_are)
+    let u : UnitsStart (debug_data v) (record { first = first_section ss; keys = keys }) =
+    units-start v ss (first_section ss) keys d.units (are.keys_are ∙ ap unit_keys are.units_are) (subst AllBelow are.units_are are.below) refl in
+    ap (λ (rs : List MacroReading). started_unit 0 (macro_starts rs) section place)
+    (all-macros-one (debug_data v).base.order ((debug_data v).found Macro) d.readings.macros u.readings d.reads.macros u.are)
+    ∙ u.start.numbered section place
 
 -- where line tables start is where those of the readings do, and this rises
 pub lines-start : (v : View) (ts : List LineTable) (ss : List SectionUnits) (d : DataRead v ts ss) (starts : List ℕ) → starts ≡ starts_of ts → starts ≡ table_starts d.readings.lines
@@ -100,7 +101,7 @@ lines-rise v ts ss d starts is =
     starts-rise (debug_data v) starts (record { tables = d.readings.lines; are = d.reads.lines; is = lines-start v ts ss d starts is })
 
 pub keys-risen : (v : View) (ss : List SectionUnits) → UnitsFoundIn v ss → (units : List MacroUnit) (keys : List ℕ) → AreMacros v ss units keys → Rises keys
-keys-risen v ss found units keys are = subst Rises (sym (are.keys_are ∙ ap unit_keys are.units_are)) (keys-rise v ss found (subst AllBelow are.units_are are.below))
+keys-risen v ss found units keys are = places-rise v ss keys found (are.keys_are ∙ ap unit_keys are.units_are) (subst AllBelow are.units_are are.below)
 
 pub macros-shown : (m : MacroSource) (ts : List LineTable) (ss : List SectionUnits) (d : DataRead m.view ts ss) → m.lines ≡ starts_of ts → AreMacros m.view ss m.units m.keys
     → units_shown m 0 m.units ≡ macros_text 0 (macro_meanings (around_of (debug_data m.view) d.readings) d.readings.macros)

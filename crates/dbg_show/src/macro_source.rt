@@ -12,7 +12,7 @@ ghost use Rattle.dbg_show.specs.ShownMacros.{AreMacros, MacroSource as MacroSour
 use dw_attrs::{part, started, unit_number};
 use dw_base::TextPlace;
 use dw_macros::MacroUnit;
-use dw_starts::{MacroSection, start_key};
+use dw_starts::{MacroSection, start_key, units_of};
 use dw_view::View;
 use std::alloc::{AllocError, Global};
 use std::marker::Model;
@@ -37,13 +37,6 @@ impl<'v, 'f, 'u> Model for MacroSource<'v, 'f, 'u> {
     ghost Value = { MacroSourceOf };
 
     ghost view = { λ s. record { view = s.view.now; lines = s.lines.now; units = s.units.now; keys = s.keys.now } };
-}
-
-/// The units of a section.
-fn units_of(section: &MacroSection) -> &[MacroUnit]
-    ensures { result.now ≡ section.now.units }
-{
-    section.units.as_slice()
 }
 
 /// The units of all sections.

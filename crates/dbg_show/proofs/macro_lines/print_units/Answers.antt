@@ -1,7 +1,8 @@
 -- Printed whole, or cut at one.
 use Rattle.std.proofs.Common.{arith, refl}
 use Rattle.std.specs.String.{string_bytes}
-use Rattle.dbg_show.proofs.MacroLoopLaws.{units-over, units-cut, unit-in}
+use Rattle.dw_starts.proofs.MacroLoopLaws.{unit-at}
+use Rattle.dbg_show.proofs.MacroLoopLaws.{units-over, units-cut}
 use Rattle.dbg_show.proofs.macro_lines.print_units.Goals as goal
 
 pub returns-in-Err-clause-cut : goal.returns-in-Err-clause-cut
@@ -15,4 +16,4 @@ returns-clause-done g c =
     (g.O.Sink.heard c.args.out.now) (g.O.Sink.heard c.loop-number.out) c.loop-number.invariant (omega arith)
 
 pub print_unit-requires-clause-unit : goal.print_unit-requires-clause-unit
-print_unit-requires-clause-unit g c = unit-in c.args.source.now.view c.args.units.now c.loop-number.number _ c.requires.units (omega arith)
+print_unit-requires-clause-unit g c = unit-at c.args.source.now.view c.args.units.now c.loop-number.number _ (omega arith) c.requires.units
