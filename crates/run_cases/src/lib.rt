@@ -1,4 +1,4 @@
-//! Runs over small build roots in memory by a toy judge: stopped at each call, and started again.
+//! Runs over a small build root in memory by a toy judge: stopped at each call, and started again.
 //!
 //! This layer promises: each run ends as its case says, by values of another program that was written from the same rules. It is a crate
 //! of its own, so that the functions of `root_run` aren't proved a second time with their tests.

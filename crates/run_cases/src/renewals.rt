@@ -1,5 +1,5 @@
 //! Starts over a root whose run version 1 ended: the finished text becomes one of version 2, and a stop leaves the one or the other.
-use crate::roots::{Is, SMALL, ends, old_tree};
+use crate::roots::{Is, ends, old_tree};
 use crate::stops::{Stop, left_by, unstored};
 use file_tree::Call;
 use std::alloc::Global;
@@ -22,26 +22,6 @@ const LEFT: [&[(&str, Is)]; 3] = [
     ],
 ];
 
-/// How often a start settles over such a root, where it gives the report and leaves what stands after the run.
-fn settles_of(alloc: Global, jobs: u8, left: &[(&'static str, Is)]) -> Result<Option<u64>, Fail> {
-    let mut tree = old_tree(alloc, left)?;
-    if ends(alloc, &mut tree, jobs, &SMALL)? {
-        return Ok(Some(tree.settle_count()));
-    }
-    Ok(None)
-}
-
-#[test]
-fn a_root_that_version_1_finished_gets_a_text_of_version_2(rt: HostRuntime) -> Result<(), Fail> {
-    let alloc = rt.alloc();
-    for left in LEFT {
-        for jobs in [1, 2, 64] {
-            assert_eq!(rt; settles_of(alloc, jobs, left)?, Some(3), "{jobs} jobs");
-        }
-    }
-    Ok(())
-}
-
 /// Stops such a start after these calls, with each number of changes that are kept, and starts it again.
 fn stop_behind(
     rt: &impl Abort,
@@ -57,7 +37,7 @@ fn stop_behind(
             kept,
         };
         let mut tree = left_by(rt, alloc, old_tree(alloc, left)?, stop)?;
-        assert!(rt; ends(alloc, &mut tree, 1, &SMALL)?, "{stop:?}");
+        assert!(rt; ends(alloc, &mut tree, 1)?, "{stop:?}");
     }
     Ok(())
 }
@@ -67,7 +47,7 @@ fn stopped_at_each_call_it_gets_it_at_its_next_start(rt: HostRuntime) -> Result<
     let alloc = rt.alloc();
     for left in LEFT {
         let mut whole = old_tree(alloc, left)?;
-        assert!(rt; ends(alloc, &mut whole, 2, &SMALL)?);
+        assert!(rt; ends(alloc, &mut whole, 2)?);
         let calls = whole.calls();
         for passed in 0..calls.len() {
             stop_behind(&rt, alloc, left, &calls[..passed])?;

@@ -16,124 +16,78 @@ pub(crate) enum Is {
     Link(&'static str),
 }
 
-/// A build root: what stands below `r` before the run and after it, and the report.
-#[derive(Clone, Copy)]
-pub(crate) struct Root {
-    pub before: &'static [(&'static str, Is)],
-    pub after: &'static [(&'static str, Is)],
-    pub report: &'static [u8],
-}
-
 /// A root with three files that are split, two of them with one build-id, one that is edited, one that is left, and a link.
-pub(crate) const SMALL: Root = Root {
-    before: &[
-        ("r/usr/bin/a", Is::File(0o755, b"Sx\x01")),
-        ("r/usr/bin/b", Is::File(0o755, b"Sx\x01")),
-        ("r/usr/bin/script", Is::File(0o755, b"#!")),
-        ("r/usr/lib/libc.so", Is::Link("libc.so.6")),
-        ("r/usr/lib/libc.so.6", Is::File(0o644, b"Sy")),
-        ("r/usr/lib/mod.o", Is::File(0o600, b"Ez")),
-    ],
-    after: &[
-        (
-            "r/.dbgwork/debugfiles",
-            Is::File(
-                0o644,
-                b"/usr/lib/debug/usr/bin/a.debug\0/usr/lib/debug/usr/bin/b.debug\0/usr/lib/debug/usr/lib/libc.so.6.debug\0",
-            ),
-        ),
-        (
-            "r/.dbgwork/finished",
-            Is::File(
-                0o644,
-                b"dbgfinished 2\0/build/p\0/usr/src/debug/p\x000\0\x000\x0010\x000\0split 3, edited 1, left 1, skipped 0, links 4, sources 3\n\0",
-            ),
-        ),
-        (
-            "r/.dbgwork/links",
-            Is::File(
-                0o644,
-                b"/usr/lib/debug/.build-id/ab/01\0../../../../../usr/bin/a\0/usr/lib/debug/.build-id/ab/01.debug\0../../../../../usr/lib/debug/usr/bin/a.debug\0/usr/lib/debug/.build-id/ab/01.1\0../../../../../usr/bin/b\0/usr/lib/debug/.build-id/ab/01.1.debug\0../../../../../usr/lib/debug/usr/bin/b.debug\0",
-            ),
-        ),
-        ("r/.dbgwork/sources", Is::File(0o644, b"x\0y\0z\0")),
-        ("r/usr/bin/a", Is::File(0o755, b"Sx\x01es")),
-        ("r/usr/bin/b", Is::File(0o755, b"Sx\x01es")),
-        ("r/usr/bin/script", Is::File(0o755, b"#!")),
-        (
-            "r/usr/lib/debug/.build-id/ab/01",
-            Is::Link("../../../../../usr/bin/a"),
-        ),
-        (
-            "r/usr/lib/debug/.build-id/ab/01.1",
-            Is::Link("../../../../../usr/bin/b"),
-        ),
-        (
-            "r/usr/lib/debug/.build-id/ab/01.1.debug",
-            Is::Link("../../../../../usr/lib/debug/usr/bin/b.debug"),
-        ),
-        (
-            "r/usr/lib/debug/.build-id/ab/01.debug",
-            Is::Link("../../../../../usr/lib/debug/usr/bin/a.debug"),
-        ),
-        (
-            "r/usr/lib/debug/usr/bin/a.debug",
-            Is::File(0o644, b"Sx\x01ea.debug"),
-        ),
-        (
-            "r/usr/lib/debug/usr/bin/b.debug",
-            Is::File(0o644, b"Sx\x01eb.debug"),
-        ),
-        (
-            "r/usr/lib/debug/usr/lib/libc.so.6.debug",
-            Is::File(0o644, b"Syelibc.so.6.debug"),
-        ),
-        ("r/usr/lib/libc.so", Is::Link("libc.so.6")),
-        ("r/usr/lib/libc.so.6", Is::File(0o644, b"Syes")),
-        ("r/usr/lib/mod.o", Is::File(0o600, b"Eze")),
-    ],
-    report: b"split 3, edited 1, left 1, skipped 0, links 4, sources 3\n",
-};
+pub(crate) const BEFORE: &[(&str, Is)] = &[
+    ("r/usr/bin/a", Is::File(0o755, b"Sx\x01")),
+    ("r/usr/bin/b", Is::File(0o755, b"Sx\x01")),
+    ("r/usr/bin/script", Is::File(0o755, b"#!")),
+    ("r/usr/lib/libc.so", Is::Link("libc.so.6")),
+    ("r/usr/lib/libc.so.6", Is::File(0o644, b"Sy")),
+    ("r/usr/lib/mod.o", Is::File(0o600, b"Ez")),
+];
 
-/// A root with five files that are split.
-pub(crate) const FIVE: Root = Root {
-    before: &[
-        ("r/a", Is::File(0o755, b"Sa")),
-        ("r/b", Is::File(0o755, b"Sb")),
-        ("r/c", Is::File(0o755, b"Sc")),
-        ("r/d", Is::File(0o755, b"Sd")),
-        ("r/e", Is::File(0o755, b"Se")),
-    ],
-    after: &[
-        (
-            "r/.dbgwork/debugfiles",
-            Is::File(
-                0o644,
-                b"/usr/lib/debug/a.debug\0/usr/lib/debug/b.debug\0/usr/lib/debug/c.debug\0/usr/lib/debug/d.debug\0/usr/lib/debug/e.debug\0",
-            ),
+/// What stands there after the run.
+const AFTER: &[(&str, Is)] = &[
+    (
+        "r/.dbgwork/debugfiles",
+        Is::File(
+            0o644,
+            b"/usr/lib/debug/usr/bin/a.debug\0/usr/lib/debug/usr/bin/b.debug\0/usr/lib/debug/usr/lib/libc.so.6.debug\0",
         ),
-        (
-            "r/.dbgwork/finished",
-            Is::File(
-                0o644,
-                b"dbgfinished 2\0/build/p\0/usr/src/debug/p\x000\0\x000\x0010\x000\0split 5, edited 0, left 0, skipped 0, links 0, sources 5\n\0",
-            ),
+    ),
+    (
+        "r/.dbgwork/finished",
+        Is::File(
+            0o644,
+            b"dbgfinished 2\0/build/p\0/usr/src/debug/p\x000\0\x000\x0010\x000\0split 3, edited 1, left 1, skipped 0, links 4, sources 3\n\0",
         ),
-        ("r/.dbgwork/links", Is::File(0o644, b"")),
-        ("r/.dbgwork/sources", Is::File(0o644, b"a\0b\0c\0d\0e\0")),
-        ("r/a", Is::File(0o755, b"Saes")),
-        ("r/b", Is::File(0o755, b"Sbes")),
-        ("r/c", Is::File(0o755, b"Sces")),
-        ("r/d", Is::File(0o755, b"Sdes")),
-        ("r/e", Is::File(0o755, b"Sees")),
-        ("r/usr/lib/debug/a.debug", Is::File(0o644, b"Saea.debug")),
-        ("r/usr/lib/debug/b.debug", Is::File(0o644, b"Sbeb.debug")),
-        ("r/usr/lib/debug/c.debug", Is::File(0o644, b"Scec.debug")),
-        ("r/usr/lib/debug/d.debug", Is::File(0o644, b"Sded.debug")),
-        ("r/usr/lib/debug/e.debug", Is::File(0o644, b"Seee.debug")),
-    ],
-    report: b"split 5, edited 0, left 0, skipped 0, links 0, sources 5\n",
-};
+    ),
+    (
+        "r/.dbgwork/links",
+        Is::File(
+            0o644,
+            b"/usr/lib/debug/.build-id/ab/01\0../../../../../usr/bin/a\0/usr/lib/debug/.build-id/ab/01.debug\0../../../../../usr/lib/debug/usr/bin/a.debug\0/usr/lib/debug/.build-id/ab/01.1\0../../../../../usr/bin/b\0/usr/lib/debug/.build-id/ab/01.1.debug\0../../../../../usr/lib/debug/usr/bin/b.debug\0",
+        ),
+    ),
+    ("r/.dbgwork/sources", Is::File(0o644, b"x\0y\0z\0")),
+    ("r/usr/bin/a", Is::File(0o755, b"Sx\x01es")),
+    ("r/usr/bin/b", Is::File(0o755, b"Sx\x01es")),
+    ("r/usr/bin/script", Is::File(0o755, b"#!")),
+    (
+        "r/usr/lib/debug/.build-id/ab/01",
+        Is::Link("../../../../../usr/bin/a"),
+    ),
+    (
+        "r/usr/lib/debug/.build-id/ab/01.1",
+        Is::Link("../../../../../usr/bin/b"),
+    ),
+    (
+        "r/usr/lib/debug/.build-id/ab/01.1.debug",
+        Is::Link("../../../../../usr/lib/debug/usr/bin/b.debug"),
+    ),
+    (
+        "r/usr/lib/debug/.build-id/ab/01.debug",
+        Is::Link("../../../../../usr/lib/debug/usr/bin/a.debug"),
+    ),
+    (
+        "r/usr/lib/debug/usr/bin/a.debug",
+        Is::File(0o644, b"Sx\x01ea.debug"),
+    ),
+    (
+        "r/usr/lib/debug/usr/bin/b.debug",
+        Is::File(0o644, b"Sx\x01eb.debug"),
+    ),
+    (
+        "r/usr/lib/debug/usr/lib/libc.so.6.debug",
+        Is::File(0o644, b"Syelibc.so.6.debug"),
+    ),
+    ("r/usr/lib/libc.so", Is::Link("libc.so.6")),
+    ("r/usr/lib/libc.so.6", Is::File(0o644, b"Syes")),
+    ("r/usr/lib/mod.o", Is::File(0o600, b"Eze")),
+];
+
+/// The report of the run.
+const REPORT: &[u8] = b"split 3, edited 1, left 1, skipped 0, links 4, sources 3\n";
 
 /// The node that stands so.
 fn node_of(alloc: Global, is: Is) -> Result<Node, AllocError> {
@@ -174,7 +128,7 @@ fn by_version_1(path: &str, is: Is) -> Is {
 /// The small root as version 1 left it, with all this of its work folder that isn't cleared.
 pub(crate) fn old_tree(alloc: Global, left: &[(&'static str, Is)]) -> Result<MemTree, Fail> {
     let mut nodes = Vec::new(alloc);
-    for (path, is) in SMALL.after {
+    for (path, is) in AFTER {
         let name = String::from_str(alloc, path)?;
         nodes.push((name, node_of(alloc, by_version_1(path, *is))?))?;
     }
@@ -197,7 +151,7 @@ fn stands(node: &Node, is: Is) -> bool {
 }
 
 /// Whether this stands in a tree, and nothing else.
-pub(crate) fn holds(tree: &MemTree, table: &[(&'static str, Is)]) -> bool {
+fn holds(tree: &MemTree, table: &[(&'static str, Is)]) -> bool {
     let nodes = tree.nodes();
     if nodes.len() != table.len() {
         return false;
@@ -238,9 +192,9 @@ pub(crate) fn start(
 }
 
 /// Whether a start with so many jobs in flight gives the report, and leaves what stands after the run.
-pub(crate) fn ends(alloc: Global, tree: &mut MemTree, jobs: u8, root: &Root) -> Result<bool, Fail> {
+pub(crate) fn ends(alloc: Global, tree: &mut MemTree, jobs: u8) -> Result<bool, Fail> {
     match start(alloc, tree, jobs)? {
-        Ok(report) => Ok(report.as_slice() == root.report && holds(tree, root.after)),
+        Ok(report) => Ok(report.as_slice() == REPORT && holds(tree, AFTER)),
         Err(_) => Ok(false),
     }
 }

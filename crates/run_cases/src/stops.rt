@@ -1,6 +1,6 @@
 //! Runs that are stopped at each call, or of which each call fails, and started again.
 use crate::ends::is_tree_fault;
-use crate::roots::{SMALL, ends, is_change, start, tree_of};
+use crate::roots::{BEFORE, ends, is_change, start, tree_of};
 use file_tree::{Call, MemTree};
 use std::alloc::Global;
 use std::process::Abort;
@@ -28,7 +28,7 @@ fn faults(alloc: Global, tree: &mut MemTree, jobs: u8) -> Result<bool, Fail> {
 /// How many calls a start with so many jobs in flight makes, which nothing disturbs.
 fn calls_of(rt: &impl Abort, alloc: Global, tree: MemTree, jobs: u8) -> Result<usize, Fail> {
     let mut tree = tree;
-    assert!(rt; ends(alloc, &mut tree, jobs, &SMALL)?, "{jobs} jobs");
+    assert!(rt; ends(alloc, &mut tree, jobs)?, "{jobs} jobs");
     Ok(tree.calls().len())
 }
 
@@ -47,7 +47,7 @@ pub(crate) fn left_by(
 
 /// What a run is left as that is stopped.
 fn begun_by(rt: &impl Abort, alloc: Global, stop: Stop) -> Result<MemTree, Fail> {
-    left_by(rt, alloc, tree_of(alloc, SMALL.before)?, stop)
+    left_by(rt, alloc, tree_of(alloc, BEFORE)?, stop)
 }
 
 /// How many changes the calls make behind the last settle among them.
@@ -72,18 +72,15 @@ fn stop_behind(
     for kept in 0..=unstored(passed) {
         let stop = Stop { jobs, calls, kept };
         let mut left = begun_by(rt, alloc, stop)?;
-        assert!(rt;
-            ends(alloc, &mut left, next, &SMALL)?,
-            "{stop:?}, then {next} jobs"
-        );
+        assert!(rt; ends(alloc, &mut left, next)?, "{stop:?}, then {next} jobs");
     }
     Ok(())
 }
 
 /// The same behind each call of the whole run.
 fn stop_each(rt: &impl Abort, alloc: Global, jobs: u8, next: u8) -> Result<(), Fail> {
-    let mut whole = tree_of(alloc, SMALL.before)?;
-    assert!(rt; ends(alloc, &mut whole, jobs, &SMALL)?, "{jobs} jobs");
+    let mut whole = tree_of(alloc, BEFORE)?;
+    assert!(rt; ends(alloc, &mut whole, jobs)?, "{jobs} jobs");
     let calls = whole.calls();
     for passed in 0..calls.len() {
         stop_behind(rt, alloc, jobs, &calls[..passed], next)?;
@@ -91,25 +88,15 @@ fn stop_each(rt: &impl Abort, alloc: Global, jobs: u8, next: u8) -> Result<(), F
     Ok(())
 }
 
-#[test]
-fn stopped_at_each_call_it_ends_with_one_job_in_flight(rt: HostRuntime) -> Result<(), Fail> {
-    let alloc = rt.alloc();
-    stop_each(&rt, alloc, 2, 1)?;
-    stop_each(&rt, alloc, 64, 1)
-}
+/// How many jobs are in flight at the start that is stopped, and at the next one.
+const STARTS: [(u8, u8); 3] = [(1, 64), (2, 1), (64, 2)];
 
 #[test]
-fn stopped_at_each_call_it_ends_with_two_jobs_in_flight(rt: HostRuntime) -> Result<(), Fail> {
-    let alloc = rt.alloc();
-    stop_each(&rt, alloc, 1, 2)?;
-    stop_each(&rt, alloc, 64, 2)
-}
-
-#[test]
-fn stopped_at_each_call_it_ends_with_all_jobs_in_flight(rt: HostRuntime) -> Result<(), Fail> {
-    let alloc = rt.alloc();
-    stop_each(&rt, alloc, 1, 64)?;
-    stop_each(&rt, alloc, 2, 64)
+fn stopped_at_each_call_it_ends_at_its_next_start(rt: HostRuntime) -> Result<(), Fail> {
+    for (jobs, next) in STARTS {
+        stop_each(&rt, rt.alloc(), jobs, next)?;
+    }
+    Ok(())
 }
 
 /// Stops the second start of a run that was stopped before, after each sixth call, and starts it a third time.
@@ -119,10 +106,7 @@ fn stop_second(rt: &impl Abort, alloc: Global, first: Stop, kept: u64) -> Result
         let jobs = 64;
         let second = Stop { jobs, calls, kept };
         let mut left = left_by(rt, alloc, begun_by(rt, alloc, first)?, second)?;
-        assert!(rt;
-            ends(alloc, &mut left, 1, &SMALL)?,
-            "{first:?}, then {second:?}"
-        );
+        assert!(rt; ends(alloc, &mut left, 1)?, "{first:?}, then {second:?}");
     }
     Ok(())
 }
@@ -133,7 +117,7 @@ const KEPT: [(u64, u64); 4] = [(0, 1), (2, 3), (3, 100), (100, 0)];
 #[test]
 fn stopped_twice_it_ends_with_its_third_start(rt: HostRuntime) -> Result<(), Fail> {
     let alloc = rt.alloc();
-    let calls = calls_of(&rt, alloc, tree_of(alloc, SMALL.before)?, 2)?;
+    let calls = calls_of(&rt, alloc, tree_of(alloc, BEFORE)?, 2)?;
     for calls in (0..calls).step_by(5) {
         for (kept, then) in KEPT {
             let jobs = 2;
@@ -145,17 +129,17 @@ fn stopped_twice_it_ends_with_its_third_start(rt: HostRuntime) -> Result<(), Fai
 
 /// Whether a run of which this call fails ends as a tree fault, and a start with `next` jobs in flight brings it to its end.
 fn is_mended(alloc: Global, jobs: u8, call: u64, next: u8) -> Result<bool, Fail> {
-    let mut tree = tree_of(alloc, SMALL.before)?;
+    let mut tree = tree_of(alloc, BEFORE)?;
     tree.fail_calls(vec![in alloc; call; 1]?);
     if !faults(alloc, &mut tree, jobs)? {
         return Ok(false);
     }
-    ends(alloc, &mut tree, next, &SMALL)
+    ends(alloc, &mut tree, next)
 }
 
 /// Lets each call of a run fail in turn.
 fn fail_each(rt: &impl Abort, alloc: Global, jobs: u8, next: u8) -> Result<(), Fail> {
-    let calls = calls_of(rt, alloc, tree_of(alloc, SMALL.before)?, jobs)?;
+    let calls = calls_of(rt, alloc, tree_of(alloc, BEFORE)?, jobs)?;
     for call in 0..calls as u64 {
         assert!(rt;
             is_mended(alloc, jobs, call, next)?,
@@ -167,8 +151,8 @@ fn fail_each(rt: &impl Abort, alloc: Global, jobs: u8, next: u8) -> Result<(), F
 
 #[test]
 fn after_each_call_that_fails_the_next_start_ends(rt: HostRuntime) -> Result<(), Fail> {
-    let alloc = rt.alloc();
-    fail_each(&rt, alloc, 1, 64)?;
-    fail_each(&rt, alloc, 2, 1)?;
-    fail_each(&rt, alloc, 64, 2)
+    for (jobs, next) in STARTS {
+        fail_each(&rt, rt.alloc(), jobs, next)?;
+    }
+    Ok(())
 }
