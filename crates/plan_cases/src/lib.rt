@@ -1,12 +1,10 @@
-//! Worked plans of small build roots, with a small judge of files.
+//! A small judge of files, by which whole runs are tried.
 //!
-//! This layer promises: each root has the plan that its case says, or is refused as it says, by values that were written by hand from
-//! the rules. It is a crate of its own, so that the functions of `root_plan` aren't proved a second time with their tests.
-//! Read first: `plans.rt`.
+//! This layer promises: a file says by its first bytes what becomes of it, so the layer above any judge is tried at this one. The
+//! tests are those of `run_cases`; what words, files and a status alone say of a plan stands in `cases/`.
+//! Read first: `toy.rt`.
 #![tactic(auto)]
 
-#[cfg(test)]
-mod plans;
 mod toy;
 
 pub use toy::Toy;
