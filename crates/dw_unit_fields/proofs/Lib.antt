@@ -29,3 +29,4 @@ pub mod UnitRowLaws
 pub mod SectionListLaws
 pub mod IndexedLaws
 pub mod StartLaws
+pub mod PlainLaws

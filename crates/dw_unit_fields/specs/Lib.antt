@@ -12,3 +12,4 @@ pub mod InlineRooms
 pub mod FieldOffsets
 pub mod ViewFields
 pub mod StartRows
+pub mod PlainSections

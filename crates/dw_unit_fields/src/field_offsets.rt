@@ -1,17 +1,35 @@
 //! The offsets that fields of a view hold (gABI ch. 4 "Relocation"; DWARF 5, 7.4 and 7.5.5).
 //!
-//! Read first: `specs/FieldOffsets.antt`.
+//! Read first: `specs/FieldOffsets.antt`, then `specs/PlainSections.antt`.
 
-ghost use Rattle.std.specs.Prelude.{◌≡◌, ◌⊎◌, ◌+◌, ◌<◌, ◌≤◌, true, length, IfErr, IfOk, OnOk};
+ghost use Rattle.std.specs.Prelude.{◌≡◌, ◌⊎◌, ◌+◌, ◌<◌, ◌≤◌, true, length, IfErr, IfNone, IfOk, IfSome, OnOk};
 ghost use Rattle.dw_base.specs.Cells.{cells_at, field_of, is_placed, offset_into, offset_of};
 ghost use Rattle.dw_base.specs.FileViews.{field_at, section_bytes, view_cells};
 ghost use Rattle.dw_base.specs.RelocationRows.{OffsetFails, field_place, offset_field};
 ghost use Rattle.dw_base.specs.ViewData.{located};
 ghost use Rattle.dw_unit_fields.specs.Fields.{IsStartField};
+ghost use Rattle.dw_unit_fields.specs.PlainSections.{IsNotPlain, IsPlain};
 
 use dw_base::{DebugSection, Field, Refusal};
 use dw_offsets::OffsetField;
 use dw_view::{SectionBytes, View};
+
+/// The bytes of the section of a number, where it is one that is read and no relocation begins in it, as in all of a linked file: a field is
+/// the number in them. None where it isn't read, or a relocation begins in it.
+#[tactic(auto, using(crate::proofs::PlainLaws::plain_rules))]
+pub fn plain_bytes<'v>(view: &'v View, section: u32) -> Option<&'v [u8]>
+    requires there { section < length view.now.sections }
+    ensures plain { IfSome result (λ b. IsPlain view.now section b.now) }
+    ensures none { IfNone result (IsNotPlain view.now section) }
+{
+    match view.kind(section) {
+        Some(_) => match view.next_relocation(section, 0) {
+            Some(_) => None,
+            None => Some(view.bytes(section)),
+        },
+        None => None,
+    }
+}
 
 /// The offset that a field holds into a section: one into another section counts as past it. Refused as
 /// `Relocation` where a relocation lies on the field only in part, at that, and where the one at it gives no place, at the field.

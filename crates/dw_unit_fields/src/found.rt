@@ -1,16 +1,17 @@
 //! What a pass over a unit section finds of paths, and of texts by index.
 
-ghost use Rattle.std.specs.Prelude.{◌≡◌, ◌⊎◌, ◌+◌, ◌≤◌, ◌<◌, length, map, true, IfErr, IfOk, OnOk};
+ghost use Rattle.std.specs.Prelude.{◌≡◌, ◌⊎◌, ◌+◌, ◌≤◌, ◌<◌, length, map, true, IfErr, IfOk, IfSome, OnOk};
 ghost use Rattle.dw_base.specs.Cells.{Located, cells_at, field_of, is_placed, offset_of};
 ghost use Rattle.dw_base.specs.FileViews.{view_cells};
 ghost use Rattle.dw_base.specs.RelocationRows.{OffsetFails};
 ghost use Rattle.dw_base.specs.Texts.{IsNulEnd, ends_in};
 ghost use Rattle.dw_unit_fields.specs.EntryTexts.{FoundTexts as FoundOf, Tables, TextTables as TablesOf, base_noted, index_noted, inline_noted, no_paths, none_found, noted, offset_in, stray_noted, value_field};
+ghost use Rattle.dw_unit_fields.specs.PlainSections.{IsPlain};
 ghost use Rattle.dw_unit_fields.specs.SectionFields.{SectionFields as PathsOf, fields_into, with_field, with_fields, with_inline, with_stray_at};
 
-use crate::field_offsets::offset_at;
+use crate::field_offsets::{offset_at, plain_bytes};
 use crate::fields::{InlinePath, TextBase, TextIndex};
-use dw_base::{DebugSection, Refusal, Value, nul_end};
+use dw_base::{DebugSection, Refusal, Value, nul_end, number_in};
 use dw_offsets::OffsetField;
 use dw_view::{SectionBytes, View};
 use std::alloc::{AllocError, Global};
@@ -241,6 +242,8 @@ pub(crate) struct SectionTexts<'v, 'f, 't, 'a> {
     pub view: &'v View<'f>,
     /// The section's number.
     pub section: u32,
+    /// Its bytes, where it is known that no relocation begins in it: relocations are looked for once in it, and not at each field.
+    plain: Option<&'v [u8]>,
     /// The tables of texts.
     tables: &'t TextTables<'a>,
 }
@@ -250,7 +253,7 @@ impl<'v, 'f, 't, 'a> Model for SectionTexts<'v, 'f, 't, 'a> {
 
     ghost view = { λ s. record { order = s.view.now.order; number = s.section; cells = view_cells s.view.now s.section; str = s.tables.now.str; line_str = s.tables.now.line_str } };
 
-    ghost invariant = { λ s. s.section < length s.view.now.sections };
+    ghost invariant = { λ s. (s.section < length s.view.now.sections) × IfSome s.plain (λ b. IsPlain s.view.now s.section b.now) };
 }
 
 impl<'v, 'f, 't, 'a> SectionTexts<'v, 'f, 't, 'a> {
@@ -266,6 +269,7 @@ impl<'v, 'f, 't, 'a> SectionTexts<'v, 'f, 't, 'a> {
         SectionTexts {
             view,
             section,
+            plain: plain_bytes(view, section),
             tables,
         }
     }
@@ -288,7 +292,7 @@ impl<'v, 'f, 't, 'a> SectionTexts<'v, 'f, 't, 'a> {
 
     /// The offset that a value's field holds into a table: one into another section counts as past it. Refused as `Relocation` where
     /// a relocation lies on the field only in part, at that, and where the one at it gives no place, at the field.
-    #[tactic(auto, using(crate::proofs::FieldOffsetLaws::value_rules))]
+    #[tactic(auto, using(crate::proofs::PlainLaws::offset_rules))]
     pub(crate) fn offset(&self, value: &Value, table: &TextTable) -> Result<u64, Refusal>
         requires sized { (value.now.len ≡ 4) ⊎ (value.now.len ≡ 8) }
         requires lies { value.now.at + value.now.len ≤ length self.now.cells }
@@ -296,6 +300,9 @@ impl<'v, 'f, 't, 'a> SectionTexts<'v, 'f, 't, 'a> {
         ensures placed { OnOk result (is_placed (field_of self.now.order (cells_at self.now.cells value.now.at value.now.len)) ≡ true) }
         ensures refused { IfErr result (OffsetFails self.now.order self.now.number self.now.cells (value_field value.now)) }
     {
+        if let Some(bytes) = self.plain {
+            return Ok(number_in(self.view.order(), bytes, value.at, value.len as u8));
+        }
         let offset = value_offset(self.view, self.section, value, table)?;
         Ok(offset)
     }

@@ -34,6 +34,7 @@ mod units;
 mod unread;
 
 pub use all_sections::unit_fields;
+pub use field_offsets::plain_bytes;
 pub use fields::InlinePath;
 pub use found::{SectionFields, TextTable, TextTables};
 pub use slots::NamedSlots;
