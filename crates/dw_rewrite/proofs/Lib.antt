@@ -51,3 +51,4 @@ pub mod SectionMakeLaws
 pub mod StandingLaws
 pub mod HeldRecordLaws
 pub mod RecordEndLaws
+pub mod PlainLaws

@@ -1,10 +1,11 @@
 //! Where fields of a section hold offsets into a table: the offset that one holds, the number with which it says
 //! another, and whether it can say that, by the relocation that begins at it (gABI ch. 4 "Relocation"; DWARF 5, 7.4).
 //!
+//! This file promises: relocations are looked for once in a section that has none, as all of a linked file, and not at each field.
 //! Read first: `specs/Changes.antt`.
 
 ghost use Rattle.std.specs.Bool.{OnFalse, OnTrue};
-ghost use Rattle.std.specs.Prelude.{◌≡◌, ◌⊎◌, ◌+◌, ◌^◌, ◌<◌, ◌≤◌, length, Some};
+ghost use Rattle.std.specs.Prelude.{◌≡◌, ◌⊎◌, ◌+◌, ◌^◌, ◌<◌, ◌≤◌, length, IfSome, Some};
 ghost use Rattle.dw_base.specs.Cells.{bytes_of, cells_at};
 ghost use Rattle.dw_base.specs.FileViews.{view_cells};
 ghost use Rattle.dw_base.specs.NewOffsets.{symbol_value, with_offset};
@@ -13,9 +14,12 @@ ghost use Rattle.dw_base.specs.RelocationFields.{relocation_at};
 ghost use Rattle.dw_base.specs.declared.shared.Order.{Order as OrderOf};
 ghost use Rattle.dw_meaning.specs.NewAddends.{Makes, Misses};
 ghost use Rattle.dw_rewrite.specs.Changes.{FieldSource as SourceOf, offset_at, offset_bytes};
+ghost use Rattle.dw_unit_fields.specs.PlainSections.{IsPlain};
 ghost use Rattle.dw_view.specs.Relocations.{relocation_value};
 
+use dw_base::number_in;
 use dw_offsets::OffsetField;
+use dw_unit_fields::plain_bytes;
 use dw_view::{Relocation, SectionBytes, View};
 use elf_relocs::addend_makes;
 use std::marker::Model;
@@ -27,6 +31,8 @@ pub(crate) struct FieldSource<'v, 'f, 't> {
     view: &'v View<'f>,
     /// The section's number.
     section: u32,
+    /// Its bytes, where it is known that no relocation begins in it.
+    plain: Option<&'v [u8]>,
     /// The number of the table's section; 0 where it isn't there.
     number: u32,
     /// The table.
@@ -38,7 +44,7 @@ impl<'v, 'f, 't> Model for FieldSource<'v, 'f, 't> {
 
     ghost view = { λ s. record { order = s.view.now.order; cells = view_cells s.view.now s.section; table = record { number = s.number; bytes = s.table.now } } };
 
-    ghost invariant = { λ s. s.section < length s.view.now.sections };
+    ghost invariant = { λ s. (s.section < length s.view.now.sections) × IfSome s.plain (λ b. IsPlain s.view.now s.section b.now) };
 }
 
 impl<'v, 'f, 't> FieldSource<'v, 'f, 't> {
@@ -55,6 +61,7 @@ impl<'v, 'f, 't> FieldSource<'v, 'f, 't> {
         FieldSource {
             view,
             section,
+            plain: plain_bytes(view, section),
             number,
             table,
         }
@@ -68,22 +75,30 @@ impl<'v, 'f, 't> FieldSource<'v, 'f, 't> {
     }
 
     /// The offset that a field holds.
+    #[tactic(auto, using(crate::proofs::PlainLaws::offset_rules))]
     pub(crate) fn offset(&self, field: OffsetField) -> u64
         requires sized { (field.size ≡ 4) ⊎ (field.size ≡ 8) }
         requires inside { field.at + field.size ≤ length self.now.cells }
         ensures value { result ≡ offset_at self.now field }
     {
-        offset_there(self.view, self.section, self.number, self.table, field)
+        match self.plain {
+            Some(bytes) => number_in(self.view.order(), bytes, field.at, field.size),
+            None => offset_there(self.view, self.section, self.number, self.table, field),
+        }
     }
 
     /// The number with which a field says another offset.
+    #[tactic(auto, using(crate::proofs::PlainLaws::number_rules))]
     pub(crate) fn number(&self, field: OffsetField, offset: u64) -> u64
         requires sized { (field.size ≡ 4) ⊎ (field.size ≡ 8) }
         requires inside { field.at + field.size ≤ length self.now.cells }
         ensures bytes { number_bytes self.now.order field.size result ≡ offset_bytes self.now field offset }
         ensures fits { result < 256 ^ field.size }
     {
-        number_there(self.view, self.section, field, offset)
+        match self.plain {
+            Some(_) => low_bytes(offset, field.size),
+            None => number_there(self.view, self.section, field, offset),
+        }
     }
 
     /// A field can say an offset: false where the relocation that begins at it has an addend of 32 bits, which
