@@ -34,7 +34,7 @@ use Rattle.inline_lift.specs.LiftedTables.{filler_bytes, filler_form, filler_nam
 use Rattle.inline_lift.proofs.HeaderLiftLaws.{header-put}
 use Rattle.inline_lift.proofs.LiftedValueLaws.{filler-means, meaning-longer, meaning-state, offset-means, path-first, text-size, value-stays}
 use Rattle.inline_lift.proofs.PieceLiftLaws.{EntryLifts, TableLifts, filler-kind, fits-width, in_mode, strp-kind, value_state}
-use Rattle.inline_lift.proofs.StageLaws.{EachLifting}
+use Rattle.inline_lift.proofs.LiftingLaws.{EachLifting}
 use Rattle.inline_lift.proofs.StateLiftLaws.{entry_lifted}
 use Rattle.inline_lift.proofs.SurroundingLaws.{Holds, IsSmall, Standing, new_around, old_around}
 use Rattle.inline_lift.proofs.TurnedLaws.{AllTurned, Turned, all-turned, chosen, code, header, itself, more_turned, none_turned, path, value}

@@ -76,7 +76,7 @@ inline-turned l x ys (path table gs s number tag y rest p grew kind is fits lift
     by_left zero = (first _, tt)
     by_left (suc n) = (first _, (second n _, tt))
 
-units-inline : (m : PathMap) (d : DebugData) (r : DataReadings) → DataLifts m d r → EachReading (InlineFits m) (lifted_units (lift_of m d r) r.units)
+pub units-inline : (m : PathMap) (d : DebugData) (r : DataReadings) → DataLifts m d r → EachReading (InlineFits m) (lifted_units (lift_of m d r) r.units)
 units-inline m d r w =
     readings-turned (lift_of m d r) ⊤ (Holds (lift_of m d r)) (InlineFits m) (inline-turned (lift_of m d r)) 0 (d.found Info) r.units w.reads.units
     (λ sure. units-lifting m d r w.reads.units w.can w.short w.abbrevs) (texts-held m d r)
@@ -103,7 +103,7 @@ paths-fit m d r w slots = record {
 }
 
 -- what is read of a lifted file is loaded only where it was
-unloaded-lifted : (m : PathMap) (b : List ℕ) (r : DataReadings) (out : List ℕ) → FileLifts m b r → ReadsBack b (lifted_body m b r) out → (i : ℕ) → i < section_count b
+pub unloaded-lifted : (m : PathMap) (b : List ℕ) (r : DataReadings) (out : List ℕ) → FileLifts m b r → ReadsBack b (lifted_body m b r) out → (i : ℕ) → i < section_count b
     → ReadIsLoaded out i → ReadIsLoaded b i
 unloaded-lifted m b r out w back i lt h =
     let name : section_name out i ≡ section_name b i = section_name-back b (lifted_body m b r) out i (back-lifted m b r out w back) lt in

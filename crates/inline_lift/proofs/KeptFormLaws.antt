@@ -20,7 +20,7 @@ use Rattle.inline_lift.specs.GrowingPaths.{grown, room_left}
 use Rattle.inline_lift.specs.Lifted.{Lift, lifted_pieces, lifted_state, lifted_str, lifted_units, lifted_value, offset_cells}
 use Rattle.inline_lift.specs.LiftedTables.{filler_form, filler_name, is_short}
 use Rattle.inline_lift.proofs.PieceLiftLaws.{count_size, filler-kind, strp-kind, value_state}
-use Rattle.inline_lift.proofs.StageLaws.{EachLifting}
+use Rattle.inline_lift.proofs.LiftingLaws.{EachLifting}
 use Rattle.inline_lift.proofs.SurroundingLaws.{Holds, IsSmall, Standing, held-ends, named-kept, new_around, offset-held, old_around, unit-kept}
 use Rattle.inline_lift.proofs.TurnedLaws.{AllTurned, Turned, all-turned, chosen, code, header, itself, more_turned, none_turned, path, value}
 

@@ -4,7 +4,13 @@ pub mod CopiedTableLaws
 pub mod HeaderLiftLaws
 pub mod StateLiftLaws
 pub mod PieceLiftLaws
+pub mod MetPieceLaws
+pub mod MetGrowingLaws
 pub mod UnhinderedLaws
+pub mod LaterCodeLaws
+pub mod LiftRowLaws
+pub mod GrownSlotLaws
+pub mod GrownRowLaws
 pub mod UnitLiftLaws
 pub mod SectionLiftLaws
 pub mod CopyPlaceLaws
@@ -14,6 +20,7 @@ pub mod RootLaws
 pub mod AllLiftLaws
 pub mod QuietLaws
 pub mod StageLaws
+pub mod LiftingLaws
 pub mod LiftedUnitLaws
 pub mod TurnedLaws
 pub mod KeptUnitLaws

@@ -58,14 +58,14 @@ lift-loaded m b r out w none back =
     loaded-kept b out (lifted_body m b r) w.grows.reads.elf w.loaded none back (build_id-back b (lifted_body m b r) out (back-lifted m b r out w back))
 
 -- A file in which no path would grow
-abbrev Quiet : PathMap → Piece UnitState → Type 0
+abbrev pub Quiet : PathMap → Piece UnitState → Type 0
 Quiet m x = grows m x ≡ false
 
 pieces-quiet : (m : PathMap) (xs : List (Piece UnitState)) → any_grows m xs ≡ false → EachPiece (Quiet m) xs
 pieces-quiet m [] e = tt
 pieces-quiet m (x ∷ xs) e = let p = or_parts (grows m x) (any_grows m xs) e in (p.0, pieces-quiet m xs p.1)
 
-readings-quiet : (m : PathMap) (rs : Readings) → some_path_grows m rs ≡ false → EachReading (Quiet m) rs
+pub readings-quiet : (m : PathMap) (rs : Readings) → some_path_grows m rs ≡ false → EachReading (Quiet m) rs
 readings-quiet m [] e = tt
 readings-quiet m (r ∷ rs) e = let p = or_parts (any_grows m r.pieces) (some_path_grows m rs) e in (pieces-quiet m r.pieces p.0, readings-quiet m rs p.1)
 

@@ -25,11 +25,15 @@ use Rattle.dw_meaning.proofs.FileKeptLaws.{next-body}
 use Rattle.dw_meaning.proofs.LayoutRowLaws.{layout_excludes, layout_fits}
 use Rattle.dw_meaning.proofs.TableKeptLaws.{drop-at}
 use Rattle.dw_meaning.specs.DataOutput.{body_in}
+use Rattle.dw_base.specs.Refusals.{at}
+use Rattle.dw_base.specs.declared.fault.Kind.TheVariants.{Fixed}
+use Rattle.dw_meaning.specs.FileFails.{ReadIsLoaded, loaded, loaded_relocations}
+use Rattle.dw_meaning.specs.RelocationFails.{RelocationsAreLoaded}
 use Rattle.dw_meaning.specs.FileMeanings.{FileReads, file_data}
 use Rattle.dw_meaning.specs.Loaded.{LoadedKept}
 use Rattle.inline_lift.specs.Filled.{MeaningFilled}
 use Rattle.inline_lift.specs.GrowingPaths.{some_path_grows}
-use Rattle.inline_lift.specs.LiftFails.{LiftRows, output, paths}
+use Rattle.inline_lift.specs.LiftFails.{LiftRows, file, output, paths}
 use Rattle.inline_lift.specs.Lifted.{Lift, lifted_pieces}
 use Rattle.inline_lift.specs.LiftedFiles.{lifted_body, lifted_of, unit_bodies}
 use Rattle.inline_lift.proofs.LiftMeaningLaws.{lift-loaded, lift-meaning, quiet-meaning}
@@ -125,11 +129,13 @@ lifted-reads_back m b r w fits bytes =
     reads_back b (lifted_body m b r) w.reads.elf.debug w.reads.elf.segments (λ refusal f. layout_excludes b (lifted_body m b r) refusal fits f)
     (λ i lt empty. body-empty m b r i w empty) bytes
 
--- The lifted file of a file that can be read: where a path grows, it can be lifted, and its new bodies be laid out
+-- The lifted file of a file that can be read, and of which nothing that is read is loaded: where a path grows, it can be lifted, and its new bodies be laid out
 pub record Liftable (m : PathMap) (b : List ℕ) (r : DataReadings) : Type 0 where
   pub reads : FileReads b r
   pub bytes : (k : ℕ) → slice_index b k < 256
   pub small : length b < 2 ^ 32
+  pub unloaded : (i : ℕ) → i < section_count b → ReadIsLoaded b i → ⊥
+  pub relocations_unloaded : (i : ℕ) → i < section_count b → RelocationsAreLoaded b i → ⊥
   pub lifts : some_path_grows m r.units ≡ true → FileLifts m b r
   pub fits : some_path_grows m r.units ≡ true → LayoutFits b (lifted_body m b r)
 
@@ -161,6 +167,8 @@ liftable m b r reads bytes small none = record {
   reads = reads;
   bytes = bytes;
   small = small;
+  unloaded = λ i lt l. none (at Fixed i 0) (file (loaded i reads.elf lt l));
+  relocations_unloaded = λ i lt l. none (at Fixed i 0) (file (loaded_relocations i reads.elf lt l));
   lifts = λ grown. file-lifts m b r (λ q f. none q (paths f)) reads grown small;
   fits = λ grown. layout_fits b (lifted_body m b r) (λ q f. none q (output r reads grown f));
 }

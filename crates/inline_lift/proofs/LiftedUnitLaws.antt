@@ -10,7 +10,8 @@ use Rattle.inline_lift.specs.LiftFails.{UnitsLift, ValueLifts}
 use Rattle.inline_lift.specs.Lifted.{Lift, lift_of, lifted_abbrevs, lifted_data, lifted_readings}
 use Rattle.inline_lift.proofs.AllLiftLaws.{CanLift}
 use Rattle.inline_lift.proofs.SectionLiftLaws.{sections-read}
-use Rattle.inline_lift.proofs.StageLaws.{EachLifting, each-lift, each-lifting}
+use Rattle.inline_lift.proofs.StageLaws.{EachStaged, each-staged}
+use Rattle.inline_lift.proofs.LiftingLaws.{EachLifting, each-lift, each-lifting}
 
 -- each piece is shorter than 4 bytes can say
 abbrev pub IsShort : Piece UnitState → Type 0
@@ -24,11 +25,15 @@ readings-can : (l : Lift) (rs : Readings) → EachReading (ValueLifts l.map) rs 
 readings-can l [] values short = tt
 readings-can l (r ∷ rs) values short = (pieces-can l r.pieces values.0 short.0, readings-can l rs values.1 short.1)
 
--- what is known of their pieces, where the new abbreviations are shorter than 4 bytes can say
+-- where their pieces stand
+pub units-staged : (m : PathMap) (d : DebugData) (r : DataReadings) → ReadsAll d.base 0 (d.found Info) r.units → UnitsLift m r → EachStaged (lift_of m d r) r.units
+units-staged m d r reads can = each-staged (lift_of m d r) 0 (d.found Info) r.units [] reads can.codes refl tt
+
+-- what is known of them, where the new abbreviations are shorter than 4 bytes can say
 pub units-lifting : (m : PathMap) (d : DebugData) (r : DataReadings) → ReadsAll d.base 0 (d.found Info) r.units → UnitsLift m r → EachReading IsShort r.units
     → length (lifted_abbrevs (lift_of m d r)) < 2 ^ 32 → EachLifting (lift_of m d r) r.units
 units-lifting m d r reads can short small =
-    each-lifting (lift_of m d r) 0 (d.found Info) r.units [] reads (readings-can (lift_of m d r) r.units can.values short) can.codes small refl tt
+    each-lifting (lift_of m d r) 0 (d.found Info) r.units reads (readings-can (lift_of m d r) r.units can.values short) small (units-staged m d r reads can)
 
 -- so lifted units are units
 pub units-lifted-read : (m : PathMap) (d : DebugData) (r : DataReadings) → ReadsAll d.base 0 (d.found Info) r.units → UnitsLift m r → EachReading IsShort r.units

@@ -43,6 +43,7 @@ pub record OwnTable (l : Lift) (unit : ℕ) (list : List Abbreviation) (r : Root
   pub before : List Copy
   pub behind : List Copy
   pub among : l.copies ≡ before ++ copy ∷ behind
+  pub below : AllBelow unit before
   pub unit_is : copy.unit ≡ unit
   pub code_is : copy.code ≡ r.code
 
@@ -149,6 +150,7 @@ root-known l s p xs before after some c t b below behind = by_grown (any_grown (
             before = before;
             behind = rest ++ after;
             among = among;
+            below = below;
             unit_is = refl;
             code_is = refl;
           },

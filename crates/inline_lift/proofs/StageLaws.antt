@@ -1,5 +1,5 @@
--- All pieces of unit sections that can be lifted are so: one piece after another.
-use Rattle.std.proofs.Common.{Bool, true, false, ◌≡◌, ◌≢◌, ℕ, ◌+◌, ◌-◌, ◌^◌, ◌<◌, ◌≤◌, ◌==◌, not, List, [], ◌∷◌, ◌++◌, length, Option, Some, None, refl, sym, ap, ◌∙◌, subst, arith, if◌then◌else◌, append_assoc}
+-- Where each piece of unit sections stands, and which copies are before it and behind it: one piece after another.
+use Rattle.std.proofs.Common.{Bool, true, false, ◌≡◌, ◌≢◌, ℕ, ◌+◌, ◌-◌, ◌<◌, ◌≤◌, ◌==◌, not, List, [], ◌∷◌, ◌++◌, length, Option, Some, None, refl, sym, ap, ◌∙◌, subst, arith, if◌then◌else◌, append_assoc}
 use Rattle.std.specs.Prelude.{◌&&◌, ⊤}
 use Rattle.std.proofs.lemmas.Bool.{and_parts, ne_eqb}
 use Rattle.dw_base.specs.AbbreviationTables.{Abbreviation, abbreviation_of}
@@ -8,51 +8,22 @@ use Rattle.dw_base.specs.DebugData.{ReadsAll, begins_by, units_in}
 use Rattle.dw_base.specs.EntryScans.{depth_behind}
 use Rattle.dw_base.specs.Forms.{ValueKind, form_in_front, kind_in}
 use Rattle.dw_base.specs.Paths.{PathMap}
-use Rattle.dw_base.specs.Pieces.{Chain, EachPiece, Piece}
-use Rattle.dw_base.specs.Readings.{EachReading, Readings}
+use Rattle.dw_base.specs.Pieces.{Chain, Piece}
+use Rattle.dw_base.specs.Readings.{Readings}
 use Rattle.dw_base.specs.UnitHeaders.{UnitBase, UnitSection}
 use Rattle.dw_base.specs.UnitPieces.{FitsMode, IsHeader, unit_grammar}
 use Rattle.dw_base.specs.UnitStates.{Mode, at_header, at_code, at_values, at_chosen, stuck, UnitState, after_code, after_entry, after_header, after_value, before_unit, between, code_value, headed, in_unit, inside, past, piece_header}
 use Rattle.dw_base.specs.declared.units.UnitHeader.{UnitHeader}
 use Rattle.dw_base.specs.declared.values.Spec.{Spec}
-use Rattle.inline_lift.specs.GrowingPaths.{Fate, any_grown, fate_of, fates, grows}
-use Rattle.inline_lift.specs.LiftFails.{AllCodesLift, CodeLifts, CodesLift, is_chosen, root_behind, root_if}
-use Rattle.inline_lift.specs.Lifted.{Lift, lifted_abbrevs, own_table}
+use Rattle.inline_lift.specs.GrowingPaths.{Fate, any_grown, fates}
+use Rattle.inline_lift.specs.LiftFails.{AllCodesLift, CodeLifts, CodesLift, root_behind, root_if}
+use Rattle.inline_lift.specs.Lifted.{Lift}
 use Rattle.inline_lift.specs.LiftedTables.{Copy, all_copies, copies_at, copies_if, copies_in, is_first_code, table_copy}
-use Rattle.inline_lift.proofs.AllLiftLaws.{CanLift, Inside, Stage, at_unit, before_first, behind_first, behind-lifts, entry-inner, first-lifts, header-known, header-lifts, inner-stage, past-inner}
+use Rattle.inline_lift.proofs.AllLiftLaws.{Inside, Stage, at_unit, before_first, behind_first, entry-inner, header-known, inner-stage, past-inner}
 use Rattle.inline_lift.proofs.CopyPlaceLaws.{AllBelow, AllFrom, below-append, below-weaker, bound, bound_by, copies-from, entry-above, from-append, from-weaker, past-bound}
 use Rattle.inline_lift.proofs.OwnTableLaws.{order-read}
-use Rattle.inline_lift.proofs.QuietLaws.{later-quiet, none-grown, none-here, quiet-mode}
+use Rattle.inline_lift.proofs.QuietLaws.{later-quiet, none-grown}
 use Rattle.inline_lift.proofs.RootLaws.{Between, Known, fresh, root_ahead, stuck-none}
-use Rattle.inline_lift.proofs.SectionLiftLaws.{EachLifts}
-use Rattle.inline_lift.proofs.UnitLiftLaws.{AllLift, LiftsIf, PieceLifts}
-
--- a piece of a unit is lifted where its unit has a table of its own
-lifts-here : (l : Lift) (root : Option ℕ) (x : Piece UnitState) (xs : List (Piece UnitState)) (before after : List Copy) (o : Option ℕ) → CanLift l x
-    → CodeLifts x.state.mode root x.state x.cells
-    → FitsMode x.state.mode l.base x.state x.cells → Chain (unit_grammar l.base) (past x.state.mode l.base x.state x.cells) xs → length (lifted_abbrevs l) < 2 ^ 32
-    → Between l before (copies_in l.map l.base.abbrevs.bytes (x ∷ xs)) after → AllBelow (bound x.state) before → (x.state.mode ≡ at_header → AllFrom (x.state.unit + 1) after)
-    → Stage l root (x ∷ xs) x.state → own_table l x.state.unit ≡ o → LiftsIf o l (fates l.map xs) x
-lifts-here l root x xs before after None can codes f c small b below behind stage e = tt
-lifts-here l root x xs before after (Some table) can codes f c small b below behind (at_unit is) e =
-    let header : IsHeader l.base x.state x.cells = subst (λ (k : Mode). FitsMode k l.base x.state x.cells) is f in
-    let chain : Chain (unit_grammar l.base) (past at_header l.base x.state x.cells) xs = subst (λ (k : Mode). Chain (unit_grammar l.base) (past k l.base x.state x.cells) xs) is c in
-    let none : copies_at l.base.abbrevs.bytes x (fates l.map xs) ≡ [] =
-    ap (λ (k : Mode). copies_if (is_first_code k x.state x.cells && any_grown (fates l.map xs)) x.state.unit (code_value x.cells)
-    (table_copy l.base.abbrevs.bytes x.state.header.abbrevs (code_value x.cells) (fates l.map xs))) is in
-    let among : Between l before (copies_in l.map l.base.abbrevs.bytes xs) after =
-    record { among = b.among ∙ ap (λ (cs : List Copy). before ++ ((cs ++ copies_in l.map l.base.abbrevs.bytes xs) ++ after)) none } in
-    let low : AllBelow x.state.unit before = subst (λ (k : Mode). AllBelow (bound_by k x.state) before) is below in
-    subst (λ (k : Mode). PieceLifts k l table (fates l.map xs) (fate_of l.map x) x.state x.cells) (sym is)
-    (header-lifts l table x.state x.cells xs before after header chain small among low (behind is) e)
-lifts-here l root x xs before after (Some table) can codes f c small b below behind (before_first t is i known) e =
-    let here : Known l t.unit t.table (root_ahead l.map (record { state = fresh t; cells = x.cells } ∷ xs)) =
-    subst (λ (u : UnitState). Known l u.unit u.table (root_ahead l.map (record { state = u; cells = x.cells } ∷ xs))) is known in
-    let own : own_table l t.unit ≡ Some table = ap (λ (u : UnitState). own_table l u.unit) (sym is) ∙ e in
-    subst (λ (u : UnitState). PieceLifts u.mode l table (fates l.map xs) (fate_of l.map x) u x.cells) (sym is)
-    (first-lifts l table t x.cells xs small here own)
-lifts-here l root x xs before after (Some table) can codes f c small b below behind (behind_first r some other i known rooted quiet) e =
-    behind-lifts x.state.mode l root table x.state x.cells xs r can codes rooted other c small some i known e
 
 -- the stage behind a piece
 between-stage : (l : Lift) (o : Option ℕ) (s : UnitState) (place depth : ℕ) (xs : List (Piece UnitState)) → Inside l s → Known l s.unit s.table (root_ahead l.map xs)
@@ -235,26 +206,26 @@ header-least k s n top e h =
     let at : s.unit + (1 + n) ≤ top = subst (λ (m : Mode). ends_by m s (begins_by m + n) ≤ top) e h in
     omega (arith, at)
 
--- what is known of a piece: it is lifted where its unit has a table of its own, and else no path grows in it; nor does one whose form stands in front
--- of it
-pub record Lifting (l : Lift) (gs : List Fate) (x : Piece UnitState) : Type 0 where
-  pub lifts : LiftsIf (own_table l x.state.unit) l gs x
-  pub quiet : own_table l x.state.unit ≡ None → grows l.map x ≡ false
-  pub own : is_chosen x.state.mode ≡ true → grows l.map x ≡ false
+-- where a piece stands in front of others: its stage, the copies before it and behind it, and what is asked of its code
+pub record Staged (l : Lift) (x : Piece UnitState) (xs : List (Piece UnitState)) : Type 0 where
+  pub root : Option ℕ
+  pub before : List Copy
+  pub after : List Copy
+  pub stage : Stage l root (x ∷ xs) x.state
+  pub codes : CodeLifts x.state.mode root x.state x.cells
+  pub among : Between l before (copies_in l.map l.base.abbrevs.bytes (x ∷ xs)) after
+  pub below : AllBelow (bound x.state) before
+  pub behind : x.state.mode ≡ at_header → AllFrom (x.state.unit + 1) after
 
-abbrev pub AllLifting : Lift → List (Piece UnitState) → Type 0
-AllLifting l [] = ⊤
-AllLifting l (x ∷ xs) = Lifting l (fates l.map xs) x × AllLifting l xs
+abbrev pub AllStaged : Lift → List (Piece UnitState) → Type 0
+AllStaged l [] = ⊤
+AllStaged l (x ∷ xs) = Staged l x xs × AllStaged l xs
 
-never-both : (a b : Bool) → (a ≡ true → b ≡ false) → b ≡ true → a ≡ false
-never-both true b h e = let both : true ≡ false = sym e ∙ h refl in absurd cc
-never-both false b h e = refl
-
-pub all-lifting : (l : Lift) (o : Option ℕ) (s : UnitState) (xs : List (Piece UnitState)) (before after : List Copy) (top : ℕ) → Chain (unit_grammar l.base) s xs → EachPiece (CanLift l) xs → CodesLift l.map o xs
-    → length (lifted_abbrevs l) < 2 ^ 32 → Between l before (copies_in l.map l.base.abbrevs.bytes xs) after → AllBelow (bound s) before → AllFrom top after
-    → ends_by s.mode s (units_in xs) ≤ top → Stage l o xs s → AllLifting l xs
-all-lifting l o s [] before after top c can codes small b below behind ends stage = tt
-all-lifting l o s (x ∷ xs) before after top c can codes small b below behind ends stage =
+pub all-staged : (l : Lift) (o : Option ℕ) (s : UnitState) (xs : List (Piece UnitState)) (before after : List Copy) (top : ℕ) → Chain (unit_grammar l.base) s xs → CodesLift l.map o xs
+    → Between l before (copies_in l.map l.base.abbrevs.bytes xs) after → AllBelow (bound s) before → AllFrom top after
+    → ends_by s.mode s (units_in xs) ≤ top → Stage l o xs s → AllStaged l xs
+all-staged l o s [] before after top c codes b below behind ends stage = tt
+all-staged l o s (x ∷ xs) before after top c codes b below behind ends stage =
     let here : Stage l o (x ∷ xs) x.state = subst (Stage l o (x ∷ xs)) (sym c.0) stage in
     let low : AllBelow (bound x.state) before = subst (λ (u : UnitState). AllBelow (bound u) before) (sym c.0) below in
     let last : ends_by x.state.mode x.state (begins_by x.state.mode + units_in xs) ≤ top =
@@ -265,21 +236,11 @@ all-lifting l o s (x ∷ xs) before after top c can codes small b below behind e
     let next_before : AllBelow (bound (past x.state.mode l.base x.state x.cells)) (before ++ copies_at l.base.abbrevs.bytes x (fates l.map xs)) =
     below-append (bound (past x.state.mode l.base x.state x.cells)) before (copies_at l.base.abbrevs.bytes x (fates l.map xs))
     (below-weaker (bound x.state) (bound (past x.state.mode l.base x.state x.cells)) before (past-bound l.base x.state x.cells c.1) low)
-    (copies-below l.base.abbrevs.bytes l.base x xs (fates l.map xs) c.2) in
-    let own : is_chosen x.state.mode ≡ true → grows l.map x ≡ false = λ e. never-both (grows l.map x) (is_chosen x.state.mode) can.0.value.own_form e in (
-      record {
-        lifts = lifts-here l o x xs before after (own_table l x.state.unit) can.0 codes.0 c.1 c.2 small b low later here refl;
-        quiet = λ none. quiet-mode x.state.mode l.map x.state x.cells xs (none-here l o x xs here none) own;
-        own = own;
-      },
-      all-lifting l (root_behind x.state.mode o x.state x.cells (fates l.map xs)) (past x.state.mode l.base x.state x.cells) xs (before ++ copies_at l.base.abbrevs.bytes x (fates l.map xs)) after top c.2 can.1 codes.1 small
+    (copies-below l.base.abbrevs.bytes l.base x xs (fates l.map xs) c.2) in (
+      record { root = o; before = before; after = after; stage = here; codes = codes.0; among = b; below = low; behind = later },
+      all-staged l (root_behind x.state.mode o x.state x.cells (fates l.map xs)) (past x.state.mode l.base x.state x.cells) xs (before ++ copies_at l.base.abbrevs.bytes x (fates l.map xs)) after top c.2 codes.1
           (further l x xs before after b) next_before behind (omega (arith, ends_next, last)) (next-stage l o x xs before after c.1 c.2 b low later here),
     )
-
--- so it is lifted
-pub all-lift : (l : Lift) (xs : List (Piece UnitState)) → AllLifting l xs → AllLift l xs
-all-lift l [] all = tt
-all-lift l (x ∷ xs) all = (all.0.lifts, all-lift l xs all.1)
 
 -- the copies of a section are before those of later sections
 section-below : (m : PathMap) (abbrevs : List ℕ) (base : UnitBase) (s : UnitState) (xs : List (Piece UnitState)) → Chain (unit_grammar base) s xs
@@ -312,27 +273,23 @@ all-from m abbrevs base first (z ∷ zs) (r ∷ rs) reads =
     (copies-from m abbrevs base (before_unit z.number z.kind (length z.contents) 0 first) r.pieces reads.1.chain)
     (from-weaker first (first + units_in r.pieces) (all_copies m abbrevs rs) (omega arith) (all-from m abbrevs base (first + units_in r.pieces) zs rs reads.2))
 
--- so this is known of all pieces of all sections that can be lifted
-abbrev pub EachLifting : Lift → Readings → Type 0
-EachLifting l [] = ⊤
-EachLifting l (r ∷ rs) = AllLifting l r.pieces × EachLifting l rs
+-- so it is of all sections that can be lifted
+abbrev pub EachStaged : Lift → Readings → Type 0
+EachStaged l [] = ⊤
+EachStaged l (r ∷ rs) = AllStaged l r.pieces × EachStaged l rs
 
-pub each-lifting : (l : Lift) (first : ℕ) (zs : List UnitSection) (rs : Readings) (before : List Copy) → ReadsAll l.base first zs rs → EachReading (CanLift l) rs → AllCodesLift l.map rs
-    → length (lifted_abbrevs l) < 2 ^ 32 → l.copies ≡ before ++ all_copies l.map l.base.abbrevs.bytes rs → AllBelow first before → EachLifting l rs
-each-lifting l first [] [] before reads can codes small among below = tt
-each-lifting l first [] (r ∷ rs) before reads can codes small among below = absurd reads
-each-lifting l first (z ∷ zs) [] before reads can codes small among below = absurd reads
-each-lifting l first (z ∷ zs) (r ∷ rs) before reads can codes small among below =
+pub each-staged : (l : Lift) (first : ℕ) (zs : List UnitSection) (rs : Readings) (before : List Copy) → ReadsAll l.base first zs rs → AllCodesLift l.map rs
+    → l.copies ≡ before ++ all_copies l.map l.base.abbrevs.bytes rs → AllBelow first before → EachStaged l rs
+each-staged l first [] [] before reads codes among below = tt
+each-staged l first [] (r ∷ rs) before reads codes among below = absurd reads
+each-staged l first (z ∷ zs) [] before reads codes among below = absurd reads
+each-staged l first (z ∷ zs) (r ∷ rs) before reads codes among below =
     let next : l.copies ≡ (before ++ copies_in l.map l.base.abbrevs.bytes r.pieces) ++ all_copies l.map l.base.abbrevs.bytes rs =
     among ∙ sym (append_assoc before (copies_in l.map l.base.abbrevs.bytes r.pieces) (all_copies l.map l.base.abbrevs.bytes rs)) in (
-      all-lifting l None (before_unit z.number z.kind (length z.contents) 0 first) r.pieces before (all_copies l.map l.base.abbrevs.bytes rs) (first + units_in r.pieces) reads.1.chain can.0 codes.0 small
+      all-staged l None (before_unit z.number z.kind (length z.contents) 0 first) r.pieces before (all_copies l.map l.base.abbrevs.bytes rs) (first + units_in r.pieces) reads.1.chain codes.0
           (record { among = among }) below (all-from l.map l.base.abbrevs.bytes l.base (first + units_in r.pieces) zs rs reads.2) (omega arith) (at_unit refl),
-      each-lifting l (first + units_in r.pieces) zs rs (before ++ copies_in l.map l.base.abbrevs.bytes r.pieces) reads.2 can.1 codes.1 small next
+      each-staged l (first + units_in r.pieces) zs rs (before ++ copies_in l.map l.base.abbrevs.bytes r.pieces) reads.2 codes.1 next
           (below-append (first + units_in r.pieces) before (copies_in l.map l.base.abbrevs.bytes r.pieces)
           (below-weaker first (first + units_in r.pieces) before (omega arith) below)
           (section-below l.map l.base.abbrevs.bytes l.base (before_unit z.number z.kind (length z.contents) 0 first) r.pieces reads.1.chain)),
     )
-
-pub each-lift : (l : Lift) (rs : Readings) → EachLifting l rs → EachLifts l rs
-each-lift l [] all = tt
-each-lift l (r ∷ rs) all = (all-lift l r.pieces all.0, each-lift l rs all.1)

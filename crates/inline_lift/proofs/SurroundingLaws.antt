@@ -1,6 +1,6 @@
 -- What stands around lifted units: all that did, but for more abbreviations and more texts. Each offset of a text that ends names the same text, and
 -- that of a path that grew its old text.
-use Rattle.std.proofs.Common.{Bool, true, false, ◌≡◌, ℕ, ◌+◌, ◌^◌, ◌<◌, ◌==◌, List, [], ◌∷◌, ◌++◌, length, Option, refl, sym, ap, ◌∙◌, arith, if◌then◌else◌, append-nil}
+use Rattle.std.proofs.Common.{Bool, true, false, ◌≡◌, ℕ, ◌^◌, ◌<◌, ◌==◌, List, [], ◌∷◌, ◌++◌, length, Option, refl, sym, ap, ◌∙◌, arith, if◌then◌else◌, append-nil}
 use Rattle.std.proofs.lemmas.List.{length-append}
 use Rattle.dw_base.specs.Cells.{Cell, Located, Relocation, bytes_of, field_by, field_of, offset_into, offset_of, plain_cells}
 use Rattle.dw_base.specs.DebugData.{Around, DataReadings, DebugData, Kept, LinesAround}

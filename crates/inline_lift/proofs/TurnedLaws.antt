@@ -19,7 +19,7 @@ use Rattle.inline_lift.specs.LiftFails.{is_chosen}
 use Rattle.inline_lift.specs.Lifted.{Lift, header_cells, lifted_pieces, lifted_state, lifted_value, own_table, pieces_by, pieces_if}
 use Rattle.inline_lift.proofs.PieceLiftLaws.{EntryLifts, TableLifts, TextLifts, in_mode, value_state}
 use Rattle.inline_lift.proofs.QuietLaws.{stays-none}
-use Rattle.inline_lift.proofs.StageLaws.{AllLifting, Lifting}
+use Rattle.inline_lift.proofs.LiftingLaws.{AllLifting, Lifting}
 use Rattle.inline_lift.proofs.StateLiftLaws.{kind-own}
 use Rattle.inline_lift.proofs.UnitLiftLaws.{LiftsIf, PieceLifts, chosen-first, front-fixed, piece_of}
 

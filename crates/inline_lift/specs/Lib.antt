@@ -4,3 +4,4 @@ pub mod Lifted
 pub mod LiftedFiles
 pub mod LiftFails
 pub mod Filled
+pub mod GrownRows
