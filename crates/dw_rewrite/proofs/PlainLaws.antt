@@ -1,15 +1,13 @@
 -- Fields of a section in which no relocation begins: the number in one is its offset, and it says another by that number.
-use Rattle.std.proofs.Common.{◌≡◌, ◌⊎◌, ℕ, ◌+◌, ◌≤◌, List, length, drop, Option, None, Some, sym, ap, ◌∙◌, subst, arith}
-use Rattle.std.specs.Prelude.{IfSome}
-use Rattle.dw_base.specs.Cells.{Cell, Located, Relocation, bytes_of, cells_at, field_by, first_relocation, offset_into, offset_of, with_bytes}
-use Rattle.dw_base.specs.FileViews.{View, field_at, section_bytes, view_cells}
+use Rattle.std.proofs.Common.{◌≡◌, ◌⊎◌, ℕ, ◌+◌, ◌≤◌, List, length, drop, Option, None, sym, ap, ◌∙◌}
+use Rattle.dw_base.specs.Cells.{Cell, Located, Relocation, bytes_of, cells_at, first_relocation, offset_into, offset_of}
+use Rattle.dw_base.specs.FileViews.{View, view_cells}
 use Rattle.dw_base.specs.NewOffsets.{with_offset, with_offset_by}
 use Rattle.dw_base.specs.Numbers.{number_bytes, spelled}
 use Rattle.dw_base.specs.declared.shared.Order.{Order}
 use Rattle.dw_base.proofs.NumberLaws.{length-number_bytes}
 use Rattle.dw_base.proofs.OffsetPutLaws.{bytes_of-with_bytes}
 use Rattle.dw_base.proofs.RelocationFieldLaws.{first-take, length-cells_at}
-use Rattle.dw_base.proofs.ViewCellLaws.{field_at-by, length-view_cells}
 use Rattle.dw_unit_fields.specs.PlainSections.{IsPlain}
 use Rattle.dw_unit_fields.proofs.PlainLaws.{plain-field, plain-inside}
 use Rattle.dw_rewrite.proofs.SourceLaws.{offset-there, sized-few, sized-some}

@@ -9,7 +9,7 @@ use Rattle.dw_base.proofs.ViewCellLaws.{field_at-by, length-view_cells}
 use Rattle.dw_view.specs.Relocations.{HasNoNext, IsNextPlace}
 use Rattle.dw_unit_fields.specs.PlainSections.{IsNotPlain, IsPlain}
 use Rattle.dw_unit_fields.specs.PlainSections.IsNotPlain.{unread, begins}
-use Rattle.dw_unit_fields.proofs.FieldOffsetLaws.{field-inside, offset-cells, offset-few, offset-some, placed-cells}
+use Rattle.dw_unit_fields.proofs.FieldOffsetLaws.{offset-cells, offset-few, offset-some, placed-cells}
 
 -- no relocation begins from the start on
 pub plain-none : (v : View) (section : ℕ) (bytes : List ℕ) → bytes ≡ section_bytes v section → HasNoNext v section 0 → IsPlain v section bytes
