@@ -3,7 +3,7 @@
 ghost use Rattle.std.specs.Prelude.{◌<◌, length};
 
 use crate::files::{Piece, Row, TEXTS, file_of};
-use dw_base::{DebugSection, Order, TextPlace};
+use dw_base::{DebugSection, TextPlace};
 use dw_macros::{MacroEvent, MacroEvents, macro_units};
 use dw_view::View;
 use elf_file::ElfFile;
@@ -30,7 +30,7 @@ const UNIT: Row = (
 #[test]
 #[tactic(auto, using(dw_macros::proofs::CallerLaws::caller_laws))]
 fn a_unit_and_its_events_are_those_that_stand_there(rt: HostRuntime) -> Result<(), Fail> {
-    let file = file_of(rt.alloc(), Order::Little, &[TEXTS, UNIT])?;
+    let file = file_of(rt.alloc(), &[TEXTS, UNIT])?;
     assert!(rt; file.len() <= 0x8000_0000);
     let elf = ElfFile::read(rt.alloc(), &file)?;
     let view = View::one(&elf)?;

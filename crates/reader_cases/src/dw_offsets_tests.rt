@@ -2,7 +2,6 @@
 
 use crate::files::{Piece, Row, TEXTS, file_of};
 use crate::records;
-use dw_base::Order;
 use dw_offsets::{Contribution, NameTable, Width, contributions, name_tables, slot_place};
 use dw_view::View;
 use std::test::Fail;
@@ -46,8 +45,10 @@ const NAMES: Row = (
 );
 
 #[test]
-fn contributions_and_slots_are_those_of_the_section(rt: HostRuntime) -> Result<(), Fail> {
-    let file = file_of(rt.alloc(), Order::Big, &[TEXTS, SLOTS])?;
+fn contributions_slots_and_name_tables_are_those_of_the_sections(
+    rt: HostRuntime,
+) -> Result<(), Fail> {
+    let file = file_of(rt.alloc(), &[TEXTS, SLOTS, NAMES])?;
     let elf = records(rt.alloc(), &file)?;
     let view = View::one(&elf)?;
     let list = contributions(rt.alloc(), &view)?;
@@ -65,16 +66,6 @@ fn contributions_and_slots_are_those_of_the_section(rt: HostRuntime) -> Result<(
     };
     assert_eq!(rt; list.as_slice(), [first, second].as_slice());
     assert_eq!(rt; slot_place(&list, 8, 1), Some(12));
-    assert_eq!(rt; slot_place(&list, 8, 2), None);
-    assert_eq!(rt; slot_place(&list, 32, 0), Some(32));
-    Ok(())
-}
-
-#[test]
-fn a_name_table_is_that_of_the_section(rt: HostRuntime) -> Result<(), Fail> {
-    let file = file_of(rt.alloc(), Order::Little, &[TEXTS, NAMES])?;
-    let elf = records(rt.alloc(), &file)?;
-    let view = View::one(&elf)?;
     let tables = name_tables(rt.alloc(), &view)?;
     let table = NameTable {
         start: 0,

@@ -1,7 +1,7 @@
 //! Fields of a made file that get new places, and one whose new place is too large.
 
 use crate::files::{ABBREVIATIONS, TEXTS, UNIT, file_of};
-use dw_base::{DebugSection, Fault, Kind, Order, Refusal};
+use dw_base::{DebugSection, Fault, Kind, Refusal};
 use dw_patch::{NewPlace, Patches};
 use dw_view::View;
 use elf_file::ElfFile;
@@ -10,7 +10,7 @@ use std::test::Fail;
 #[test]
 #[tactic(auto, using(dw_patch::proofs::PatchLaws::free_laws))]
 fn fields_that_were_set_get_their_new_places(rt: HostRuntime) -> Result<(), Fail> {
-    let file = file_of(rt.alloc(), Order::Little, &[UNIT, ABBREVIATIONS, TEXTS])?;
+    let file = file_of(rt.alloc(), &[UNIT, ABBREVIATIONS, TEXTS])?;
     assert!(rt; file.len() <= 0x8000_0000);
     let elf = ElfFile::read(rt.alloc(), &file)?;
     let view = View::one(&elf)?;

@@ -1,13 +1,10 @@
 //! The sources of a unit and its line table, as another program that was written from the same rules lists them.
 
 use crate::files::{Piece, Row, file_of};
-use dw_base::Order;
 use dw_paths::Maps;
 use dw_sources::sources;
 use dw_view::View;
 use elf_file::ElfFile;
-use std::alloc::Global;
-use std::process::Abort;
 use std::test::Fail;
 
 /// A unit of version 4 of the name `a.c`, compiled in `/build/p` (DWARF 4, 7.5.1).
@@ -68,32 +65,16 @@ const LINES: Row = (
     ],
 );
 
-/// The names of the sources of the file by these maps.
-fn names_by(rt: &impl Abort, alloc: Global, maps: &Maps) -> Result<Vec<Vec<u8>>, Fail> {
-    let file = file_of(alloc, Order::Little, &[UNIT, ABBREVIATIONS, LINES])?;
-    assert!(rt; file.len() <= 0x8000_0000);
-    let elf = ElfFile::read(alloc, &file)?;
-    let view = View::one(&elf)?;
-    Ok(sources(alloc, &view, maps)?)
-}
-
 #[test]
 fn the_sources_are_those_of_units_and_files(rt: HostRuntime) -> Result<(), Fail> {
     let maps = Maps::new(rt.alloc(), b"/build/p", b"/d")?.ok_or("no map")?;
-    let names = names_by(&rt, rt.alloc(), &maps)?;
+    let file = file_of(rt.alloc(), &[UNIT, ABBREVIATIONS, LINES])?;
+    assert!(rt; file.len() <= 0x8000_0000);
+    let elf = ElfFile::read(rt.alloc(), &file)?;
+    let view = View::one(&elf)?;
+    let names = sources(rt.alloc(), &view, &maps)?;
     assert!(rt; names.len() == 2);
     assert_eq!(rt; names[0].as_slice(), b"a.c".as_slice());
     assert_eq!(rt; names[1].as_slice(), b"inc/x.h".as_slice());
-    Ok(())
-}
-
-#[test]
-fn the_longest_base_is_cut_off(rt: HostRuntime) -> Result<(), Fail> {
-    let mut maps = Maps::new(rt.alloc(), b"/build/p", b"/d")?.ok_or("no map")?;
-    assert!(rt; maps.add(rt.alloc(), b"/build/./p/inc", b"/i")?);
-    let names = names_by(&rt, rt.alloc(), &maps)?;
-    assert!(rt; names.len() == 2);
-    assert_eq!(rt; names[0].as_slice(), b"a.c".as_slice());
-    assert_eq!(rt; names[1].as_slice(), b"x.h".as_slice());
     Ok(())
 }

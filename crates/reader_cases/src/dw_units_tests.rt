@@ -1,7 +1,7 @@
 //! The units of all sections in one list, with their tables of abbreviations.
 
 use crate::files::{ABBREVIATIONS, Piece, Row, TEXTS, UNIT, file_of};
-use dw_base::{Fault, Kind, NoMemory, Order, Refusal};
+use dw_base::NoMemory;
 use dw_units::{Units, read_units};
 use dw_view::View;
 use elf_file::ElfFile;
@@ -21,20 +21,6 @@ const TYPE_UNIT: Row = (
     ],
 );
 
-/// A unit without entries whose table is behind the section's end.
-const FAR_UNIT: Row = (
-    b".debug_info",
-    &[
-        Piece::Field("unit_length", 4, 7),
-        Piece::Field("version", 2, 4),
-        Piece::Field("debug_abbrev_offset", 4, 3),
-        Piece::Field("address_size", 1, 8),
-    ],
-);
-
-/// Two empty tables.
-const EMPTY: Row = (b".debug_abbrev", &[Piece::Zeros(2)]);
-
 /// The section, the start and the number of the table of each unit.
 fn rows_of(alloc: Global, units: &Units) -> Result<Vec<(u32, u64, usize)>, AllocError> {
     let mut rows = Vec::new(alloc);
@@ -52,21 +38,9 @@ fn count_of(alloc: Global, units: &Units, unit: usize) -> Result<usize, NoMemory
     Ok(0)
 }
 
-/// What refuses the units of a view.
-fn refusal_of(alloc: Global, view: &View) -> Option<Refusal> {
-    match read_units(alloc, view) {
-        Err(Fault::Refused(refusal)) => Some(refusal),
-        _ => None,
-    }
-}
-
 #[test]
 fn units_of_two_sections_share_a_table(rt: HostRuntime) -> Result<(), Fail> {
-    let file = file_of(
-        rt.alloc(),
-        Order::Little,
-        &[UNIT, TYPE_UNIT, ABBREVIATIONS, TEXTS],
-    )?;
+    let file = file_of(rt.alloc(), &[UNIT, TYPE_UNIT, ABBREVIATIONS, TEXTS])?;
     assert!(rt; file.len() <= 0x8000_0000);
     let elf = ElfFile::read(rt.alloc(), &file)?;
     let view = View::one(&elf)?;
@@ -74,16 +48,5 @@ fn units_of_two_sections_share_a_table(rt: HostRuntime) -> Result<(), Fail> {
     let rows = rows_of(rt.alloc(), &units)?;
     assert_eq!(rt; rows.as_slice(), [(1, 0, 0), (2, 0, 0)].as_slice());
     assert_eq!(rt; count_of(rt.alloc(), &units, 1)?, 1);
-    Ok(())
-}
-
-#[test]
-fn a_unit_without_a_table_is_refused(rt: HostRuntime) -> Result<(), Fail> {
-    let file = file_of(rt.alloc(), Order::Little, &[FAR_UNIT, EMPTY])?;
-    assert!(rt; file.len() <= 0x8000_0000);
-    let elf = ElfFile::read(rt.alloc(), &file)?;
-    let view = View::one(&elf)?;
-    let refusal = refusal_of(rt.alloc(), &view);
-    assert_eq!(rt; refusal, Some(Refusal::at(Kind::Abbreviation, 2, 3)));
     Ok(())
 }

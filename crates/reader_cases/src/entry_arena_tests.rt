@@ -4,7 +4,7 @@ ghost use Rattle.dw_entries.specs.ViewUnits.{IsUnitSection};
 
 use crate::files::{Piece, Row, file_of};
 use dw_abbrev::AbbrevTable;
-use dw_base::{DebugSection, Fault, Order};
+use dw_base::{DebugSection, Fault};
 use dw_entries::unit_headers;
 use dw_view::View;
 use elf_file::ElfFile;
@@ -27,20 +27,6 @@ const TREE: Row = (
         Piece::Field("the end of a's children", 1, 0),
         Piece::Field("c", 1, 2),
         Piece::Field("the end of the root's children", 1, 0),
-    ],
-);
-
-/// A unit of two entries, neither of which stands in the other, with padding between them.
-const ROOTS: Row = (
-    b".debug_info",
-    &[
-        Piece::Field("unit_length", 4, 10),
-        Piece::Field("version", 2, 4),
-        Piece::Field("debug_abbrev_offset", 4, 0),
-        Piece::Field("address_size", 1, 8),
-        Piece::Field("the first", 1, 2),
-        Piece::Field("padding", 1, 0),
-        Piece::Field("the second", 1, 2),
     ],
 );
 
@@ -81,10 +67,10 @@ fn arenas_of(
     Ok(arenas)
 }
 
-/// The arenas of the units of a file of these sections.
+/// The arenas of the units of the file.
 #[tactic(auto, using(dw_entries::proofs::CallerLaws::caller_laws))]
-fn arenas_in(rt: &impl Abort, alloc: Global, rows: &[Row]) -> Result<Vec<EntryArena>, Fail> {
-    let file = file_of(alloc, Order::Little, rows)?;
+fn arenas_in(rt: &impl Abort, alloc: Global) -> Result<Vec<EntryArena>, Fail> {
+    let file = file_of(alloc, &[TREE, BARE])?;
     assert!(rt; file.len() <= 0x8000_0000);
     let elf = ElfFile::read(alloc, &file)?;
     let view = View::one(&elf)?;
@@ -116,7 +102,7 @@ fn depths_of(alloc: Global, arena: &EntryArena) -> Result<Vec<(u32, u32)>, Alloc
 
 #[test]
 fn nodes_are_linked_as_their_entries_stand(rt: HostRuntime) -> Result<(), Fail> {
-    let arenas = arenas_in(&rt, rt.alloc(), &[TREE, BARE])?;
+    let arenas = arenas_in(&rt, rt.alloc())?;
     assert!(rt; arenas.len() == 1);
     let nodes = nodes_of(rt.alloc(), &arenas[0])?;
     assert_eq!(rt;
@@ -136,17 +122,5 @@ fn nodes_are_linked_as_their_entries_stand(rt: HostRuntime) -> Result<(), Fail> 
     );
     assert_eq!(rt; arenas[0].number_of(15), Some(3));
     assert_eq!(rt; arenas[0].number_of(14), None);
-    Ok(())
-}
-
-#[test]
-fn roots_are_siblings(rt: HostRuntime) -> Result<(), Fail> {
-    let arenas = arenas_in(&rt, rt.alloc(), &[ROOTS, BARE])?;
-    assert!(rt; arenas.len() == 1);
-    let nodes = nodes_of(rt.alloc(), &arenas[0])?;
-    assert_eq!(rt;
-        nodes.as_slice(),
-        [(0x34, None, None, Some(1)), (0x34, None, None, None)].as_slice()
-    );
     Ok(())
 }

@@ -1,10 +1,9 @@
-//! Files of the tests: in pieces, whose fields have the names that the standards give them, or of a few sections.
+//! Files of a few sections, in pieces whose fields have the names that the standards give them.
 
-use dw_base::elf_numbers::{SHT_NULL, SHT_PROGBITS, SHT_STRTAB};
-use dw_base::{Class, Order};
+use dw_base::elf_numbers::{SHT_PROGBITS, SHT_STRTAB};
 use std::alloc::{AllocError, Global};
 
-/// A piece of a file.
+/// A piece of a section.
 pub enum Piece {
     /// Bytes as they are.
     Bytes(&'static [u8]),
@@ -14,127 +13,32 @@ pub enum Piece {
     Field(&'static str, usize, u64),
     /// A text, with its NUL behind it.
     Text(&'static [u8]),
-    /// A file header: type, machine, places of program and of section headers, number of program and of
-    /// section headers, number of the name table.
-    Header([u64; 7]),
-    /// A program header of 64 bits, its numbers in order.
-    Segment([u64; 8]),
-    /// A section header, its numbers in order.
-    Section([u64; 10]),
 }
 
-/// A file, or what is expected of one.
-pub struct Sample {
-    /// The class.
-    pub class: Class,
-    /// The byte order.
-    pub order: Order,
-    /// The pieces, one after another.
-    pub pieces: &'static [Piece],
-}
-
-/// Appends a number of `size` bytes.
-fn push_number(
-    file: &mut Vec<u8>,
-    order: Order,
-    size: usize,
-    value: u64,
-) -> Result<(), AllocError> {
-    let bytes = match order {
-        Order::Little => value.to_le_bytes(),
-        Order::Big => value.to_be_bytes(),
-    };
-    let skipped = match order {
-        Order::Little => 0,
-        Order::Big => bytes.len().saturating_sub(size),
-    };
-    for byte in bytes.iter().skip(skipped).take(size) {
+/// Appends a number of `size` bytes, the lowest first.
+fn push_number(file: &mut Vec<u8>, size: usize, value: u64) -> Result<(), AllocError> {
+    for byte in value.to_le_bytes().iter().take(size) {
         file.push(*byte)?;
     }
     Ok(())
 }
 
-/// Appends numbers, each of the size that stands before it.
-fn push_fields(
-    file: &mut Vec<u8>,
-    order: Order,
-    fields: &[(usize, u64)],
-) -> Result<(), AllocError> {
-    for (size, value) in fields {
-        push_number(file, order, *size, *value)?;
-    }
-    Ok(())
-}
-
-/// Appends a file header.
-fn push_header(
-    file: &mut Vec<u8>,
-    class: Class,
-    order: Order,
-    header: &[u64; 7],
-) -> Result<(), AllocError> {
-    let [kind, machine, phoff, shoff, phnum, shnum, names] = *header;
-    let word = usize::from(class.word_size());
-    let (class_byte, ehsize, phentsize, shentsize) = match class {
-        Class::C32 => (1, 52, 32, 40),
-        Class::C64 => (2, 64, 56, 64),
-    };
-    let order_byte = match order {
-        Order::Little => 1,
-        Order::Big => 2,
-    };
-    file.extend_from_slice(&[0x7f, b'E', b'L', b'F', class_byte, order_byte, 1])?;
-    let fields = [
-        (8, 0),
-        (1, 0),
-        (2, kind),
-        (2, machine),
-        (4, 1),
-        (word, 0),
-        (word, phoff),
-        (word, shoff),
-        (4, 0),
-        (2, ehsize),
-        (2, if phnum == 0 { 0 } else { phentsize }),
-        (2, phnum),
-        (2, if shnum == 0 { 0 } else { shentsize }),
-        (2, shnum),
-        (2, names),
-    ];
-    push_fields(file, order, &fields)
-}
-
-/// Appends a program header of 64 bits.
-fn push_segment(file: &mut Vec<u8>, order: Order, numbers: &[u64; 8]) -> Result<(), AllocError> {
-    let sizes = [4, 4, 8, 8, 8, 8, 8, 8];
+/// Appends numbers, each of the size that stands at its number.
+fn push_numbers(file: &mut Vec<u8>, sizes: &[usize], numbers: &[u64]) -> Result<(), AllocError> {
     for (size, value) in sizes.iter().zip(numbers.iter()) {
-        push_number(file, order, *size, *value)?;
+        push_number(file, *size, *value)?;
     }
     Ok(())
 }
 
-/// Appends a section header.
-fn push_section(
-    file: &mut Vec<u8>,
-    class: Class,
-    order: Order,
-    numbers: &[u64; 10],
-) -> Result<(), AllocError> {
-    let word = usize::from(class.word_size());
-    let sizes = [4, 4, word, word, word, word, 4, 4, word, word];
-    for (size, value) in sizes.iter().zip(numbers.iter()) {
-        push_number(file, order, *size, *value)?;
-    }
-    Ok(())
-}
+/// The sizes of the fields of a file header of 64 bits, behind its first seven bytes.
+const HEADER_SIZES: [usize; 15] = [8, 1, 2, 2, 4, 8, 8, 8, 4, 2, 2, 2, 2, 2, 2];
+
+/// Those of a section header.
+const SECTION_SIZES: [usize; 10] = [4, 4, 8, 8, 8, 8, 4, 4, 8, 8];
 
 /// Appends a piece.
-fn push_piece(
-    file: &mut Vec<u8>,
-    class: Class,
-    order: Order,
-    piece: &Piece,
-) -> Result<(), AllocError> {
+fn push_piece(file: &mut Vec<u8>, piece: &Piece) -> Result<(), AllocError> {
     match piece {
         Piece::Bytes(bytes) => file.extend_from_slice(bytes),
         Piece::Zeros(count) => {
@@ -143,34 +47,21 @@ fn push_piece(
             }
             Ok(())
         }
-        Piece::Field(_, size, value) => push_number(file, order, *size, *value),
+        Piece::Field(_, size, value) => push_number(file, *size, *value),
         Piece::Text(text) => {
             file.extend_from_slice(text)?;
             file.push(0)?;
             Ok(())
         }
-        Piece::Header(header) => push_header(file, class, order, header),
-        Piece::Segment(numbers) => push_segment(file, order, numbers),
-        Piece::Section(numbers) => push_section(file, class, order, numbers),
     }
-}
-
-/// The file of the pieces.
-pub fn built(alloc: Global, sample: &Sample) -> Result<Vec<u8>, AllocError> {
-    let mut file = Vec::new(alloc);
-    for piece in sample.pieces {
-        push_piece(&mut file, sample.class, sample.order, piece)?;
-    }
-    Ok(file)
 }
 
 /// A section: its name and what it is made of.
 pub type Row = (&'static [u8], &'static [Piece]);
 
-/// The sections of a file of 64 bits so far: their bytes, their names and their headers.
+/// The sections of a file so far: their bytes, their names and their headers.
 #[derive(Drop)]
 struct Sections {
-    order: Order,
     bytes: Vec<u8>,
     names: Vec<u8>,
     headers: Vec<u8>,
@@ -187,9 +78,8 @@ fn push_named(
     let at = sections.names.len() as u64;
     // behind a file header of 64 bytes
     let place = (before as u64).saturating_add(64);
-    let kind = u64::from(kind);
-    let numbers = [at, kind, 0, 0, place, size, 0, 0, 1, 0];
-    push_section(&mut sections.headers, Class::C64, sections.order, &numbers)?;
+    let numbers = [at, u64::from(kind), 0, 0, place, size, 0, 0, 1, 0];
+    push_numbers(&mut sections.headers, &SECTION_SIZES, &numbers)?;
     sections.names.extend_from_slice(name)?;
     sections.names.push(0)?;
     Ok(())
@@ -200,21 +90,21 @@ fn push_row(sections: &mut Sections, row: &Row) -> Result<(), AllocError> {
     let (name, pieces) = *row;
     let before = sections.bytes.len();
     for piece in pieces {
-        push_piece(&mut sections.bytes, Class::C64, sections.order, piece)?;
+        push_piece(&mut sections.bytes, piece)?;
     }
     let size = sections.bytes.len().saturating_sub(before) as u64;
     push_named(sections, name, SHT_PROGBITS, before, size)
 }
 
-/// An executable file of 64 bits for x86-64: its sections from number 1 on, and behind them the section name table.
-pub fn file_of(alloc: Global, order: Order, rows: &[Row]) -> Result<Vec<u8>, AllocError> {
+/// An executable file of 64 bits for x86-64, the lowest byte first: its sections from number 1 on, and behind them the section name
+/// table.
+pub fn file_of(alloc: Global, rows: &[Row]) -> Result<Vec<u8>, AllocError> {
+    // section 0 is unnamed
     let mut sections = Sections {
-        order,
         bytes: Vec::new(alloc),
-        names: Vec::new(alloc),
-        headers: Vec::new(alloc),
+        names: Vec::from_slice(alloc, b"\0")?,
+        headers: Vec::from_slice(alloc, &[0; 64])?,
     };
-    push_named(&mut sections, b"", SHT_NULL, 0, 0)?;
     for row in rows {
         push_row(&mut sections, row)?;
     }
@@ -224,9 +114,25 @@ pub fn file_of(alloc: Global, order: Order, rows: &[Row]) -> Result<Vec<u8>, All
     sections.bytes.extend_from_slice(&sections.names)?;
     let count = rows.len() as u64 + 2;
     let place = (sections.bytes.len() as u64).saturating_add(64);
-    let mut file = Vec::new(alloc);
-    let header = [2, 62, 0, place, 0, count, count - 1];
-    push_header(&mut file, Class::C64, order, &header)?;
+    let mut file = Vec::from_slice(alloc, b"\x7fELF\x02\x01\x01")?;
+    let numbers = [
+        0,
+        0,
+        2,
+        62,
+        1,
+        0,
+        0,
+        place,
+        0,
+        64,
+        0,
+        0,
+        64,
+        count,
+        count - 1,
+    ];
+    push_numbers(&mut file, &HEADER_SIZES, &numbers)?;
     file.extend_from_slice(&sections.bytes)?;
     file.extend_from_slice(&sections.headers)?;
     Ok(file)

@@ -17,13 +17,13 @@ use std::alloc::Global;
 #[cfg(test)]
 mod build_ident_tests;
 #[cfg(test)]
+mod dbg_gen_tests;
+#[cfg(test)]
 mod debug_link_tests;
 #[cfg(test)]
 mod dw_abbrev_tests;
 #[cfg(test)]
 mod dw_base_tests;
-#[cfg(test)]
-mod dw_entries_tests;
 #[cfg(test)]
 mod dw_lines_tests;
 #[cfg(test)]
@@ -44,8 +44,6 @@ mod dw_units_tests;
 mod dw_view_pair_tests;
 #[cfg(test)]
 mod dw_view_tests;
-#[cfg(test)]
-mod elf_file_tests;
 #[cfg(test)]
 mod elf_layout_tests;
 #[cfg(test)]
