@@ -1,6 +1,5 @@
-//! Gathers over a build root in memory: stopped at each call, or of which each call fails, and started again; and a copy whose place is taken.
-use crate::runs::run;
-use crate::shows::assert_ran;
+//! Gathers over a build root in memory: stopped at each call, or of which each call fails, and started again.
+use crate::runs::{assert_ran, run};
 use file_tree::{Blob, Call, MemTree, Node};
 use std::alloc::Global;
 use std::process::Abort;
@@ -40,16 +39,6 @@ const AFTER: [(&str, u32, &str); 11] = [
     ("r/usr/bin/prog", 0o755, "#!"),
     ("r/usr/src/debug/p/lib.c", 0o644, "ll"),
     ("r/usr/src/debug/p/main.c", 0o644, "m"),
-    ("s/lib.c", 0o644, "ll"),
-    ("s/main.c", 0o600, "m"),
-];
-
-/// The root before the gather, with a file where a copy is to stand.
-const TAKEN: [(&str, u32, &str); 6] = [
-    ("r/.dbgwork/finished", 0o644, "dbgfinished 2\0"),
-    ("r/.dbgwork/sources", 0o644, "lib.c\0main.c\0sub/gone.h\0"),
-    ("r/usr/bin/prog", 0o755, "#!"),
-    ("r/usr/src/debug/p/lib.c", 0o600, "other"),
     ("s/lib.c", 0o644, "ll"),
     ("s/main.c", 0o600, "m"),
 ];
@@ -173,23 +162,5 @@ fn after_each_call_that_fails_the_next_start_ends(rt: HostRuntime) -> Result<(),
         assert_ran(&rt, &ran, 6, "", "tree fault\n");
         assert!(rt; ends(alloc, &mut tree, MOST)?, "call {call}");
     }
-    Ok(())
-}
-
-#[test]
-fn a_second_start_answers_the_report_and_changes_nothing(rt: HostRuntime) -> Result<(), Fail> {
-    let alloc = rt.alloc();
-    let mut tree = whole_tree(&rt, alloc, ONE)?;
-    assert!(rt; ends(alloc, &mut tree, MOST)?);
-    Ok(())
-}
-
-#[test]
-fn a_copy_whose_place_is_taken_leaves_the_tree(rt: HostRuntime) -> Result<(), Fail> {
-    let alloc = rt.alloc();
-    let mut tree = tree_of(alloc, &TAKEN)?;
-    let ran = run(alloc, ONE, &mut tree)?;
-    assert_ran(&rt, &ran, 5, "", "taken: r/usr/src/debug/p/lib.c\n");
-    assert!(rt; holds(&tree, &TAKEN));
     Ok(())
 }

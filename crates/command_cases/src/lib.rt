@@ -1,4 +1,4 @@
-//! Worked cases of the commands: their words, files that are rewritten, edited, split and shown, and whole runs over trees in memory,
+//! Worked cases of the commands: words, files that are edited, split, joined and shown by calls, and whole runs over trees in memory,
 //! also such as a call that fails ends.
 //!
 //! This layer promises: each case ends as it says, by the rules and the expected values of other programs. It is a crate of its own, so
@@ -10,8 +10,7 @@
 ghost use Rattle.std.specs.Prelude.{◌≤◌, length, OnOk};
 ghost use Rattle.dw_base.specs.Layout.{output_limit};
 
-use dbg_job::{Options, Outcome, Verdict, outcome, verdict};
-use dbg_split::split;
+use dbg_job::{Options, Outcome, outcome};
 use dw_base::{Fault, OUTPUT_LIMIT};
 use std::alloc::Global;
 
@@ -24,41 +23,13 @@ mod outcomes;
 #[cfg(test)]
 mod output_order;
 #[cfg(test)]
+mod pairs;
+#[cfg(test)]
 mod runs;
 #[cfg(test)]
 mod shows;
 #[cfg(test)]
-mod split_files;
-#[cfg(test)]
-mod splits;
-#[cfg(test)]
-mod unstrips;
-#[cfg(test)]
 mod words;
-
-/// The two files of a split, each in one vector.
-#[derive(Debug, Drop)]
-pub struct TwoFiles {
-    /// The stripped file.
-    pub stripped: Vec<u8>,
-    /// The debug file.
-    pub debug: Vec<u8>,
-}
-
-/// The two files of a split, of which the debug file has this name; no memory where the file is longer than any that is written.
-pub fn parted(alloc: Global, bytes: &[u8], name: &[u8]) -> Result<TwoFiles, Fault>
-    ensures small { OnOk result (length bytes.now ≤ output_limit) }
-{
-    if bytes.len() as u64 > OUTPUT_LIMIT {
-        return Err(Fault::NoMemory);
-    }
-    let pair = split(alloc, bytes, name)?;
-    let debug = pair.debug.joined(alloc)?;
-    Ok(TwoFiles {
-        stripped: pair.stripped,
-        debug,
-    })
-}
 
 /// What becomes of a file, of which the debug file has this name; no memory where the file is longer than any that is written.
 pub fn become_of(
@@ -69,23 +40,8 @@ pub fn become_of(
 ) -> Result<Outcome, Fault>
     ensures small { OnOk result (length bytes.now ≤ output_limit) }
 {
-    if OUTPUT_LIMIT < bytes.len() as u64 {
+    if bytes.len() as u64 > OUTPUT_LIMIT {
         return Err(Fault::NoMemory);
     }
     outcome(alloc, bytes, options, name)
-}
-
-/// What is said of that file before its outputs are made.
-pub fn said_of(
-    alloc: Global,
-    bytes: &[u8],
-    options: &Options,
-    name: &[u8],
-) -> Result<Verdict, Fault>
-    ensures small { OnOk result (length bytes.now ≤ output_limit) }
-{
-    if OUTPUT_LIMIT < bytes.len() as u64 {
-        return Err(Fault::NoMemory);
-    }
-    verdict(alloc, bytes, options, name)
 }

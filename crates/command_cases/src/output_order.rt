@@ -1,17 +1,24 @@
-//! The order in which a command puts its outputs, and what a stop between the two leaves.
-use crate::runs::{built_file, file_of, installed_file, run, tree_with};
-use crate::shows::assert_ran;
-use crate::split_files::WHOLE;
-use crate::splits::joined;
-use file_tree::{Call, MemTree, Node};
+//! The order in which a command puts its outputs: what a stop between the two leaves is the first alone.
+use crate::runs::{assert_ran, built_file, file_of, run, tree_with};
+use file_tree::Call;
+use std::alloc::Global;
 use std::process::Abort;
 use std::test::Fail;
 
 /// The words of an edit with a list, whose path comes before the output's in byte order.
 const LISTED: &str = "edit in out --base-dir /build/p --dest-dir /usr/src/debug/p --list-file list";
 
-/// Asserts that the tree was looked at three times, and that then these two paths were put and all was stored.
-fn assert_order(rt: &impl Abort, tree: &MemTree, first: &str, second: &str) {
+/// Asserts that a run over the worked file looks three times, and that then these two paths are put and all is stored.
+fn assert_order(
+    rt: &impl Abort,
+    alloc: Global,
+    line: &str,
+    first: &str,
+    second: &str,
+) -> Result<(), Fail> {
+    let mut tree = tree_with(alloc, "in", file_of(built_file(alloc)?))?;
+    let ran = run(alloc, line, &mut tree)?;
+    assert_ran(rt, &ran, 0, "", "");
     match tree.calls() {
         [
             Call::Read(_),
@@ -26,42 +33,13 @@ fn assert_order(rt: &impl Abort, tree: &MemTree, first: &str, second: &str) {
         }
         _ => assert!(rt; false, "three looks, two puts and a settle"),
     }
-}
-
-#[test]
-fn the_output_is_put_before_the_list(rt: HostRuntime) -> Result<(), Fail> {
-    let alloc = rt.alloc();
-    let mut tree = tree_with(alloc, "in", file_of(built_file(alloc)?))?;
-    let ran = run(alloc, LISTED, &mut tree)?;
-    assert_ran(&rt, &ran, 0, "", "");
-    assert_order(&rt, &tree, "out", "list");
     Ok(())
 }
 
 #[test]
-fn the_debug_file_is_put_before_the_stripped_file(rt: HostRuntime) -> Result<(), Fail> {
-    let alloc = rt.alloc();
-    let mut tree = tree_with(alloc, "in", file_of(joined(alloc, WHOLE)?))?;
-    let ran = run(alloc, "split in out a.debug", &mut tree)?;
-    assert_ran(&rt, &ran, 0, "", "");
-    assert_order(&rt, &tree, "a.debug", "out");
-    Ok(())
-}
-
-#[test]
-fn a_stop_behind_the_output_leaves_no_list(rt: HostRuntime) -> Result<(), Fail> {
-    let alloc = rt.alloc();
-    let mut tree = tree_with(alloc, "in", file_of(built_file(alloc)?))?;
-    tree.stop_after(4);
-    let ran = run(alloc, LISTED, &mut tree)?;
-    assert_ran(&rt, &ran, 6, "", "tree fault\n");
-    match tree.nodes() {
-        [(input, _), (output, Node::File { bytes, .. })] => {
-            assert_eq!(rt; input.as_str(), "in");
-            assert_eq!(rt; output.as_str(), "out");
-            assert_eq!(rt; bytes.as_slice(), installed_file(alloc)?.as_slice());
-        }
-        _ => assert!(rt; false, "the output is there, and no list"),
-    }
-    Ok(())
+fn the_output_is_put_before_the_list_and_the_debug_file_before_the_stripped_file(
+    rt: HostRuntime,
+) -> Result<(), Fail> {
+    assert_order(&rt, rt.alloc(), LISTED, "out", "list")?;
+    assert_order(&rt, rt.alloc(), "split in out a.debug", "a.debug", "out")
 }

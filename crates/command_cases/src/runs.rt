@@ -6,7 +6,7 @@ use std::process::Abort;
 use std::test::Fail;
 
 /// The words of an edit of `in`, with a space between each two.
-pub(crate) const EDIT: &str = "edit in out --base-dir /build/p --dest-dir /usr/src/debug/p";
+const EDIT: &str = "edit in out --base-dir /build/p --dest-dir /usr/src/debug/p";
 
 /// The abbreviation table of a compilation unit with a name and a directory, both offsets into `.debug_str`.
 const ABBREVIATIONS: [u8; 10] = [0x01, 0x11, 0x00, 0x03, 0x0e, 0x1b, 0x0e, 0x00, 0x00, 0x00];
@@ -87,19 +87,6 @@ pub(crate) fn tree_with(alloc: Global, path: &str, node: Node) -> Result<MemTree
     MemTree::new(alloc, nodes)
 }
 
-/// A tree with a file of these bytes at `in`, and a node at another path.
-pub(crate) fn tree_with_input(
-    alloc: Global,
-    bytes: Vec<u8>,
-    path: &str,
-    node: Node,
-) -> Result<MemTree, TreeErr> {
-    let mut nodes = Vec::new(alloc);
-    nodes.push((String::from_str(alloc, "in")?, file_of(bytes)))?;
-    nodes.push((String::from_str(alloc, path)?, node))?;
-    MemTree::new(alloc, nodes)
-}
-
 /// A file with these bytes, which all may run.
 pub(crate) fn file_of(bytes: Vec<u8>) -> Node {
     Node::File {
@@ -141,34 +128,33 @@ pub(crate) fn run_to(
     })
 }
 
+/// Asserts what a run answered, and what went to its sinks.
+pub(crate) fn assert_ran(rt: &impl Abort, ran: &Ran, status: u8, output: &str, line: &str) {
+    assert_eq!(rt; ran.status, status);
+    assert_eq!(rt; ran.output.bytes(), output.as_bytes());
+    assert_eq!(rt; ran.errors.bytes(), line.as_bytes());
+}
+
 /// Asserts that an edit of `in` ends as a tree fault, and that nothing is put.
-fn assert_fault(
-    rt: &impl Abort,
-    alloc: Global,
-    tree: &mut MemTree,
-    shows: &str,
-) -> Result<(), TreeErr> {
+fn assert_fault(rt: &impl Abort, alloc: Global, tree: &mut MemTree) -> Result<(), TreeErr> {
     let ran = run(alloc, EDIT, tree)?;
-    assert_eq!(rt; ran.status, 6, "{}", shows);
-    assert_eq!(rt; ran.errors.bytes(), b"tree fault\n".as_slice(), "{}", shows);
-    assert!(rt; ran.output.bytes().is_empty(), "{}", shows);
-    assert_eq!(rt; tree.nodes().len(), 1, "{}", shows);
+    assert_ran(rt, &ran, 6, "", "tree fault\n");
+    assert_eq!(rt; tree.nodes().len(), 1);
     Ok(())
 }
 
 #[test]
 fn a_call_that_fails_is_a_tree_fault(rt: HostRuntime) -> Result<(), Fail> {
     let alloc = rt.alloc();
-    for (shows, call) in [("the input", 0), ("the output's path", 1)] {
+    // the look at the input, and that at the output's path
+    for call in 0..2u64 {
         let mut tree = tree_with(alloc, "in", file_of(built_file(alloc)?))?;
-        let mut calls = Vec::new(alloc);
-        calls.push(call)?;
-        tree.fail_calls(calls);
-        assert_fault(&rt, alloc, &mut tree, shows)?;
+        tree.fail_calls(vec![in alloc; call; 1]?);
+        assert_fault(&rt, alloc, &mut tree)?;
     }
     let mut tree = tree_with(alloc, "in", file_of(built_file(alloc)?))?;
     tree.stop_after(2);
-    assert_fault(&rt, alloc, &mut tree, "the output")?;
+    assert_fault(&rt, alloc, &mut tree)?;
     Ok(())
 }
 
@@ -178,9 +164,7 @@ fn an_edit_gives_the_worked_file_byte_for_byte(rt: HostRuntime) -> Result<(), Fa
     let wanted = installed_file(alloc)?;
     let mut tree = tree_with(alloc, "in", file_of(built_file(alloc)?))?;
     let ran = run(alloc, EDIT, &mut tree)?;
-    assert_eq!(rt; ran.status, 0);
-    assert!(rt; ran.output.bytes().is_empty());
-    assert!(rt; ran.errors.bytes().is_empty());
+    assert_ran(&rt, &ran, 0, "", "");
     match tree.nodes() {
         [(input, _), (output, Node::File { bytes, mode })] => {
             assert_eq!(rt; input.as_str(), "in");

@@ -1,11 +1,10 @@
 //! The text of a file, and runs that show it.
-use crate::runs::{Ran, built_file, file_of, run_to, tree_with};
+use crate::runs::{assert_ran, built_file, file_of, run_to, tree_with};
 use dbg_show::show;
 use dw_base::OUTPUT_LIMIT;
 use dw_view::View;
 use elf_file::ElfFile;
 use file_tree::MemSink;
-use std::process::Abort;
 use std::test::Fail;
 
 /// What is shown of the worked file.
@@ -14,13 +13,6 @@ entry 0 depth 0 tag 0x11
 attr 0x3 text \"/build/p/a.c\"
 attr 0x1b text \"/build/p\"
 ";
-
-/// Asserts what a run answered, and what went to its sinks.
-pub(crate) fn assert_ran(rt: &impl Abort, ran: &Ran, status: u8, output: &str, line: &str) {
-    assert_eq!(rt; ran.status, status);
-    assert_eq!(rt; ran.output.bytes(), output.as_bytes());
-    assert_eq!(rt; ran.errors.bytes(), line.as_bytes());
-}
 
 #[test]
 fn a_unit_is_shown_with_its_entry_and_attributes(rt: HostRuntime) -> Result<(), Fail> {
