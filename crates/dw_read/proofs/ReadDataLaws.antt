@@ -69,6 +69,10 @@ slice-units v ss slice same found = subst (UnitsFoundIn v) (sym same) found
 pub slice-found : (v : View) (us : Fields) (marks : List ℕ) (ts slice : List LineTable) → slice ≡ ts → FieldsFound v us marks slice → FieldsFound v us marks ts
 slice-found v us marks ts slice same found = subst (FieldsFound v us marks) same found
 
+-- so is what is given of it
+pub given-found : (v : View) (given us : Fields) (marks : List ℕ) (ts : List LineTable) → given ≡ us → FieldsFound v us marks ts → FieldsFound v given marks ts
+given-found v given us marks ts same found = subst (λ (fields : Fields). FieldsFound v fields marks ts) (sym same) found
+
 -- what was read of the debug data
 data-read : (v : View) (us : Fields) (marks : List ℕ) (ts : List LineTable) (ss : List SectionUnits) → FieldsFound v us marks ts → UnitsFoundIn v ss → DataRead v ts ss
 data-read v us marks ts ss f units_ = record { readings = f.readings; reads = f.reads; tables = f.tables; units = units_; relocations = f.relocations }

@@ -23,7 +23,7 @@ ghost use Rattle.dw_read.specs.ReadData.{DataRefuses};
 ghost use Rattle.dw_read.specs.SlotPaths.{slots_with};
 ghost use Rattle.dw_unit_fields.specs.UnitTexts.{texts_of};
 
-use crate::all_fields::Fields;
+use crate::all_fields::FoundAll;
 use crate::lines::push_lines;
 use crate::macros::push_macros;
 use dw_base::{DebugSection, Fault};
@@ -33,7 +33,7 @@ use dw_offsets::{
 };
 use dw_relocs::check_fields;
 use dw_starts::{MacroSection, UnitPlaces, macros_name};
-use dw_unit_fields::{NamedSlots, SectionFields, TextTable, TextTables, unit_fields};
+use dw_unit_fields::{FoundFields, NamedSlots, SectionFields, TextTable, TextTables, unit_fields};
 use dw_units::Units;
 use dw_view::View;
 use std::alloc::{AllocError, Global};
@@ -51,7 +51,7 @@ pub(crate) fn found_fields(
     starts: &[u64],
     tables: &[LineTable],
     macros: &[MacroSection],
-) -> Result<(Fields, SlotMarks), Fault>
+) -> Result<(FoundAll, SlotMarks), Fault>
     requires listed { ListsAll (debug_data view.now) listed.now.tables ((debug_data view.now).found Info) listed.now.units }
     requires contributions { AreContributions view.now.order (string_offsets view.now) list.now }
     requires starts { starts.now ≡ starts_of tables.now }
@@ -72,7 +72,7 @@ pub(crate) fn found_fields(
     push_names(alloc, view, &names, &mut name_texts)?;
     let named = names.as_slice();
     check_fields(alloc, view, listed, list.as_slice(), named, tables)?;
-    let fields = Fields::new(units, slots, lines, macro_fields, name_texts);
+    let fields = FoundAll::new(units, slots, lines, macro_fields, name_texts);
     Ok((fields, marks))
 }
 
@@ -86,7 +86,7 @@ fn named_paths(
     list: &ContributionList,
     starts: &[u64],
     macros: &[MacroSection],
-) -> Result<(SlotMarks, Vec<SectionFields>), Fault>
+) -> Result<(SlotMarks, Vec<FoundFields>), Fault>
     requires listed { ListsAll (debug_data view.now) listed.now.tables ((debug_data view.now).found Info) listed.now.units }
     requires contributions { AreContributions view.now.order (string_offsets view.now) list.now }
     requires starts { TablesStart (debug_data view.now) starts.now }
@@ -127,7 +127,7 @@ fn unit_paths(
     starts: &[u64],
     places: &UnitPlaces,
     slots: &mut NamedSlots,
-) -> Result<Vec<SectionFields>, Fault>
+) -> Result<Vec<FoundFields>, Fault>
     requires listed { ListsAll (debug_data view.now) listed.now.tables ((debug_data view.now).found Info) listed.now.units }
     requires none { slots.old ≡ no_slots slots.old.list (length slots.old.marks) }
     requires starts { TablesStart (debug_data view.now) starts.now }

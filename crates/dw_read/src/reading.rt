@@ -13,7 +13,7 @@ ghost use Rattle.dw_read.specs.FoundPaths.{FieldsFound};
 ghost use Rattle.dw_starts.specs.MacroSections.{UnitsFoundIn};
 ghost use Rattle.dw_read.specs.ReadData.{DataRefuses, IsDebugData};
 
-use crate::all_fields::Fields;
+use crate::all_fields::{Fields, FoundAll};
 use crate::paths::found_fields;
 use dw_base::Fault;
 use dw_lines::{LineTable, line_tables};
@@ -57,8 +57,19 @@ pub fn read_fields(alloc: Global, view: &View) -> Result<(DebugData, Fields, Slo
     ensures none { OnOk result ((r : RefusalOf) → DataRefuses view.now r → ⊥) }
     ensures refused { IfErr result (Blames (DataRefuses view.now)) }
 {
-    let (_units, data, fields, marks) = read_all(alloc, view)?;
+    let (data, found, marks) = read_found(alloc, view)?;
+    let fields = found.given(alloc)?;
     Ok((data, fields, marks))
+}
+
+/// Reads the same, and lets the units go.
+fn read_found(alloc: Global, view: &View) -> Result<(DebugData, FoundAll, SlotMarks), Fault>
+    ensures data { IfOk result (λ r. IsDebugData view.now r.0) }
+    ensures found { IfOk result (λ r. FieldsFound view.now r.1 r.2 r.0.lines.items) }
+    ensures refused { IfErr result (Blames (DataRefuses view.now)) }
+{
+    let (_units, data, found, marks) = read_all(alloc, view)?;
+    Ok((data, found, marks))
 }
 
 /// Reads the same, and gives all of it.
@@ -66,7 +77,7 @@ pub fn read_fields(alloc: Global, view: &View) -> Result<(DebugData, Fields, Slo
 fn read_all<'v>(
     alloc: Global,
     view: &'v View,
-) -> Result<(Units<'v>, DebugData, Fields, SlotMarks), Fault>
+) -> Result<(Units<'v>, DebugData, FoundAll, SlotMarks), Fault>
     ensures units { IfOk result (λ r. ListsAll (debug_data view.now) r.0.tables ((debug_data view.now).found Info) r.0.units) }
     ensures data { IfOk result (λ r. IsDebugData view.now r.1) }
     ensures found { IfOk result (λ r. FieldsFound view.now r.2 r.3 r.1.lines.items) }
@@ -87,7 +98,7 @@ fn listed_data(
     listed: &Units,
     lines: Vec<LineTable>,
     macros: Vec<MacroSection>,
-) -> Result<(DebugData, Fields, SlotMarks), Fault>
+) -> Result<(DebugData, FoundAll, SlotMarks), Fault>
     requires listed { ListsAll (debug_data view.now) listed.now.tables ((debug_data view.now).found Info) listed.now.units }
     requires tables { TablesFound view.now lines.items }
     requires macros { UnitsFoundIn view.now macros.items }

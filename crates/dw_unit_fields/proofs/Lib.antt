@@ -11,6 +11,8 @@ pub mod TextFieldLaws
 pub mod ValueTextLaws
 pub mod PlaceValueLaws
 pub mod FieldListLaws
+pub mod NearFieldLaws
+pub mod FoundFieldLaws
 pub mod IndexRunLaws
 pub mod SectionRunLaws
 pub mod FoundLaws

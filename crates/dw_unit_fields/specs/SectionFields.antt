@@ -129,6 +129,15 @@ stray_first (Some n) place = Some n
 abbrev pub with_stray_at : SectionFields → ℕ → SectionFields
 with_stray_at u place = record { number = u.number; fields = u.fields; inline = u.inline; stray = stray_first u.stray place }
 
+-- what a section says, by the lists of fields that units have
+abbrev pub found_with : ℕ → List OffsetField → List OffsetField → List OffsetField → List OffsetField → List InlinePath → Option ℕ → SectionFields
+found_with number str line_str lines macros inline stray = record {
+  number = number;
+  fields = [] ∷ [] ∷ [] ∷ str ∷ line_str ∷ [] ∷ lines ∷ macros ∷ [] ∷ [];
+  inline = inline;
+  stray = stray;
+}
+
 -- lists of fields, with others behind each
 abbrev pub each_behind : List (List OffsetField) → List (List OffsetField) → List (List OffsetField)
 each_behind [] ys = []

@@ -13,7 +13,7 @@ ghost use Rattle.dw_unit_fields.specs.NamedSlots.{no_slots};
 ghost use Rattle.dw_unit_fields.specs.NamedStarts.{AllStarts};
 ghost use Rattle.dw_unit_fields.specs.UnitTexts.{AllIndexed, AllTaken, UnitsRefuse, texts_of};
 
-use crate::found::{SectionFields, TextTables};
+use crate::found::{FoundFields, TextTables};
 use crate::sections::read_section;
 use crate::slots::NamedSlots;
 use crate::starts::all_start;
@@ -38,7 +38,7 @@ pub fn unit_fields(
     starts: &[u64],
     places: &UnitPlaces,
     slots: &mut NamedSlots,
-) -> Result<Vec<SectionFields>, Fault>
+) -> Result<Vec<FoundFields>, Fault>
     requires listed { ListsAll (debug_data view.now) listed.now.tables ((debug_data view.now).found Info) listed.now.units }
     requires tables { tables.now ≡ texts_of (debug_data view.now) }
     requires none { slots.old ≡ no_slots slots.old.list (length slots.old.marks) }
@@ -64,7 +64,7 @@ fn read_all(
     listed: &Units,
     tables: &TextTables,
     slots: &mut NamedSlots,
-) -> Result<Vec<SectionFields>, Fault>
+) -> Result<Vec<FoundFields>, Fault>
     requires listed { ListsAll (debug_data view.now) listed.now.tables ((debug_data view.now).found Info) listed.now.units }
     requires tables { tables.now ≡ texts_of (debug_data view.now) }
     ensures taken { IfOk result (λ us. AllIndexed (debug_data view.now) ((debug_data view.now).found Info) us.items slots.old slots.new) }
@@ -83,7 +83,7 @@ fn read_sections(
     tables: &TextTables,
     sections: &[u32],
     slots: &mut NamedSlots,
-) -> Result<Vec<SectionFields>, Fault>
+) -> Result<Vec<FoundFields>, Fault>
     requires listed { ListsAll (debug_data view.now) listed.now.tables ((debug_data view.now).found Info) listed.now.units }
     requires tables { tables.now ≡ texts_of (debug_data view.now) }
     requires sections { AreSections view.now sections.now }

@@ -1,14 +1,15 @@
 //! What a pass over a unit section finds of paths, and of texts by index.
 
-ghost use Rattle.std.specs.Prelude.{◌≡◌, ◌⊎◌, ◌+◌, ◌≤◌, ◌<◌, length, map, true, IfErr, IfOk, IfSome, OnOk};
+ghost use Rattle.std.specs.Prelude.{[], ◌∷◌, ◌≡◌, ◌⊎◌, ◌+◌, ◌≤◌, ◌<◌, length, map, true, IfErr, IfOk, IfSome, OnOk};
 ghost use Rattle.dw_base.specs.Cells.{Located, cells_at, field_of, is_placed, offset_of};
 ghost use Rattle.dw_base.specs.FileViews.{view_cells};
 ghost use Rattle.dw_base.specs.RelocationRows.{OffsetFails};
 ghost use Rattle.dw_base.specs.Texts.{IsNulEnd, ends_in};
 ghost use Rattle.dw_unit_fields.specs.EntryTexts.{FoundTexts as FoundOf, Tables, TextTables as TablesOf, base_noted, index_noted, inline_noted, no_paths, none_found, noted, offset_in, stray_noted, value_field};
 ghost use Rattle.dw_unit_fields.specs.PlainSections.{IsPlain};
-ghost use Rattle.dw_unit_fields.specs.SectionFields.{SectionFields as PathsOf, fields_into, with_field, with_fields, with_inline, with_stray_at};
+ghost use Rattle.dw_unit_fields.specs.SectionFields.{SectionFields as PathsOf, fields_into, found_with, with_field, with_fields, with_inline, with_stray_at};
 
+use crate::field_list::FieldList;
 use crate::field_offsets::{offset_at, plain_bytes};
 use crate::fields::{InlinePath, TextBase, TextIndex};
 use dw_base::{DebugSection, Refusal, Value, nul_end, number_in};
@@ -74,13 +75,100 @@ impl SectionFields {
     {
         self.fields[into as usize] = fields;
     }
+}
 
-    /// Adds a field that holds an offset into a section, behind those that do.
-    #[tactic(auto, using(crate::proofs::FieldListLaws::list_rules))]
-    pub(crate) fn push(&mut self, into: DebugSection, field: OffsetField) -> Result<(), AllocError>
-        ensures { OnOk result (self.new ≡ with_field self.old into field) }
+/// What a pass over a unit section found so far of paths, line tables and macro units. Most of it are the fields of texts, which take half
+/// the space here.
+#[derive(Drop)]
+pub struct FoundFields {
+    /// The section's number.
+    pub section: u32,
+    /// The fields that hold offsets into `.debug_str`.
+    str: FieldList,
+    /// Those that hold offsets into `.debug_line_str`.
+    line_str: FieldList,
+    /// Those that say where line tables start.
+    lines: Vec<OffsetField>,
+    /// Those that say where macro units start.
+    macros: Vec<OffsetField>,
+    /// The paths that stand in their values.
+    inline: Vec<InlinePath>,
+    /// Where the first value begins that is to say where a line table or a macro unit starts, and has a form that can't.
+    pub stray: Option<u64>,
+}
+
+impl Model for FoundFields {
+    ghost Value = { PathsOf };
+
+    ghost view = { λ u. found_with u.section u.str u.line_str u.lines.items u.macros.items u.inline.items u.stray };
+}
+
+impl FoundFields {
+    /// Nothing was found in a section yet.
+    #[tactic(auto, using(crate::proofs::FoundFieldLaws::new_rules))]
+    pub(crate) fn new(alloc: Global, section: u32) -> FoundFields
+        ensures { result ≡ no_paths section }
     {
-        self.fields[into as usize].push(field)?;
+        FoundFields {
+            section,
+            str: FieldList::new(alloc),
+            line_str: FieldList::new(alloc),
+            lines: Vec::new(alloc),
+            macros: Vec::new(alloc),
+            inline: Vec::new(alloc),
+            stray: None,
+        }
+    }
+
+    /// The fields that say where line tables start.
+    #[tactic(auto, using(crate::proofs::FoundFieldLaws::into_rules))]
+    pub(crate) fn lines(&self) -> &[OffsetField]
+        ensures fields { result.now ≡ fields_into self.now DebugSection.Line }
+    {
+        self.lines.as_slice()
+    }
+
+    /// The fields that say where macro units start.
+    #[tactic(auto, using(crate::proofs::FoundFieldLaws::into_rules))]
+    pub(crate) fn macros(&self) -> &[OffsetField]
+        ensures fields { result.now ≡ fields_into self.now DebugSection.Macro }
+    {
+        self.macros.as_slice()
+    }
+
+    /// Adds a field that holds an offset into `.debug_str`.
+    #[tactic(auto, using(crate::proofs::FoundFieldLaws::push_rules))]
+    pub(crate) fn push_str(&mut self, field: OffsetField) -> Result<(), AllocError>
+        ensures { OnOk result (self.new ≡ with_field self.old DebugSection.Str field) }
+    {
+        self.str.push(field)?;
+        Ok(())
+    }
+
+    /// Adds a field that holds an offset into `.debug_line_str`.
+    #[tactic(auto, using(crate::proofs::FoundFieldLaws::push_rules))]
+    pub(crate) fn push_line_str(&mut self, field: OffsetField) -> Result<(), AllocError>
+        ensures { OnOk result (self.new ≡ with_field self.old DebugSection.LineStr field) }
+    {
+        self.line_str.push(field)?;
+        Ok(())
+    }
+
+    /// Adds a field that says where a line table starts.
+    #[tactic(auto, using(crate::proofs::FoundFieldLaws::push_rules))]
+    pub(crate) fn push_line(&mut self, field: OffsetField) -> Result<(), AllocError>
+        ensures { OnOk result (self.new ≡ with_field self.old DebugSection.Line field) }
+    {
+        self.lines.push(field)?;
+        Ok(())
+    }
+
+    /// Adds a field that says where a macro unit starts.
+    #[tactic(auto, using(crate::proofs::FoundFieldLaws::push_rules))]
+    pub(crate) fn push_macro(&mut self, field: OffsetField) -> Result<(), AllocError>
+        ensures { OnOk result (self.new ≡ with_field self.old DebugSection.Macro field) }
+    {
+        self.macros.push(field)?;
         Ok(())
     }
 
@@ -100,6 +188,77 @@ impl SectionFields {
             self.stray = Some(place);
         }
     }
+
+    /// The same, as it is given.
+    #[tactic(auto, using(crate::proofs::FoundFieldLaws::given_rules))]
+    pub fn given(&self, alloc: Global) -> Result<SectionFields, AllocError>
+        ensures { IfOk result (λ u. u ≡ self.now) }
+    {
+        let str = self.str.fields(alloc)?;
+        let line_str = self.line_str.fields(alloc)?;
+        let lines = copied(alloc, self.lines.as_slice())?;
+        let macros = copied(alloc, self.macros.as_slice())?;
+        let inline = copied_paths(alloc, self.inline.as_slice())?;
+        Ok(with_lists(
+            alloc,
+            self.section,
+            str,
+            line_str,
+            lines,
+            macros,
+            inline,
+            self.stray,
+        ))
+    }
+}
+
+/// What a section says, by the lists of fields that units have.
+fn with_lists(
+    alloc: Global,
+    section: u32,
+    str: Vec<OffsetField>,
+    line_str: Vec<OffsetField>,
+    lines: Vec<OffsetField>,
+    macros: Vec<OffsetField>,
+    inline: Vec<InlinePath>,
+    stray: Option<u64>,
+) -> SectionFields
+    ensures { result ≡ found_with section str.items line_str.items lines.items macros.items inline.items stray }
+{
+    SectionFields {
+        section,
+        fields: [
+            Vec::new(alloc),
+            Vec::new(alloc),
+            Vec::new(alloc),
+            str,
+            line_str,
+            Vec::new(alloc),
+            lines,
+            macros,
+            Vec::new(alloc),
+        ],
+        inline,
+        stray,
+    }
+}
+
+/// A copy of these fields.
+fn copied(alloc: Global, fields: &[OffsetField]) -> Result<Vec<OffsetField>, AllocError>
+    ensures { IfOk result (λ all. all.items ≡ fields.now) }
+{
+    let mut all = Vec::new(alloc);
+    all.extend_from_slice(fields)?;
+    Ok(all)
+}
+
+/// A copy of these paths.
+fn copied_paths(alloc: Global, paths: &[InlinePath]) -> Result<Vec<InlinePath>, AllocError>
+    ensures { IfOk result (λ all. all.items ≡ paths.now) }
+{
+    let mut all = Vec::new(alloc);
+    all.extend_from_slice(paths)?;
+    Ok(all)
 }
 
 /// What a pass over a unit section found: of the units so far the paths, and of the unit where it is what
@@ -107,7 +266,7 @@ impl SectionFields {
 #[derive(Drop)]
 pub(crate) struct FoundTexts {
     /// The paths.
-    pub paths: SectionFields,
+    pub paths: FoundFields,
     /// The base of the unit, the first that its first entry says.
     pub base: Option<TextBase>,
     /// The values of the unit that name texts by index.
@@ -126,21 +285,41 @@ impl FoundTexts {
         ensures { result ≡ none_found (no_paths section) }
     {
         FoundTexts {
-            paths: SectionFields::new(alloc, section),
+            paths: FoundFields::new(alloc, section),
             base: None,
             indexes: Vec::new(alloc),
         }
     }
 
-    /// Adds a field that holds an offset into a section.
-    pub(crate) fn push_field(
-        &mut self,
-        into: DebugSection,
-        field: OffsetField,
-    ) -> Result<(), AllocError>
-        ensures { OnOk result (self.new ≡ noted self.old into field) }
+    /// Adds a field that holds an offset into `.debug_str`.
+    pub(crate) fn push_str(&mut self, field: OffsetField) -> Result<(), AllocError>
+        ensures { OnOk result (self.new ≡ noted self.old DebugSection.Str field) }
     {
-        self.paths.push(into, field)?;
+        self.paths.push_str(field)?;
+        Ok(())
+    }
+
+    /// Adds a field that holds an offset into `.debug_line_str`.
+    pub(crate) fn push_line_str(&mut self, field: OffsetField) -> Result<(), AllocError>
+        ensures { OnOk result (self.new ≡ noted self.old DebugSection.LineStr field) }
+    {
+        self.paths.push_line_str(field)?;
+        Ok(())
+    }
+
+    /// Adds a field that says where a line table starts.
+    pub(crate) fn push_line(&mut self, field: OffsetField) -> Result<(), AllocError>
+        ensures { OnOk result (self.new ≡ noted self.old DebugSection.Line field) }
+    {
+        self.paths.push_line(field)?;
+        Ok(())
+    }
+
+    /// Adds a field that says where a macro unit starts.
+    pub(crate) fn push_macro(&mut self, field: OffsetField) -> Result<(), AllocError>
+        ensures { OnOk result (self.new ≡ noted self.old DebugSection.Macro field) }
+    {
+        self.paths.push_macro(field)?;
         Ok(())
     }
 

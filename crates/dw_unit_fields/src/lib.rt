@@ -17,11 +17,13 @@
 //! };
 //! let mut slots = NamedSlots::new(&contributions, marks);
 //! let found = unit_fields(alloc, &view, &units, &tables, starts, &places, &mut slots)?;
-//! let paths = found[0].fields(DebugSection::LineStr);
+//! let fields = found[0].given(alloc)?;
+//! let paths = fields.fields(DebugSection::LineStr);
 //! ```
 #![tactic(auto)]
 
 mod all_sections;
+mod field_list;
 mod field_offsets;
 mod fields;
 mod found;
@@ -36,5 +38,5 @@ mod unread;
 pub use all_sections::unit_fields;
 pub use field_offsets::plain_bytes;
 pub use fields::InlinePath;
-pub use found::{SectionFields, TextTable, TextTables};
+pub use found::{FoundFields, SectionFields, TextTable, TextTables};
 pub use slots::NamedSlots;

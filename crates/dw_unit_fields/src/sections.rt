@@ -18,7 +18,7 @@ ghost use Rattle.dw_unit_fields.specs.UnitTexts.{OneTaken, SectionIndexed, Units
 
 use crate::field_offsets::section_offset;
 use crate::fields::TextBase;
-use crate::found::{FoundTexts, SectionFields, SectionTexts, TextTables};
+use crate::found::{FoundFields, FoundTexts, SectionTexts, TextTables};
 use crate::slots::NamedSlots;
 use crate::units::read_unit;
 use dw_abbrev::AbbrevTable;
@@ -39,7 +39,7 @@ pub(crate) fn read_section(
     first: usize,
     end: usize,
     slots: &mut NamedSlots,
-) -> Result<SectionFields, Fault>
+) -> Result<FoundFields, Fault>
     requires there { IsUnitSection view.now section }
     requires tables { tables.now ≡ texts_of (debug_data view.now) }
     requires stretch { IsStretch (debug_data view.now) units.now (unit_section_at view.now section) first end }

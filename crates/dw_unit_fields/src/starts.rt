@@ -19,7 +19,7 @@ ghost use Rattle.dw_unit_fields.specs.NamedStarts.{AllStarts, FieldsSay, Section
 ghost use Rattle.dw_unit_fields.specs.UnitTexts.{AllTaken};
 
 use crate::field_offsets::{cells_field, section_offset};
-use crate::found::SectionFields;
+use crate::found::FoundFields;
 use dw_base::{DebugSection, Refusal};
 use dw_offsets::OffsetField;
 use dw_starts::{UnitPlaces, start_number, stray};
@@ -33,7 +33,7 @@ pub(crate) fn all_start(
     view: &View,
     starts: &[u64],
     places: &UnitPlaces,
-    paths: &[SectionFields],
+    paths: &[FoundFields],
 ) -> Result<(), Refusal>
     requires taken { AllTaken (debug_data view.now) ((debug_data view.now).found Info) paths.now }
     requires tables { TablesStart (debug_data view.now) starts.now }
@@ -53,7 +53,7 @@ fn section_starts(
     view: &View,
     starts: &[u64],
     places: &UnitPlaces,
-    found: &SectionFields,
+    found: &FoundFields,
 ) -> Result<(), Refusal>
     requires paths { HasPlaces view.now found.now }
     requires rises { Rises starts.now }
@@ -63,18 +63,8 @@ fn section_starts(
     if let Some(place) = found.stray {
         return Err(stray(found.section, place));
     }
-    lines_start(
-        view,
-        found.section,
-        starts,
-        found.fields(DebugSection::Line),
-    )?;
-    units_start(
-        view,
-        found.section,
-        places,
-        found.fields(DebugSection::Macro),
-    )?;
+    lines_start(view, found.section, starts, found.lines())?;
+    units_start(view, found.section, places, found.macros())?;
     Ok(())
 }
 

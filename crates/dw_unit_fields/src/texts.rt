@@ -20,8 +20,8 @@ use crate::found::{FoundTexts, SectionTexts, TextTable};
 use crate::unread::later_len;
 use dw_base::dwarf_numbers::DW_AT_stmt_list;
 use dw_base::{
-    DebugSection, Fault, Kind, Refusal, Spec, UnitHeader, Value, ValueClass, is_base, is_macros,
-    is_path, is_start_form, is_start_name, own_form,
+    Fault, Kind, Refusal, Spec, UnitHeader, Value, ValueClass, is_base, is_macros, is_path,
+    is_start_form, is_start_name, own_form,
 };
 use dw_forms::value_at;
 use dw_offsets::OffsetField;
@@ -162,7 +162,7 @@ fn note_start(says: bool, value: &Value, found: &mut FoundTexts) -> Result<(), A
     ensures found { OnOk result (found.new ≡ with_places found.old (line_at says value.now)) }
 {
     if says {
-        found.push_field(DebugSection::Line, field_of(value, false))?;
+        found.push_line(field_of(value, false))?;
     }
     Ok(())
 }
@@ -207,7 +207,7 @@ fn note_unit(value: &Value, found: &mut FoundTexts) -> Result<(), AllocError>
     requires sized { (value.now.len ≡ 4) ⊎ (value.now.len ≡ 8) }
     ensures found { OnOk result (found.new ≡ with_places found.old (said_value true true 0 value.now)) }
 {
-    found.push_field(DebugSection::Macro, field_of(value, false))?;
+    found.push_macro(field_of(value, false))?;
     Ok(())
 }
 
@@ -233,11 +233,11 @@ fn note_value(
     match value.class {
         ValueClass::StrOffset => {
             offset_names(texts, texts.str(), value)?;
-            found.push_field(DebugSection::Str, field_of(value, path))?;
+            found.push_str(field_of(value, path))?;
         }
         ValueClass::LineStrOffset => {
             offset_names(texts, texts.line_str(), value)?;
-            found.push_field(DebugSection::LineStr, field_of(value, path))?;
+            found.push_line_str(field_of(value, path))?;
         }
         ValueClass::InlineText => {
             if path {

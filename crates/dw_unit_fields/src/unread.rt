@@ -14,7 +14,7 @@ use crate::found::{FoundTexts, SectionTexts};
 use crate::texts::{field_of, offset_names};
 use dw_abbrev::is_text_form;
 use dw_base::dwarf_numbers::DW_FORM_strp;
-use dw_base::{DebugSection, Fault, Params, Spec, UnitHeader, Value, ValueClass, is_start_name};
+use dw_base::{Fault, Params, Spec, UnitHeader, Value, ValueClass, is_start_name};
 use dw_entries::plain_len;
 
 /// How many bytes the value of an attribute takes at a place, in an entry that isn't its unit's first, where it can be passed
@@ -80,7 +80,7 @@ fn named_len(
         size,
     };
     offset_names(texts, texts.str(), &field)?;
-    found.push_field(DebugSection::Str, field_of(&field, false))?;
+    found.push_str(field_of(&field, false))?;
     Ok(Some(size))
 }
 

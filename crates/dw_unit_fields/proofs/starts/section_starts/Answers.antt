@@ -13,11 +13,11 @@ returns-in-Some-clause-refused c =
 pub returns-in_err-lines_start-clause-refused : goal.returns-in_err-lines_start-clause-refused
 returns-in_err-lines_start-clause-refused c =
     let p = err_from_is_err_and c.from_residual.result c.from_residual.ensures.1 in
-    rw (p.1, p.2) (section-strays c.args.view.now c.found.inside.section c.args.starts.now c.args.places.now c.args.found.now c.fields.result.now c.in_err-lines_start.field-0.0
-    (ap (λ (u : SectionFields). u.number) c.found.view_is) c.fields.ensures.fields c.in_err-lines_start.ensures.refused)
+    rw (p.1, p.2) (section-strays c.args.view.now c.found.inside.section c.args.starts.now c.args.places.now c.args.found.now c.lines.result.now c.in_err-lines_start.field-0.0
+    (ap (λ (u : SectionFields). u.number) c.found.view_is) c.lines.ensures.fields c.in_err-lines_start.ensures.refused)
 
 pub returns-in_err-units_start-clause-refused : goal.returns-in_err-units_start-clause-refused
 returns-in_err-units_start-clause-refused c =
     let p = err_from_is_err_and c.from_residual-in_err-units_start.result c.from_residual-in_err-units_start.ensures.1 in
-    rw (p.1, p.2) (unit-strays c.args.view.now c.found.inside.section c.args.starts.now c.args.places.now c.args.found.now c.fields-2.result.now c.in_err-units_start.field-0.0
-    (ap (λ (u : SectionFields). u.number) c.found.view_is) c.fields-2.ensures.fields c.in_err-units_start.ensures.refused)
+    rw (p.1, p.2) (unit-strays c.args.view.now c.found.inside.section c.args.starts.now c.args.places.now c.args.found.now c.macros.result.now c.in_err-units_start.field-0.0
+    (ap (λ (u : SectionFields). u.number) c.found.view_is) c.macros.ensures.fields c.in_err-units_start.ensures.refused)
