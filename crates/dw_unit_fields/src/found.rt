@@ -471,6 +471,7 @@ impl<'v, 'f, 't, 'a> SectionTexts<'v, 'f, 't, 'a> {
 
     /// The offset that a value's field holds into a table: one into another section counts as past it. Refused as `Relocation` where
     /// a relocation lies on the field only in part, at that, and where the one at it gives no place, at the field.
+    #[inline(always)]
     #[tactic(auto, using(crate::proofs::PlainLaws::offset_rules))]
     pub(crate) fn offset(&self, value: &Value, table: &TextTable) -> Result<u64, Refusal>
         requires sized { (value.now.len ≡ 4) ⊎ (value.now.len ≡ 8) }
@@ -488,6 +489,7 @@ impl<'v, 'f, 't, 'a> SectionTexts<'v, 'f, 't, 'a> {
 }
 
 /// The same in the section of a number of a view.
+#[inline(never)]
 #[tactic(auto, using(crate::proofs::FieldOffsetLaws::value_rules))]
 fn value_offset(view: &View, section: u32, value: &Value, table: &TextTable) -> Result<u64, Refusal>
     requires there { section < length view.now.sections }

@@ -289,6 +289,7 @@ pub(crate) fn field_of(value: &Value, path: bool) -> OffsetField
 }
 
 /// Tests that the offset that a value is names a text of a table.
+#[inline(always)]
 #[tactic(auto, using(crate::proofs::EntryTextLaws::offset_rules))]
 pub(crate) fn offset_names(
     texts: &SectionTexts,
