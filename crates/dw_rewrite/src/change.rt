@@ -77,6 +77,7 @@ pub(crate) fn set_fields(
 }
 
 /// The new place of what a field, which holds an offset into a section, says. `None` where none is known.
+#[inline(always)]
 pub(crate) fn place_for(
     source: &FieldSource,
     field: OffsetField,

@@ -34,6 +34,7 @@ impl<'a> NewPlaces<'a> {
     }
 
     /// The new place of what is at an old place of a section, a path or not. `None` where none is known.
+    #[inline(always)]
     #[tactic(auto, using(crate::proofs::NewPlaceLaws::get_rules))]
     pub(crate) fn get(&self, section: DebugSection, path: bool, old: u64) -> Option<u64>
         ensures value { result ≡ places_known self.now section path old }

@@ -75,6 +75,7 @@ impl<'v, 'f, 't> FieldSource<'v, 'f, 't> {
     }
 
     /// The offset that a field holds.
+    #[inline(always)]
     #[tactic(auto, using(crate::proofs::PlainLaws::offset_rules))]
     pub(crate) fn offset(&self, field: OffsetField) -> u64
         requires sized { (field.size ≡ 4) ⊎ (field.size ≡ 8) }
@@ -88,6 +89,7 @@ impl<'v, 'f, 't> FieldSource<'v, 'f, 't> {
     }
 
     /// The number with which a field says another offset.
+    #[inline(always)]
     #[tactic(auto, using(crate::proofs::PlainLaws::number_rules))]
     pub(crate) fn number(&self, field: OffsetField, offset: u64) -> u64
         requires sized { (field.size ≡ 4) ⊎ (field.size ≡ 8) }
@@ -114,6 +116,7 @@ impl<'v, 'f, 't> FieldSource<'v, 'f, 't> {
 }
 
 /// The offset that a field of the section of a number holds into a table.
+#[inline(never)]
 #[tactic(auto, using(crate::proofs::SourceLaws::offset_rules))]
 fn offset_there(view: &View, section: u32, number: u32, table: &[u8], field: OffsetField) -> u64
     requires there { section < length view.now.sections }
@@ -130,6 +133,7 @@ fn offset_there(view: &View, section: u32, number: u32, table: &[u8], field: Off
 }
 
 /// The number with which a field of the section of a number says another offset.
+#[inline(never)]
 #[tactic(auto, using(crate::proofs::SourceLaws::number_rules))]
 fn number_there(view: &View, section: u32, field: OffsetField, offset: u64) -> u64
     requires there { section < length view.now.sections }
