@@ -9,16 +9,16 @@ use Rattle.dw_base.proofs.NumberLaws.{length-number_bytes}
 use Rattle.dw_base.proofs.OffsetPutLaws.{bytes_of-with_bytes}
 use Rattle.dw_base.proofs.RelocationFieldLaws.{first-take, length-cells_at}
 use Rattle.dw_unit_fields.specs.PlainSections.{IsPlain}
+use Rattle.dw_unit_fields.proofs.FieldOffsetLaws.{offset-cells, offset-few, offset-some}
 use Rattle.dw_unit_fields.proofs.PlainLaws.{plain-field, plain-inside}
-use Rattle.dw_rewrite.proofs.SourceLaws.{offset-there, sized-few, sized-some}
 
 -- the number in it is its offset
 pub plain-offset : (v : View) (section place n offset : ℕ) (z : Located) (bytes : List ℕ) → (n ≡ 4) ⊎ (n ≡ 8) → place + n ≤ length (view_cells v section)
     → IsPlain v section bytes → offset ≡ spelled v.order bytes place n → offset ≡ offset_of v.order z (cells_at (view_cells v section) place n)
 plain-offset v section place n offset z bytes sized inside plain is =
-    offset-there v section place n offset z sized inside (is ∙ sym (ap (offset_into z) (plain-field v section place n bytes plain)))
+    offset-cells v section place n offset z sized inside (is ∙ sym (ap (offset_into z) (plain-field v section place n bytes plain)))
 
-pub ruleset offset_rules = (sized-some, sized-few, plain-inside, plain-offset)
+pub ruleset offset_rules = (offset-some, offset-few, plain-inside, plain-offset)
 
 -- and it says another by that number
 put-plain : (o : Order) (p : List Cell) (n : ℕ) → first_relocation p ≡ None → bytes_of (with_offset o p n) ≡ number_bytes o (length p) n
@@ -33,7 +33,7 @@ pub plain-number : (v : View) (section place n low offset : ℕ) (bytes : List �
 plain-number v section place n low offset bytes sized inside plain same =
     let own : length (cells_at (view_cells v section) place n) ≡ n = length-cells_at (view_cells v section) place n inside in
     let first : first_relocation (cells_at (view_cells v section) place n) ≡ None =
-    first-take n (drop place (view_cells v section)) (sized-some n sized) ∙ plain.none place in
+    first-take n (drop place (view_cells v section)) (offset-some n sized) ∙ plain.none place in
     same v.order ∙ ap (λ (k : ℕ). number_bytes v.order k offset) (sym own)
     ∙ sym (put-plain v.order (cells_at (view_cells v section) place n) offset first)
 
