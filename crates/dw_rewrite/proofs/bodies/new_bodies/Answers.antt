@@ -8,7 +8,7 @@ use Rattle.dw_rewrite.proofs.bodies.new_bodies.Goals as goal
 
 pub returns-in_err-pool-clause-refused : goal.returns-in_err-pool-clause-refused
 returns-in_err-pool-clause-refused c =
-    let p = err_from_is_err_and c.from_residual-in_err-pool.result c.from_residual-in_err-pool.ensures.1 in
+    let p = err_from_is_err_and c.from_residual.result c.from_residual.ensures.1 in
     rw (p.1, p.2) (tables-fault c.args.maps.now c.args.view.now c.args.paths.now c.args.tables.now c.in_err-pool.field-0.0 c.requires.found c.in_err-pool.ensures.refused)
 
 pub returns-in_err-bytes-clause-refused : goal.returns-in_err-bytes-clause-refused
