@@ -206,7 +206,7 @@ byte-item [] p d lt = absurd (omega (arith, lt))
 byte-item (c ∷ cs) zero d lt = refl
 byte-item (c ∷ cs) (suc p) d lt = byte-item cs p d (omega (arith, lt))
 
-run-length : (cells : List Cell) (from n : ℕ) → from + n ≤ length cells → length (cells_at cells from n) ≡ n
+pub run-length : (cells : List Cell) (from n : ℕ) → from + n ≤ length cells → length (cells_at cells from n) ≡ n
 run-length cells from n inside =
     let size = length-drop from cells in length-take-le n (drop from cells) (omega (arith, size, inside))
 
@@ -257,7 +257,7 @@ same-begins xs ys from at n inside there agree = record { all = by }
         ∙ sym (relocation-item ys (at + p) no_cell (omega (arith, lt, there)))
 
 -- of two views
-view-inside : (v : View) (i from n : ℕ) → from + n ≤ length (section_bytes v i) → from + n ≤ length (view_cells v i)
+pub view-inside : (v : View) (i from n : ℕ) → from + n ≤ length (section_bytes v i) → from + n ≤ length (view_cells v i)
 view-inside v i from n inside = let size = length-view_cells v i in omega (arith, inside, size)
 
 pub runs-same : (v w : View) (x y : CellPlace) (n : ℕ) (bs cs : List ℕ) (r : Bool) → x.at + n ≤ length (section_bytes v x.section) → y.at + n ≤ length (section_bytes w y.section)

@@ -13,5 +13,6 @@ pub mod SegmentLaws
 pub mod AllocLaws
 pub mod LoadedLaws
 pub mod CellLaws
+pub mod ValueLaws
 pub mod VerdictLaws
 pub mod WorkedVerdicts

@@ -6,3 +6,4 @@ pub mod Tables
 pub mod Images
 pub mod Loads
 pub mod CellRuns
+pub mod MeantValues

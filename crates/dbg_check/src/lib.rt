@@ -1,9 +1,10 @@
 //! Whether a stripped file and its debug file carry the mapped meaning of a file: definitions and laws, and tests of some parts: texts,
-//! bytes, what is loaded, and cells. No call tests all parts.
+//! values, bytes, what is loaded, and cells. No call tests all parts.
 //!
 //! This layer promises: of a file and a pair that can be read, either the pair's meaning is the file's with each path mapped and what is
 //! loaded is the same, or there is exactly one first part that differs; when parts agree, item by item; whether a text is a path with the
-//! map applied, whether what is loaded of two files is the same, and whether cells of two sections are.
+//! map applied, and a value what another means with it; whether what is loaded of two files is the same, and whether cells of two
+//! sections are.
 //! It does not promise: anything of how debug data are read, nor which part is the first that differs.
 //! Read first: `specs/Verdicts.antt`, `specs/Parts.antt`.
 //!
@@ -22,10 +23,12 @@ mod paths;
 mod segments;
 #[cfg(test)]
 mod tests;
+mod values;
 mod verdict;
 
 pub use cells::{CellPlace, same_cells, same_stretch};
 pub use holes::{Hole, Holes, same_bytes};
 pub use loaded::same_loaded;
 pub use paths::{is_mapped, is_mapped_inline};
+pub use values::{CellRun, MeantValue, TextHold, value_agrees};
 pub use verdict::{Part, Verdict};
