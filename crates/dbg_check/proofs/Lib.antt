@@ -14,5 +14,6 @@ pub mod AllocLaws
 pub mod LoadedLaws
 pub mod CellLaws
 pub mod ValueLaws
+pub mod TakenLaws
 pub mod VerdictLaws
 pub mod WorkedVerdicts

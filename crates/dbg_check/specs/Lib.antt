@@ -7,3 +7,4 @@ pub mod Images
 pub mod Loads
 pub mod CellRuns
 pub mod MeantValues
+pub mod Taken
