@@ -22,19 +22,22 @@ use Rattle.dw_meaning.proofs.FileBackLaws.{loaded-back}
 use Rattle.dw_meaning.proofs.SlotRowLaws.{shared-excludes}
 use Rattle.dw_meaning.specs.EditRows.{EditFails, IsAccepted, file as file_row, inline as inline_row, shared as shared_row, line_table as line_table_row, addends as addends_row, output as output_row}
 use Rattle.dw_meaning.specs.FileFails.{ReadIsLoaded}
-use Rattle.dw_meaning.specs.FileMeanings.{FileReads, file_data}
+use Rattle.dw_meaning.specs.FileMeanings.{FileReads, MeaningKept, file_data}
+use Rattle.dw_meaning.specs.Loaded.{LoadedKept}
 use Rattle.dw_meaning.specs.RelocationFails.{RelocationsAreLoaded}
+use Rattle.inline_lift.specs.Filled.{MeaningGrown}
 use Rattle.inline_lift.specs.GrowingPaths.{any_grows, grows_by, some_path_grows}
 use Rattle.inline_lift.specs.GrownRows.{GrownFails, IsGrown, OutputFails, addends, lift, line_table, output, shared, written}
 use Rattle.inline_lift.specs.Lifted.{lifted_readings}
 use Rattle.inline_lift.specs.LiftedFiles.{lifted_body, lifted_of}
 use Rattle.inline_lift.proofs.FittingLaws.{units-inline, unloaded-lifted}
 use Rattle.inline_lift.proofs.GrownSlotLaws.{shared-at, shared-new, shared-old}
+use Rattle.inline_lift.proofs.LiftMeaningLaws.{grown-loaded, grown-meaning}
 use Rattle.inline_lift.proofs.LiftRowLaws.{reads-exclude}
 use Rattle.inline_lift.proofs.LiftedBodyLaws.{file_lift}
 use Rattle.inline_lift.proofs.LiftedDataLaws.{around-lifted, standing_for}
 use Rattle.inline_lift.proofs.LiftedFileLaws.{FileLifts, data-back, data-lifts, file-lifted-reads}
-use Rattle.inline_lift.proofs.LiftedOutputLaws.{Liftable, liftable, lifted-reads_back}
+use Rattle.inline_lift.proofs.LiftedOutputLaws.{Liftable, liftable, lifted-loaded, lifted-meaning, lifted-reads_back}
 use Rattle.inline_lift.proofs.MetGrowingLaws.{inline-growing}
 
 -- where all paths fit none grows
@@ -170,3 +173,12 @@ grown-excludes m b q bytes small w (written readings new reads reads_new f) =
     by_readings rs same reads_here g =
         edit-excludes m (lifted_of m b w.readings) q w.accepted
         (subst (λ (ps : DataReadings). EditFails m (lifted_of m b ps) q) same (output-row m (lifted_of m b rs) new q reads_here g))
+
+-- the lifted file of a file that is taken, edited, means the filled meaning with the map applied, and what is loaded of it stays
+pub grown-edited : (m : PathMap) (b end : List ℕ) → ((k : ℕ) → slice_index b k < 256) → length b < 2 ^ 32 → (w : IsGrown m b) → MeaningKept m (lifted_of m b w.readings) end → MeaningGrown m b end
+grown-edited m b end bytes small w kept =
+    grown-meaning m b (lifted_of m b w.readings) end (lifted-meaning m b w.readings (liftable m b w.readings w.reads bytes small w.lifts)) kept
+
+pub grown-stays : (m : PathMap) (b end : List ℕ) → ((k : ℕ) → slice_index b k < 256) → length b < 2 ^ 32 → (w : IsGrown m b) → LoadedKept (lifted_of m b w.readings) end → LoadedKept b end
+grown-stays m b end bytes small w kept =
+    grown-loaded b (lifted_of m b w.readings) end (lifted-loaded m b w.readings (liftable m b w.readings w.reads bytes small w.lifts)) kept
