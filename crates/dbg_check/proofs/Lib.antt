@@ -15,5 +15,8 @@ pub mod LoadedLaws
 pub mod CellLaws
 pub mod ValueLaws
 pub mod TakenLaws
+pub mod PlaceLaws
+pub mod ListLaws
+pub mod MacroLaws
 pub mod VerdictLaws
 pub mod WorkedVerdicts

@@ -22,18 +22,18 @@ use Rattle.dbg_check.specs.MeantValues.{CellsStand, cells_meant, text_agrees}
 use Rattle.dbg_check.specs.declared.values.CellRun.{CellRun}
 
 -- what is told by a test, and follows from something that follows from it
-told-by : (b : Bool) (A B : Type 0) → (IsTrue b ↔ A) → (A → B) → (B → A) → IsTrue b ↔ B
+pub told-by : (b : Bool) (A B : Type 0) → (IsTrue b ↔ A) → (A → B) → (B → A) → IsTrue b ↔ B
 told-by b A B is to from = ((λ (e : b ≡ true). to (is.0 e)), (λ (x : B). is.1 (from x)))
 
 -- what can't be is told by no
-told-no : (B : Type 0) → (B → ⊥) → IsTrue false ↔ B
+pub told-no : (B : Type 0) → (B → ⊥) → IsTrue false ↔ B
 told-no B none = ((λ (e : false ≡ true). let no : false ≡ true = e in cc), (λ (x : B). absurd (none x)))
 
 -- what a failed test tells isn't so
-not-told : (b : Bool) (A : Type 0) → (IsTrue b ↔ A) → b ≡ false → A → ⊥
+pub not-told : (b : Bool) (A : Type 0) → (IsTrue b ↔ A) → b ≡ false → A → ⊥
 not-told b A is not_ x = let no : false ≡ true = sym not_ ∙ is.1 x in cc
 
-truth : (b : Bool) → (b ≡ false → ⊥) → b ≡ true
+pub truth : (b : Bool) → (b ≡ false → ⊥) → b ≡ true
 truth true none = refl
 truth false none = absurd (none refl)
 

@@ -7,4 +7,5 @@ pub mod Images
 pub mod Loads
 pub mod CellRuns
 pub mod MeantValues
+pub mod MacroSides
 pub mod Taken

@@ -43,6 +43,12 @@ AgreeAll R [] (y ∷ ys) = ⊥
 AgreeAll R (x ∷ xs) [] = ⊥
 AgreeAll R (x ∷ xs) (y ∷ ys) = R x y × AgreeAll R xs ys
 
+-- the item of a number is the first of two equally long lists that doesn't agree
+pub record IsFirstApart {A : Type 0} (R : A → A → Type 0) (xs ys : List A) (n : ℕ) : Type 0 where
+  pub within : n < length xs
+  pub before : (k : ℕ) → k < n → AgreeAt R xs ys k
+  pub differs : AgreeAt R xs ys n → ⊥
+
 -- a part of what is compared agrees with that of another
 abbrev pub PartAgrees : PathMap → Compared → Compared → Part → Type 0
 PartAgrees m old new part.Units = length old.meaning.units ≡ length new.meaning.units

@@ -1,9 +1,9 @@
 //! Whether a stripped file and its debug file carry the mapped meaning of a file: definitions and laws, and tests of some parts: texts,
-//! values, bytes, what is loaded, and cells. No call tests all parts.
+//! values, macro units, bytes, what is loaded, and cells. No call tests all parts.
 //!
 //! This layer promises: of a file and a pair that can be read, either the pair's meaning is the file's with each path mapped and what is
 //! loaded is the same, or there is exactly one first part that differs; when parts agree, item by item; whether a text is a path with the
-//! map applied, and a value what another means with it; whether what is loaded of two files is the same, and whether cells of two
+//! map applied, and a value what another means with it; whether macro units mean the same; whether what is loaded of two files is the same, and whether cells of two
 //! sections are; and when a file, and two files that are a pair, have a view to be compared by.
 //! It does not promise: anything of how debug data are read, nor which part is the first that differs.
 //! Read first: `specs/Verdicts.antt`, `specs/Parts.antt`.
@@ -19,17 +19,20 @@ mod cells;
 mod holes;
 mod left_out;
 mod loaded;
+mod macros;
 mod paths;
 mod reading;
 mod segments;
 #[cfg(test)]
 mod tests;
+mod texts;
 mod values;
 mod verdict;
 
 pub use cells::{CellPlace, same_cells, same_stretch};
 pub use holes::{Hole, Holes, same_bytes};
 pub use loaded::same_loaded;
+pub use macros::{MacroSide, first_other_macro_unit, same_macro_unit};
 pub use paths::{is_mapped, is_mapped_inline};
 pub use reading::{CheckErr, FileData, PairData, data_of, pair_of};
 pub use values::{CellRun, MeantValue, TextHold, value_agrees};

@@ -95,7 +95,7 @@ fn is_text(maps: &Maps, path: bool, hold: TextHold, old: &[u8], new: &[u8]) -> b
 }
 
 /// Whether two numbers are the same.
-fn same_number(one: u64, other: u64) -> bool
+pub(crate) fn same_number(one: u64, other: u64) -> bool
     ensures value { IsTrue result ↔ (one ≡ other) }
 {
     one == other
