@@ -18,5 +18,6 @@ pub mod TakenLaws
 pub mod PlaceLaws
 pub mod ListLaws
 pub mod MacroLaws
+pub mod LineListLaws
 pub mod VerdictLaws
 pub mod WorkedVerdicts

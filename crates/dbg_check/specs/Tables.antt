@@ -1,9 +1,13 @@
 -- When two line tables agree part by part, so that no row need be found (DWARF 5, 6.2).
-use Rattle.std.specs.Prelude.{◌≡◌, ℕ, List, []}
+use Rattle.std.specs.Prelude.{◌≡◌, ℕ, List, [], map}
+use Rattle.dw_base.specs.FileViews.{View}
 use Rattle.dw_base.specs.LineMeanings.{FileText, dir_columns, dir_texts, file_columns, file_texts, line_meaning}
 use Rattle.dw_base.specs.LineReadings.{LineReading}
 use Rattle.dw_base.specs.LineSources.{LineSource}
 use Rattle.dw_base.specs.Paths.{PathMap, mapped_path}
+use Rattle.dw_base.specs.declared.line_tables.FilePlace.{FilePlace}
+use Rattle.dw_base.specs.declared.line_tables.TextPlace.{TextPlace}
+use Rattle.dw_macros.specs.EventMeanings.{text_bytes}
 use Rattle.dbg_check.specs.Parts.{AgreeAll}
 
 -- a path, with the map applied, is the other
@@ -31,3 +35,13 @@ pub record TablesAgree (m : PathMap) (g k : LineSource) (r q : LineReading) : Ty
   pub dir_columns : dir_columns g r ≡ dir_columns k q
   pub files : AgreeAll (FileAgrees m) (file_texts g r.files) (file_texts k q.files)
   pub file_columns : file_columns g r ≡ file_columns k q
+
+-- the texts of directories at their places in a view, and the file that stands at one
+abbrev pub dirs_said : View → List TextPlace → List (List ℕ)
+dirs_said v ts = map (text_bytes v) ts
+
+abbrev pub file_said : View → FilePlace → FileText
+file_said v f = record { path = text_bytes v f.text; dir = f.dir }
+
+abbrev pub files_said : View → List FilePlace → List FileText
+files_said v fs = map (file_said v) fs
