@@ -1,5 +1,5 @@
 -- Paths of directories and files agree exactly where the texts at their places do.
-use Rattle.std.proofs.Common.{Bool, true, false, ◌≡◌, List, ℕ, refl, ap, sym, ◌∙◌}
+use Rattle.std.proofs.Common.{Bool, true, false, ◌≡◌, List, ℕ, ap, sym, ◌∙◌}
 use Rattle.std.specs.Prelude.{◌↔◌, IsTrue}
 use Rattle.dw_base.proofs.TextLaws.{same_text-from, same_text-true}
 use Rattle.dw_base.specs.LineMeanings.{FileText}

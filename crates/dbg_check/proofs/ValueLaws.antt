@@ -1,5 +1,5 @@
 -- Values agree exactly where they are of one kind, and what they say is the same, with the map applied to a path.
-use Rattle.std.proofs.Common.{Bool, true, false, ◌≡◌, ◌&&◌, ◌==◌, ℕ, ℤ, ◌+◌, ◌≤◌, List, [], length, refl, ap, sym, subst, ◌∙◌, arith}
+use Rattle.std.proofs.Common.{Bool, true, false, ◌≡◌, ◌==◌, ℕ, ℤ, ◌+◌, ◌≤◌, List, [], length, refl, ap, sym, subst, ◌∙◌, arith}
 use Rattle.std.proofs.lemmas.Bool.{and_parts, eqb-false}
 use Rattle.std.specs.Cmp.Derive.{both_true}
 use Rattle.std.specs.Prelude.{◌↔◌, IsTrue}
